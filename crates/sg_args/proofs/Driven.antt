@@ -17,20 +17,20 @@ abbrev AreSessions : Option ℕ → Type 0
 AreSessions None = ⊤
 AreSessions (Some n) = (1 ≤ n) × (n ≤ most_driven)
 
-number_at_most : (most : ℕ) (word : List ℕ) → AtMost most (number most word)
+number_at_most : (most : ℕ) (arg : List ℕ) → AtMost most (number most arg)
 unfolding number
-number_at_most most word = spelled (nat_lt 0 (length word) && not (has_needless_zero word) && list_all is_digit word)
+number_at_most most arg = spelled (nat_lt 0 (length arg) && not (has_needless_zero arg) && list_all is_digit arg)
   where
-    within : (b : Bool) → nat_le (value word) most ≡ b → AtMost most (if b then Some (value word) else None)
-    within true e = leb-true (value word) most e
+    within : (b : Bool) → nat_le (value arg) most ≡ b → AtMost most (if b then Some (value arg) else None)
+    within true e = leb-true (value arg) most e
     within false e = tt
 
-    spelled : (b : Bool) → AtMost most (if b then up_to most (value word) else None)
-    spelled true = within (nat_le (value word) most) refl
+    spelled : (b : Bool) → AtMost most (if b then up_to most (value arg) else None)
+    spelled true = within (nat_le (value arg) most) refl
     spelled false = tt
 
-sessions : (word : List ℕ) → AreSessions (sessions_of word)
-sessions word = found (number most_driven word) (number_at_most most_driven word)
+sessions : (arg : List ℕ) → AreSessions (sessions_of arg)
+sessions arg = found (number most_driven arg) (number_at_most most_driven arg)
   where
     positive : (n : ℕ) → n ≤ most_driven → (b : Bool) → nat_lt 0 n ≡ b → AreSessions (if b then Some n else None)
     positive n h true e = let l : 0 < n = ltb-true 0 n e in (omega arith, h)
@@ -52,14 +52,14 @@ driven file None n h = tt
 driven file (Some s) None h = tt
 driven file (Some s) (Some k) h = h
 
-drives : (words : List (List ℕ)) → CanBeDriven (driving words)
+drives : (args : List (List ℕ)) → CanBeDriven (driving args)
 drives [] = tt
 drives (seed ∷ []) = tt
 drives (seed ∷ count ∷ []) = tt
 drives (seed ∷ count ∷ file ∷ []) = driven file (number most_seed seed) (sessions_of count) (sessions count)
 drives (seed ∷ count ∷ file ∷ other ∷ more) = tt
 
-runs : (words : List (List ℕ)) → CanBeDriven (running words)
+runs : (args : List (List ℕ)) → CanBeDriven (running args)
 runs [] = tt
 runs (keys ∷ []) = tt
 runs (keys ∷ script ∷ []) = tt
@@ -70,7 +70,7 @@ runs (keys ∷ script ∷ n ∷ program ∷ more) = found (number most_deliverie
     found None = tt
     found (Some d) = tt
 
-keeps : (words : List (List ℕ)) → CanBeDriven (keeping words)
+keeps : (args : List (List ℕ)) → CanBeDriven (keeping args)
 keeps [] = tt
 keeps (file ∷ []) = tt
 keeps (file ∷ keys ∷ []) = tt
@@ -82,7 +82,7 @@ keeps (file ∷ keys ∷ script ∷ n ∷ program ∷ more) = found (number most
     found None = tt
     found (Some d) = tt
 
-streams : (words : List (List ℕ)) → CanBeDriven (streaming words)
+streams : (args : List (List ℕ)) → CanBeDriven (streaming args)
 streams [] = tt
 streams (keys ∷ []) = tt
 streams (keys ∷ script ∷ []) = tt
@@ -107,45 +107,45 @@ two name first second =
     either (bytes_eq name (codes "compile")) (Some (Compile first second)) _ tt
     (either (bytes_eq name (codes "claims")) (Some (Claims first second)) None tt tt)
 
-others : (name : List ℕ) (words : List (List ℕ)) → CanBeDriven (few name words)
+others : (name : List ℕ) (args : List (List ℕ)) → CanBeDriven (few name args)
 others name [] = tt
 others name (file ∷ []) = file_alone name file
 others name (first ∷ second ∷ []) = two name first second
 others name (first ∷ second ∷ other ∷ more) = tt
 
-serves_over : (over_tcp : Bool) (ledger : Option (List ℕ)) (words : List (List ℕ)) → CanBeDriven (serving_over over_tcp ledger words)
+serves_over : (over_tcp : Bool) (ledger : Option (List ℕ)) (args : List (List ℕ)) → CanBeDriven (serving_over over_tcp ledger args)
 serves_over over_tcp ledger [] = tt
 serves_over over_tcp ledger (keys ∷ []) = tt
 serves_over over_tcp ledger (keys ∷ program ∷ more) = either (list_any is_option (keys ∷ program ∷ more)) None _ tt tt
 
-serves_tcp : (file : List ℕ) (words : List (List ℕ)) → CanBeDriven (tcp_or file words)
+serves_tcp : (file : List ℕ) (args : List (List ℕ)) → CanBeDriven (tcp_or file args)
 serves_tcp file [] = tt
-serves_tcp file (word ∷ words) = either (bytes_eq word (codes "--tcp")) (serving_over true (Some file) words) _ (serves_over true (Some file) words) (serves_over false (Some file) (word ∷ words))
+serves_tcp file (arg ∷ args) = either (bytes_eq arg (codes "--tcp")) (serving_over true (Some file) args) _ (serves_over true (Some file) args) (serves_over false (Some file) (arg ∷ args))
 
-serves_on : (over_tcp : Bool) (words : List (List ℕ)) → CanBeDriven (on_ledger over_tcp words)
+serves_on : (over_tcp : Bool) (args : List (List ℕ)) → CanBeDriven (on_ledger over_tcp args)
 serves_on over_tcp [] = tt
-serves_on over_tcp (file ∷ words) =
+serves_on over_tcp (file ∷ args) =
     either (is_option file) None _ tt
-    (either over_tcp (serving_over true (Some file) words) (tcp_or file words) (serves_over true (Some file) words) (serves_tcp file words))
+    (either over_tcp (serving_over true (Some file) args) (tcp_or file args) (serves_over true (Some file) args) (serves_tcp file args))
 
-serves_or : (over_tcp : Bool) (words : List (List ℕ)) → CanBeDriven (ledger_or over_tcp words)
+serves_or : (over_tcp : Bool) (args : List (List ℕ)) → CanBeDriven (ledger_or over_tcp args)
 serves_or over_tcp [] = tt
-serves_or over_tcp (word ∷ words) = either (bytes_eq word (codes "--ledger")) (on_ledger over_tcp words) _ (serves_on over_tcp words) (serves_over over_tcp None (word ∷ words))
+serves_or over_tcp (arg ∷ args) = either (bytes_eq arg (codes "--ledger")) (on_ledger over_tcp args) _ (serves_on over_tcp args) (serves_over over_tcp None (arg ∷ args))
 
-serves : (words : List (List ℕ)) → CanBeDriven (serving words)
+serves : (args : List (List ℕ)) → CanBeDriven (serving args)
 serves [] = tt
-serves (word ∷ words) = either (bytes_eq word (codes "--tcp")) (ledger_or true words) _ (serves_or true words) (serves_or false (word ∷ words))
+serves (arg ∷ args) = either (bytes_eq arg (codes "--tcp")) (ledger_or true args) _ (serves_or true args) (serves_or false (arg ∷ args))
 
-plainly : (words : List (List ℕ)) → CanBeDriven (plain words)
+plainly : (args : List (List ℕ)) → CanBeDriven (plain args)
 plainly [] = tt
-plainly (name ∷ words) =
-    either (list_any is_option (name ∷ words)) None (named name words) tt
-    (either (bytes_eq name (codes "run")) (running words) _ (runs words)
-    (either (bytes_eq name (codes "drive")) (driving words) _ (drives words)
-    (either (bytes_eq name (codes "keep")) (keeping words) _ (keeps words)
-    (either (bytes_eq name (codes "stream")) (streaming words) (few name words) (streams words) (others name words)))))
+plainly (name ∷ args) =
+    either (list_any is_option (name ∷ args)) None (named name args) tt
+    (either (bytes_eq name (codes "run")) (running args) _ (runs args)
+    (either (bytes_eq name (codes "drive")) (driving args) _ (drives args)
+    (either (bytes_eq name (codes "keep")) (keeping args) _ (keeps args)
+    (either (bytes_eq name (codes "stream")) (streaming args) (few name args) (streams args) (others name args)))))
 
 -- whatever the words
-pub can_be_driven : (words : List (List ℕ)) → CanBeDriven (command_of words)
+pub can_be_driven : (args : List (List ℕ)) → CanBeDriven (command_of args)
 can_be_driven [] = tt
-can_be_driven (name ∷ words) = either (bytes_eq name (codes "serve")) (serving words) _ (serves words) (plainly (name ∷ words))
+can_be_driven (name ∷ args) = either (bytes_eq name (codes "serve")) (serving args) _ (serves args) (plainly (name ∷ args))

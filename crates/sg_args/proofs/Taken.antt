@@ -9,11 +9,11 @@ use Rattle.clap.specs.Simple.{Shape, built, entered, names_of, matches_of}
 use Rattle.clap.specs.declared.builder.ArgAction.TheVariants.{Append}
 use Rattle.clap.proofs.OnLiterals.{clap_on_literals}
 
-abbrev pub word : Rule
-word = record (new_rule (codes "WORD")) { action = Some Append }
+abbrev pub arg : Rule
+arg = record (new_rule (codes "WORD")) { action = Some Append }
 
 abbrev pub table : App
-table = with_rule (new_app (codes "sessiongraph")) word
+table = with_rule (new_app (codes "sessiongraph")) arg
 
 abbrev shape : Shape
 shape = (built table).top
@@ -34,14 +34,14 @@ at rows v = record {
 passes : (rows : List Row) (v : Text) (ws : List Text) → walk_passes shape names (at rows v) ws ≡ true
 unfolding clap_on_literals
 passes rows v [] = refl
-passes rows v (w ∷ ws) = passes (used word (v ∷ []) rows) w ws
+passes rows v (w ∷ ws) = passes (used arg (v ∷ []) rows) w ws
 
 -- where the walk ends: no subcommand was met
 ends : (rows : List Row) (v : Text) (ws : List Text)
     → (rest : List Row) × (last : Text) × (fold (walked shape.rules names) (at rows v) ws ≡ at rest last)
 unfolding clap_on_literals
 ends rows v [] = (rows, v, refl)
-ends rows v (w ∷ ws) = ends (used word (v ∷ []) rows) w ws
+ends rows v (w ∷ ws) = ends (used arg (v ∷ []) rows) w ws
 
 -- what `takes` tests after the walk
 abbrev verdict : Bool → Walk → Bool
@@ -66,7 +66,7 @@ row vs = record {
   values = vs;
   count = None;
   source = Some CommandLine;
-  reading = reading_by word;
+  reading = reading_by arg;
 } ∷ []
 
 gathers : (vs : List Text) (v : Text) (ws : List Text)

@@ -22,7 +22,7 @@ pub data Command : Type 0 where
 
 -- the word begins with -
 abbrev pub is_option : List ℕ → Bool
-is_option word = slice_index word 0 == 45
+is_option arg = slice_index arg 0 == 45
 
 -- check FILE, replay FILE, ledger FILE, audit FILE, compose FILE, or claims FILE
 abbrev pub on_file : (name file : List ℕ) → Option Command
@@ -59,7 +59,7 @@ running (keys ∷ script ∷ n ∷ program ∷ more) = option_map (λ d. Run key
 
 -- how many sessions a word asks for, from 1 to 2,000
 abbrev pub sessions_of : List ℕ → Option ℕ
-sessions_of word = option_and_then from_one (number most_driven word)
+sessions_of arg = option_and_then from_one (number most_driven arg)
 
 -- SEED SESSIONS FILE
 abbrev pub driving : List (List ℕ) → Option Command
@@ -97,46 +97,46 @@ serving_over over_tcp ledger (keys ∷ program ∷ more) = if list_any is_option
 -- these on this ledger, or --tcp and these
 abbrev pub tcp_or : (file : List ℕ) → List (List ℕ) → Option Command
 tcp_or file [] = None
-tcp_or file (word ∷ words) = if bytes_eq word (codes "--tcp") then serving_over true (Some file) words else serving_over false (Some file) (word ∷ words)
+tcp_or file (arg ∷ args) = if bytes_eq arg (codes "--tcp") then serving_over true (Some file) args else serving_over false (Some file) (arg ∷ args)
 
 -- FILE and these, where --tcp may stand before these if it did not stand before --ledger
 abbrev pub on_ledger : (over_tcp : Bool) → List (List ℕ) → Option Command
 on_ledger over_tcp [] = None
-on_ledger over_tcp (file ∷ words) =
+on_ledger over_tcp (file ∷ args) =
     if is_option file then None
-    else if over_tcp then serving_over true (Some file) words
-    else tcp_or file words
+    else if over_tcp then serving_over true (Some file) args
+    else tcp_or file args
 
 -- these, or --ledger FILE and these
 abbrev pub ledger_or : (over_tcp : Bool) → List (List ℕ) → Option Command
 ledger_or over_tcp [] = None
-ledger_or over_tcp (word ∷ words) = if bytes_eq word (codes "--ledger") then on_ledger over_tcp words else serving_over over_tcp None (word ∷ words)
+ledger_or over_tcp (arg ∷ args) = if bytes_eq arg (codes "--ledger") then on_ledger over_tcp args else serving_over over_tcp None (arg ∷ args)
 
 -- these behind --tcp and --ledger FILE, each of which may be missing, in either order
 abbrev pub serving : List (List ℕ) → Option Command
 serving [] = None
-serving (word ∷ words) = if bytes_eq word (codes "--tcp") then ledger_or true words else ledger_or false (word ∷ words)
+serving (arg ∷ args) = if bytes_eq arg (codes "--tcp") then ledger_or true args else ledger_or false (arg ∷ args)
 
 -- ---- a command line
 
 -- the command of this name, with these words after it
 abbrev pub named : (name : List ℕ) → List (List ℕ) → Option Command
-named name words =
-    if bytes_eq name (codes "run") then running words
-    else if bytes_eq name (codes "drive") then driving words
-    else if bytes_eq name (codes "keep") then keeping words
-    else if bytes_eq name (codes "stream") then streaming words
-    else few name words
+named name args =
+    if bytes_eq name (codes "run") then running args
+    else if bytes_eq name (codes "drive") then driving args
+    else if bytes_eq name (codes "keep") then keeping args
+    else if bytes_eq name (codes "stream") then streaming args
+    else few name args
 
 -- the command of words of which none begins with -
 abbrev pub plain : List (List ℕ) → Option Command
 plain [] = None
-plain (name ∷ words) = if list_any is_option (name ∷ words) then None else named name words
+plain (name ∷ args) = if list_any is_option (name ∷ args) then None else named name args
 
 -- the command, where the words are in the table. No word but the options of serve begins with -
 abbrev pub command_of : List (List ℕ) → Option Command
 command_of [] = None
-command_of (name ∷ words) = if bytes_eq name (codes "serve") then serving words else plain (name ∷ words)
+command_of (name ∷ args) = if bytes_eq name (codes "serve") then serving args else plain (name ∷ args)
 
 -- where sessions are driven, there are 1 to 2,000 of them
 abbrev pub CanBeDriven : Option Command → Type 0

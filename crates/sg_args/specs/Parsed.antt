@@ -8,5 +8,5 @@ abbrev pub IsBehindDashes : List (List ℕ) → Type 0
 IsBehindDashes all = all ≡ codes "sessiongraph" ∷ codes "--" ∷ drop 2 all
 
 -- the words that clap found
-abbrev pub words_found : ArgMatches → List (List ℕ)
-words_found m = unwrap_or (all_of (codes "WORD") (rows_of (found_of m))) []
+abbrev pub args_found : ArgMatches → List (List ℕ)
+args_found m = unwrap_or (all_of (codes "WORD") (rows_of (found_of m))) []

@@ -113,62 +113,62 @@ pub enum Command<'w> {
 }
 
 /// The command, or `None` where the words are not in the table of commands. It takes no memory.
-pub fn read_command<'w>(words: &'w [&'w str]) -> Option<Command<'w>>
-    ensures { option_map command_held result ≡ command_of (map (λ s. s.now) words.now) }
+pub fn read_command<'w>(args: &'w [&'w str]) -> Option<Command<'w>>
+    ensures { option_map command_held result ≡ command_of (map (λ s. s.now) args.now) }
 {
-    match words {
+    match args {
         [name, rest @ ..] => match *name {
             "serve" => serving(rest),
-            _ => plain(words),
+            _ => plain(args),
         },
         _ => None,
     }
 }
 
 // The command of words of which none begins with `-`.
-fn plain<'w>(words: &'w [&'w str]) -> Option<Command<'w>>
-    ensures { option_map command_held result ≡ plain (map (λ s. s.now) words.now) }
+fn plain<'w>(args: &'w [&'w str]) -> Option<Command<'w>>
+    ensures { option_map command_held result ≡ plain (map (λ s. s.now) args.now) }
 {
-    if has_option(words) {
+    if has_option(args) {
         return None;
     }
-    match words {
+    match args {
         [name, rest @ ..] => named(name, rest),
         _ => None,
     }
 }
 
 // The command that runs one principal for an application.
-fn serving<'w>(words: &'w [&'w str]) -> Option<Command<'w>>
-    ensures { option_map command_held result ≡ serving (map (λ s. s.now) words.now) }
+fn serving<'w>(args: &'w [&'w str]) -> Option<Command<'w>>
+    ensures { option_map command_held result ≡ serving (map (λ s. s.now) args.now) }
 {
-    match words {
-        [word, rest @ ..] => match *word {
+    match args {
+        [arg, rest @ ..] => match *arg {
             "--tcp" => ledger_or(true, rest),
-            _ => ledger_or(false, words),
+            _ => ledger_or(false, args),
         },
         _ => None,
     }
 }
 
 // So over connections or not, where `--ledger` and its file may come first.
-fn ledger_or<'w>(over_tcp: bool, words: &'w [&'w str]) -> Option<Command<'w>>
-    ensures { option_map command_held result ≡ ledger_or over_tcp (map (λ s. s.now) words.now) }
+fn ledger_or<'w>(over_tcp: bool, args: &'w [&'w str]) -> Option<Command<'w>>
+    ensures { option_map command_held result ≡ ledger_or over_tcp (map (λ s. s.now) args.now) }
 {
-    match words {
-        [word, rest @ ..] => match *word {
+    match args {
+        [arg, rest @ ..] => match *arg {
             "--ledger" => on_ledger(over_tcp, rest),
-            _ => serving_over(over_tcp, None, words),
+            _ => serving_over(over_tcp, None, args),
         },
         _ => None,
     }
 }
 
 // So on the ledger of the first word, behind which `--tcp` may stand.
-fn on_ledger<'w>(over_tcp: bool, words: &'w [&'w str]) -> Option<Command<'w>>
-    ensures { option_map command_held result ≡ on_ledger over_tcp (map (λ s. s.now) words.now) }
+fn on_ledger<'w>(over_tcp: bool, args: &'w [&'w str]) -> Option<Command<'w>>
+    ensures { option_map command_held result ≡ on_ledger over_tcp (map (λ s. s.now) args.now) }
 {
-    match words {
+    match args {
         [file, rest @ ..] => {
             if begins_with_dash(file) {
                 return None;
@@ -184,13 +184,13 @@ fn on_ledger<'w>(over_tcp: bool, words: &'w [&'w str]) -> Option<Command<'w>>
 }
 
 // So on this ledger, where `--tcp` may come first.
-fn tcp_or<'w>(file: &'w str, words: &'w [&'w str]) -> Option<Command<'w>>
-    ensures { option_map command_held result ≡ tcp_or file.now (map (λ s. s.now) words.now) }
+fn tcp_or<'w>(file: &'w str, args: &'w [&'w str]) -> Option<Command<'w>>
+    ensures { option_map command_held result ≡ tcp_or file.now (map (λ s. s.now) args.now) }
 {
-    match words {
-        [word, rest @ ..] => match *word {
+    match args {
+        [arg, rest @ ..] => match *arg {
             "--tcp" => serving_over(true, Some(file), rest),
-            _ => serving_over(false, Some(file), words),
+            _ => serving_over(false, Some(file), args),
         },
         _ => None,
     }
@@ -200,14 +200,14 @@ fn tcp_or<'w>(file: &'w str, words: &'w [&'w str]) -> Option<Command<'w>>
 fn serving_over<'w>(
     over_tcp: bool,
     ledger: Option<&'w str>,
-    words: &'w [&'w str],
+    args: &'w [&'w str],
 ) -> Option<Command<'w>>
-    ensures { option_map command_held result ≡ serving_over over_tcp (option_map (λ s. s.now) ledger.entry) (map (λ s. s.now) words.now) }
+    ensures { option_map command_held result ≡ serving_over over_tcp (option_map (λ s. s.now) ledger.entry) (map (λ s. s.now) args.now) }
 {
-    if has_option(words) {
+    if has_option(args) {
         return None;
     }
-    match words {
+    match args {
         [keys, programs @ ..] if programs.len() > 0 => Some(Command::Serve {
             over_tcp,
             ledger,
@@ -219,23 +219,23 @@ fn serving_over<'w>(
 }
 
 // The command of this name, with these words after it.
-fn named<'w>(name: &str, words: &'w [&'w str]) -> Option<Command<'w>>
-    ensures { option_map command_held result ≡ named name.now (map (λ s. s.now) words.now) }
+fn named<'w>(name: &str, args: &'w [&'w str]) -> Option<Command<'w>>
+    ensures { option_map command_held result ≡ named name.now (map (λ s. s.now) args.now) }
 {
     match name {
-        "run" => running(words),
-        "drive" => driving(words),
-        "keep" => keeping(words),
-        "stream" => streaming(words),
-        name => few(name, words),
+        "run" => running(args),
+        "drive" => driving(args),
+        "keep" => keeping(args),
+        "stream" => streaming(args),
+        name => few(name, args),
     }
 }
 
 // The command that runs one principal.
-fn running<'w>(words: &'w [&'w str]) -> Option<Command<'w>>
-    ensures { option_map command_held result ≡ running (map (λ s. s.now) words.now) }
+fn running<'w>(args: &'w [&'w str]) -> Option<Command<'w>>
+    ensures { option_map command_held result ≡ running (map (λ s. s.now) args.now) }
 {
-    match words {
+    match args {
         [keys, script, deliveries, programs @ ..] if programs.len() > 0 => {
             let deliveries = deliveries_of(deliveries)?;
             Some(Command::Run {
@@ -250,10 +250,10 @@ fn running<'w>(words: &'w [&'w str]) -> Option<Command<'w>>
 }
 
 // The command that generates a run.
-fn driving<'w>(words: &'w [&'w str]) -> Option<Command<'w>>
-    ensures { option_map command_held result ≡ driving (map (λ s. s.now) words.now) }
+fn driving<'w>(args: &'w [&'w str]) -> Option<Command<'w>>
+    ensures { option_map command_held result ≡ driving (map (λ s. s.now) args.now) }
 {
-    match words {
+    match args {
         [seed, sessions, file] => {
             let seed = read_number(seed.as_bytes(), 4_294_967_295)? as u32;
             let sessions = sessions_of(sessions)?;
@@ -268,10 +268,10 @@ fn driving<'w>(words: &'w [&'w str]) -> Option<Command<'w>>
 }
 
 // The command that runs one principal and keeps its joins.
-fn keeping<'w>(words: &'w [&'w str]) -> Option<Command<'w>>
-    ensures { option_map command_held result ≡ keeping (map (λ s. s.now) words.now) }
+fn keeping<'w>(args: &'w [&'w str]) -> Option<Command<'w>>
+    ensures { option_map command_held result ≡ keeping (map (λ s. s.now) args.now) }
 {
-    match words {
+    match args {
         [file, keys, script, deliveries, programs @ ..] if programs.len() > 0 => {
             let deliveries = deliveries_of(deliveries)?;
             Some(Command::Keep {
@@ -287,10 +287,10 @@ fn keeping<'w>(words: &'w [&'w str]) -> Option<Command<'w>>
 }
 
 // The command that runs one principal over connections.
-fn streaming<'w>(words: &'w [&'w str]) -> Option<Command<'w>>
-    ensures { option_map command_held result ≡ streaming (map (λ s. s.now) words.now) }
+fn streaming<'w>(args: &'w [&'w str]) -> Option<Command<'w>>
+    ensures { option_map command_held result ≡ streaming (map (λ s. s.now) args.now) }
 {
-    match words {
+    match args {
         [keys, script, most, programs @ ..] if programs.len() > 0 => {
             let deliveries = deliveries_of(most)?;
             Some(Command::Stream {
@@ -305,25 +305,25 @@ fn streaming<'w>(words: &'w [&'w str]) -> Option<Command<'w>>
 }
 
 // How many sessions a word asks for, from 1 to 2,000.
-fn sessions_of(word: &str) -> Option<u32>
-    ensures { result ≡ sessions_of word.now }
+fn sessions_of(arg: &str) -> Option<u32>
+    ensures { result ≡ sessions_of arg.now }
 {
-    let sessions = read_number(word.as_bytes(), 2_000)? as u32;
+    let sessions = read_number(arg.as_bytes(), 2_000)? as u32;
     if sessions > 0 { Some(sessions) } else { None }
 }
 
 // How many deliveries are taken at most.
-fn deliveries_of(word: &str) -> Option<u32>
-    ensures { result ≡ number most_deliveries word.now }
+fn deliveries_of(arg: &str) -> Option<u32>
+    ensures { result ≡ number most_deliveries arg.now }
 {
-    Some(read_number(word.as_bytes(), 1_000_000)? as u32)
+    Some(read_number(arg.as_bytes(), 1_000_000)? as u32)
 }
 
 // The command of this name that takes one word or two.
-fn few<'w>(name: &str, words: &'w [&'w str]) -> Option<Command<'w>>
-    ensures { option_map command_held result ≡ few name.now (map (λ s. s.now) words.now) }
+fn few<'w>(name: &str, args: &'w [&'w str]) -> Option<Command<'w>>
+    ensures { option_map command_held result ≡ few name.now (map (λ s. s.now) args.now) }
 {
-    match words {
+    match args {
         [file] => on_file(name, file),
         [first, second] => on_two(name, first, second),
         _ => None,
@@ -363,19 +363,19 @@ fn on_two<'w>(name: &str, first: &'w str, second: &'w str) -> Option<Command<'w>
 }
 
 // A word begins with `-`.
-fn has_option(words: &[&str]) -> bool
-    ensures { result ≡ list_any is_option (map (λ s. s.now) words.now) }
+fn has_option(args: &[&str]) -> bool
+    ensures { result ≡ list_any is_option (map (λ s. s.now) args.now) }
 {
-    for word in words {
-        if begins_with_dash(word) {
+    for arg in args {
+        if begins_with_dash(arg) {
             return true;
         }
     }
     false
 }
 
-fn begins_with_dash(word: &str) -> bool
-    ensures { result ≡ is_option word.now }
+fn begins_with_dash(arg: &str) -> bool
+    ensures { result ≡ is_option arg.now }
 {
-    word.as_bytes().first().copied() == Some(b'-')
+    arg.as_bytes().first().copied() == Some(b'-')
 }

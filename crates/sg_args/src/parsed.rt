@@ -3,7 +3,7 @@ ghost use Rattle.std.specs.Prelude.{◌≡◌, IfErr, IfOk, drop, map, option_ma
 ghost use Rattle.clap.specs.Words.{kind_of};
 ghost use Rattle.sg_args.specs.Command.{command_of};
 ghost use Rattle.sg_args.specs.Model.{command_held};
-ghost use Rattle.sg_args.specs.Parsed.{IsBehindDashes, words_found};
+ghost use Rattle.sg_args.specs.Parsed.{IsBehindDashes, args_found};
 
 use crate::command::{Command, read_command};
 use clap::error::ErrorKind;
@@ -32,14 +32,14 @@ impl<'w> Model for CommandLine<'w> {
 
 impl<'w> CommandLine<'w> {
     /// The command line of these words.
-    pub fn new(alloc: Global, words: &'w [String]) -> Result<CommandLine<'w>, OutOfMemory>
-        ensures { IfOk result (λ l. l ≡ map string_bytes words.now) }
+    pub fn new(alloc: Global, args: &'w [String]) -> Result<CommandLine<'w>, OutOfMemory>
+        ensures { IfOk result (λ l. l ≡ map string_bytes args.now) }
     {
         let mut all = Vec::new(alloc);
         all.push("sessiongraph")?;
         all.push("--")?;
-        for word in words {
-            all.push(word.as_str())?;
+        for arg in args {
+            all.push(arg.as_str())?;
         }
         Ok(CommandLine { all })
     }
@@ -56,9 +56,9 @@ impl<'w> Model for Parsed<'w> {
 
     ghost Value = { List (List ℕ) };
 
-    ghost use Rattle.sg_args.specs.Parsed.{words_found};
+    ghost use Rattle.sg_args.specs.Parsed.{args_found};
 
-    ghost view = { λ g. words_found g.matches };
+    ghost view = { λ g. args_found g.matches };
 }
 
 impl<'g> Parsed<'g> {
@@ -75,19 +75,19 @@ impl<'g> Parsed<'g> {
         ensures { option_map command_held result ≡ command_of self.now }
     {
         match self.matches.get_strs("WORD") {
-            Some(words) => read_command(words),
+            Some(args) => read_command(args),
             None => None,
         }
     }
 }
 
 // What `clap` makes of words after `--`: it refuses none.
-fn matches<'w>(alloc: Global, words: &'w [&'w str]) -> Result<ArgMatches<'w>, Error>
-    requires { IsBehindDashes (map (λ s. s.now) words.now) }
+fn matches<'w>(alloc: Global, args: &'w [&'w str]) -> Result<ArgMatches<'w>, Error>
+    requires { IsBehindDashes (map (λ s. s.now) args.now) }
     ensures err { IfErr result (λ e. kind_of e ≡ ErrorKind.OutOfMemory) }
-    ensures words { IfOk result (λ m. words_found m ≡ drop 2 (map (λ s. s.now) words.now)) }
+    ensures args { IfOk result (λ m. args_found m ≡ drop 2 (map (λ s. s.now) args.now)) }
 {
-    let word = Arg::new(alloc, "WORD").action(ArgAction::Append);
-    let command = clap::Command::new(alloc, "sessiongraph").arg(word)?;
-    command.try_get_matches_from(words)
+    let arg = Arg::new(alloc, "WORD").action(ArgAction::Append);
+    let command = clap::Command::new(alloc, "sessiongraph").arg(arg)?;
+    command.try_get_matches_from(args)
 }

@@ -4,11 +4,11 @@ use Rattle.rand_core.specs.Steps.{fill_via_u32, word_bytes}
 use Rattle.rand_chacha.specs.ChaCha.{ChaCha, next_word, key_of}
 use Rattle.sg_model.specs.Lists.{below}
 use Rattle.sg_model.proofs.Numbers.{below-suc}
-use Rattle.sg_base.specs.Seeded.{stream_word, seeded_words}
+use Rattle.sg_base.specs.Seeded.{stream_draw, seeded_random}
 
 -- four words from a generator that does not wrap
 pub next_four : (g : ChaCha) → g.word_pos + 4 < 2 ^ 68
-    → fill_via_u32 (next_word 10) 16 g ≡ (stream_word g.key g.stream g.word_pos, record g { word_pos = g.word_pos + 4 })
+    → fill_via_u32 (next_word 10) 16 g ≡ (stream_draw g.key g.stream g.word_pos, record g { word_pos = g.word_pos + 4 })
 unfolding word_bytes
 next_four g small =
     let one : (g.word_pos + 1) % 2 ^ 68 ≡ g.word_pos + 1 = omega arith in
@@ -18,7 +18,7 @@ next_four g small =
     rw (one, two, three, four) refl
 
 -- one more word of a seed
-pub seeded_words-suc : (seed : List ℕ) (n : ℕ)
-    → seeded_words seed (n + 1) ≡ seeded_words seed n ++ stream_word (key_of seed) 0 (4 * n) ∷ []
-seeded_words-suc seed n =
-    rw (below-suc n) (map-append (λ i. stream_word (key_of seed) 0 (4 * i)) (below n) (n ∷ []))
+pub seeded_random-suc : (seed : List ℕ) (n : ℕ)
+    → seeded_random seed (n + 1) ≡ seeded_random seed n ++ stream_draw (key_of seed) 0 (4 * n) ∷ []
+seeded_random-suc seed n =
+    rw (below-suc n) (map-append (λ i. stream_draw (key_of seed) 0 (4 * i)) (below n) (n ∷ []))

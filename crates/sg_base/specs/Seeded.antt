@@ -8,11 +8,11 @@ abbrev pub stream_bytes : List ℕ → ℕ → ℕ → List ℕ
 stream_bytes key stream position = to_le_bytes w32 (word_at 10 key stream position)
 
 -- the sixteen bytes of four positions
-abbrev pub stream_word : List ℕ → ℕ → ℕ → List ℕ
-stream_word key stream position =
+abbrev pub stream_draw : List ℕ → ℕ → ℕ → List ℕ
+stream_draw key stream position =
     stream_bytes key stream position ++ stream_bytes key stream (position + 1)
     ++ stream_bytes key stream (position + 2) ++ stream_bytes key stream (position + 3)
 
 -- the first words of a seed, of sixteen bytes each, one after the other in the key stream
-abbrev pub seeded_words : List ℕ → ℕ → List (List ℕ)
-seeded_words seed count = map (λ i. stream_word (key_of seed) 0 (4 * i)) (below count)
+abbrev pub seeded_random : List ℕ → ℕ → List (List ℕ)
+seeded_random seed count = map (λ i. stream_draw (key_of seed) 0 (4 * i)) (below count)

@@ -135,12 +135,12 @@ pub trait Link {
 /// A source of random words, which cannot fail.
 pub trait Fresh {
     /// The words to come, where they are told.
-    ghost words: { Self → Option (List (List ℕ)) };
+    ghost random: { Self → Option (List (List ℕ)) };
 
     /// The next word, or zeros where there is none.
     fn next(&mut self) -> [u8; 16]
-        ensures word { (all : List (List ℕ)) → words self.old ≡ Some all → result ≡ slice_index_or all 0 (replicate 16 0) }
-        ensures taken { (all : List (List ℕ)) → words self.old ≡ Some all → words self.new ≡ Some (drop 1 all) };
+        ensures drawn { (all : List (List ℕ)) → random self.old ≡ Some all → result ≡ slice_index_or all 0 (replicate 16 0) }
+        ensures taken { (all : List (List ℕ)) → random self.old ≡ Some all → random self.new ≡ Some (drop 1 all) };
 }
 
 /// Writes all of a text, in as many calls as it takes. Where a call fails, a prefix may have been written.

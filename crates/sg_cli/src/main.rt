@@ -12,7 +12,7 @@ use sg_port::TcpPort;
 use sg_stream::StreamLink;
 use sg_system::{OsFresh, StdDescriptors, hold_standard};
 use sg_top::{
-    end_without_descriptors, end_without_memory, end_without_seed, end_without_words, top,
+    end_without_args, end_without_descriptors, end_without_memory, end_without_seed, top,
 };
 use std::process::ExitCode;
 use std::{env, io};
@@ -21,16 +21,16 @@ use std::{env, io};
 fn main(rt: HostRuntime) -> ExitCode {
     let status = match on_descriptors(&rt) {
         Ok(status) => status,
-        Err(e) => before_words(&rt, &e),
+        Err(e) => before_args(&rt, &e),
     };
     ExitCode::from(status)
 }
 
 // How the program ends where it has no words: one of them is no UTF-8, so it is in no command, or memory ran out.
-fn before_words(rt: &HostRuntime, e: &io::Error) -> u8 {
+fn before_args(rt: &HostRuntime, e: &io::Error) -> u8 {
     let mut err = StdSink::new(rt.stderr());
     match e.kind() {
-        io::ErrorKind::InvalidData => end_without_words(rt.alloc(), &mut err),
+        io::ErrorKind::InvalidData => end_without_args(rt.alloc(), &mut err),
         _ => end_without_memory(&mut err),
     }
 }
@@ -39,14 +39,14 @@ fn before_words(rt: &HostRuntime, e: &io::Error) -> u8 {
 fn on_descriptors(rt: &HostRuntime) -> io::Result<u8> {
     let mut descriptors = StdDescriptors::new(rt.clone()?, rt.stdin(), rt.stdout(), rt.stderr());
     match hold_standard(&mut descriptors) {
-        Ok(()) => on_words(rt),
+        Ok(()) => on_args(rt),
         Err(_) => Ok(end_without_descriptors()),
     }
 }
 
-fn on_words(rt: &HostRuntime) -> io::Result<u8> {
+fn on_args(rt: &HostRuntime) -> io::Result<u8> {
     let alloc = rt.alloc();
-    let words: Vec<String> = env::args(rt)?.skip(1).collect(alloc)?;
+    let args: Vec<String> = env::args(rt)?.skip(1).collect(alloc)?;
     let mut files = StdFiles::new(rt.clone()?);
     let mut out = StdSink::new(io::writer(rt));
     let mut err = StdSink::new(rt.stderr());
@@ -62,7 +62,7 @@ fn on_words(rt: &HostRuntime) -> io::Result<u8> {
     let mut input = StdInput::new(rt.stdin());
     Ok(top(
         alloc,
-        words.as_slice(),
+        args.as_slice(),
         &mut files,
         &mut out,
         &mut err,

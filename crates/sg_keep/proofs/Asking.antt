@@ -205,14 +205,14 @@ holds_first k may_leave keys programs first choices s is all = record {
   images = subst (AllRepresent may_leave) (sym s.node.joins) all;
 }
 
-pub represents_first : (k : Keeper) (keys : Keyring) (programs : List Program) (first : List Join) (choices : List Choice) (words : List (List ℕ)) → RepresentsPlay k.player (beginning keys programs first choices words) → RepresentsKept k (beginning keys programs first choices words)
-represents_first k keys programs first choices words s = record { player = s; in_step = refl; sent = none_sent [] }
+pub represents_first : (k : Keeper) (keys : Keyring) (programs : List Program) (first : List Join) (choices : List Choice) (random : List (List ℕ)) → RepresentsPlay k.player (beginning keys programs first choices random) → RepresentsKept k (beginning keys programs first choices random)
+represents_first k keys programs first choices random s = record { player = s; in_step = refl; sent = none_sent [] }
 
 -- memory ran out before its first step
-pub not_begun : (start : Outside) (may_leave : List ℕ → Type 0) (keys : Keyring) (programs : List Program) (first : List Join) (script : Script) (deliveries words : List (List ℕ)) → AllRepresent may_leave first
-    → (f : PlayFault) → f ≡ OutOfMemory → Kept start start may_leave (played keys programs first script deliveries words) (Err (Played f))
-not_begun start may_leave keys programs first script deliveries words all f e =
-    let begun = beginning keys programs first script.choices words in
+pub not_begun : (start : Outside) (may_leave : List ℕ → Type 0) (keys : Keyring) (programs : List Program) (first : List Join) (script : Script) (deliveries random : List (List ℕ)) → AllRepresent may_leave first
+    → (f : PlayFault) → f ≡ OutOfMemory → Kept start start may_leave (played keys programs first script deliveries random) (Err (Played f))
+not_begun start may_leave keys programs first script deliveries random all f e =
+    let begun = beginning keys programs first script.choices random in
     let started = all_starts begun script.starts in
     let whole = all_deliveries started deliveries in
     subst (λ (z : PlayFault). Kept start start may_leave whole (Err (Played z))) (sym e)
@@ -222,16 +222,16 @@ not_begun start may_leave keys programs first script deliveries words all f e =
 -- ---- a play ends
 
 -- it ended early in its starts
-pub starts_ended : (start now : Outside) (may_leave : List ℕ → Type 0) (keys : Keyring) (programs : List Program) (first : List Join) (script : Script) (deliveries words : List (List ℕ)) (f : KeepFault)
-    → Kept start now may_leave (all_starts (beginning keys programs first script.choices words) script.starts) (Err f) → Kept start now may_leave (played keys programs first script deliveries words) (Err f)
-starts_ended start now may_leave keys programs first script deliveries words f h =
-    let started = all_starts (beginning keys programs first script.choices words) script.starts in
+pub starts_ended : (start now : Outside) (may_leave : List ℕ → Type 0) (keys : Keyring) (programs : List Program) (first : List Join) (script : Script) (deliveries random : List (List ℕ)) (f : KeepFault)
+    → Kept start now may_leave (all_starts (beginning keys programs first script.choices random) script.starts) (Err f) → Kept start now may_leave (played keys programs first script deliveries random) (Err f)
+starts_ended start now may_leave keys programs first script deliveries random f h =
+    let started = all_starts (beginning keys programs first script.choices random) script.starts in
     end_on start now may_leave started (all_deliveries started deliveries) f (by_deliveries started deliveries) h
 
 -- what was given and kept at its end
-pub came_kept : (start now : Outside) (may_leave : List ℕ → Type 0) (k : Keeper) (words : Option (List (List ℕ))) (p : Play) (r : Result (Unit {0}) KeepFault) → OnOk r (HoldsJoins k may_leave) → CameTo start now may_leave k words p r → Kept start now may_leave p r
-came_kept start now may_leave k words p (Ok u) holds h = (h.1, holds_all k may_leave p holds h.0, h.0.sent)
-came_kept start now may_leave k words p (Err (Played LinkFailed)) holds h = h
-came_kept start now may_leave k words p (Err (Played WriteFailed)) holds h = h
-came_kept start now may_leave k words p (Err (Played OutOfMemory)) holds h = h
-came_kept start now may_leave k words p (Err DiskFailed) holds h = h
+pub came_kept : (start now : Outside) (may_leave : List ℕ → Type 0) (k : Keeper) (random : Option (List (List ℕ))) (p : Play) (r : Result (Unit {0}) KeepFault) → OnOk r (HoldsJoins k may_leave) → CameTo start now may_leave k random p r → Kept start now may_leave p r
+came_kept start now may_leave k random p (Ok u) holds h = (h.1, holds_all k may_leave p holds h.0, h.0.sent)
+came_kept start now may_leave k random p (Err (Played LinkFailed)) holds h = h
+came_kept start now may_leave k random p (Err (Played WriteFailed)) holds h = h
+came_kept start now may_leave k random p (Err (Played OutOfMemory)) holds h = h
+came_kept start now may_leave k random p (Err DiskFailed) holds h = h

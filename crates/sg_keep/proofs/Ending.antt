@@ -130,15 +130,15 @@ not_kept start now may_leave p c f bare full causes in_step sent old new images 
 
 -- ---- one after another
 
-module _ (start now : Outside) (may_leave : List ℕ → Type 0) (k : Keeper) (words : Option (List (List ℕ))) where
+module _ (start now : Outside) (may_leave : List ℕ → Type 0) (k : Keeper) (random : Option (List (List ℕ))) where
   -- an early end, as what was answered says it
-  pub ended : (p : Play) (r : Result (Unit {0}) KeepFault) (f : KeepFault) → r ≡ Err f → Kept start now may_leave p (Err f) → CameTo start now may_leave k words p r
-  ended p r f e h = subst (λ (z : Result (Unit {0}) KeepFault). CameTo start now may_leave k words p z) (sym e) h
+  pub ended : (p : Play) (r : Result (Unit {0}) KeepFault) (f : KeepFault) → r ≡ Err f → Kept start now may_leave p (Err f) → CameTo start now may_leave k random p r
+  ended p r f e h = subst (λ (z : Result (Unit {0}) KeepFault). CameTo start now may_leave k random p z) (sym e) h
 
   -- the play that is come to, by another name
-  pub to_same : (p q : Play) (r : Result (Unit {0}) KeepFault) → p ≡ q → CameTo start now may_leave k words p r → CameTo start now may_leave k words q r
-  to_same p q r e h = subst (λ (z : Play). CameTo start now may_leave k words z r) e h
+  pub to_same : (p q : Play) (r : Result (Unit {0}) KeepFault) → p ≡ q → CameTo start now may_leave k random p r → CameTo start now may_leave k random q r
+  to_same p q r e h = subst (λ (z : Play). CameTo start now may_leave k random z r) e h
 
   -- an early end of a play that goes on
-  pub ended_on : (p q : Play) (r : Result (Unit {0}) KeepFault) (f : KeepFault) → r ≡ Err f → Goes p q → CameTo start now may_leave k words p (Err f) → CameTo start now may_leave k words q r
+  pub ended_on : (p q : Play) (r : Result (Unit {0}) KeepFault) (f : KeepFault) → r ≡ Err f → Goes p q → CameTo start now may_leave k random p (Err f) → CameTo start now may_leave k random q r
   ended_on p q r f e g h = ended q r f e (end_on start now may_leave p q f g h)

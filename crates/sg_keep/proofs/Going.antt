@@ -14,7 +14,7 @@ use Rattle.sg_protocol.specs.Told.{live_with}
 use Rattle.sg_protocol.specs.Turn.{turn_of}
 use Rattle.sg_script.specs.Script.{Start as ScriptStart, Choice}
 use Rattle.sg_play.specs.Choosing.{is_ready}
-use Rattle.sg_play.specs.Played.{Play, abandons, act_by, acts, all_deliveries, all_starts, answer_in, called, cast_of_start, chosen, or_abandons, plays, plays_on, sid_given, starts, step_in, with_turn, without, word}
+use Rattle.sg_play.specs.Played.{Play, abandons, act_by, acts, all_deliveries, all_starts, answer_in, called, cast_of_start, chosen, or_abandons, plays, plays_on, sid_given, starts, step_in, with_turn, without, next_random}
 use Rattle.sg_play.specs.Steps.{Step}
 use Rattle.sg_play.proofs.Extends.{deliveries_both, starts_both}
 use Rattle.sg_play.proofs.Looping.{taken_part, whole_part}
@@ -84,7 +84,7 @@ by_leaving sid p (NotDelivered x) = quiet_leaving p sid
 
 by_act : (sid : List ℕ) (graph : Name) (node : ℕ) (c : Choice) (p : Play) → Quiet p (acts sid graph node c p)
 by_act sid graph node c p =
-    let call = act_by sid c p.words in
+    let call = act_by sid c p.random in
     let q = called (chosen graph node c p) call in
     let goes : Goes p q = record { steps = step_in (chosen graph node c p) call ∷ []; calls = record { call = call; answer = answer_in p call } ∷ []; is_steps = refl; is_calls = refl; as_many = refl; first = refl } in
     let owns : OwnsAll p → OwnsAll q = λ h. owns_on (chosen graph node c p) call (record { live = h.live; sent = h.sent }) tt in
@@ -123,7 +123,7 @@ with_call p c = joined p (called p c) (with_turn p c) (by_call p c) (after_call 
 
 -- a word less
 pub by_start : (p : Play) (s : ScriptStart) → Goes p (starts p s)
-by_start p s = let g = with_call (without 1 p) (Start (cast_of_start p.past.programs s (word p.words))) in
+by_start p s = let g = with_call (without 1 p) (Start (cast_of_start p.past.programs s (next_random p.random))) in
     record { steps = g.steps; calls = g.calls; is_steps = g.is_steps; is_calls = g.is_calls; as_many = g.as_many; first = g.first }
 
 pub by_starts : (p : Play) (ss : List ScriptStart) → Goes p (all_starts p ss)

@@ -54,6 +54,6 @@ pub record IsAsked (k : Keeper) (p : Play) (c : Call) (told : Option Reported) (
   pub ledger : k.ledger.joins ≡ (node_of p.past).joins
 
 -- a play came to this one, all that it gave the outside since the start being whole, and the words that are left are the source's; or it ended early on the way
-abbrev pub CameTo : (start now : Outside) → (may_leave : List ℕ → Type 0) → Keeper → (words : Option (List (List ℕ))) → Play → Result (Unit {0}) KeepFault → Type 0
-CameTo start now may_leave k words p (Ok u) = RepresentsKept k p × Whole start now p.steps × (words ≡ Some p.words)
-CameTo start now may_leave k words p (Err f) = Kept start now may_leave p (Err f)
+abbrev pub CameTo : (start now : Outside) → (may_leave : List ℕ → Type 0) → Keeper → (random : Option (List (List ℕ))) → Play → Result (Unit {0}) KeepFault → Type 0
+CameTo start now may_leave k random p (Ok u) = RepresentsKept k p × Whole start now p.steps × (random ≡ Some p.random)
+CameTo start now may_leave k random p (Err f) = Kept start now may_leave p (Err f)

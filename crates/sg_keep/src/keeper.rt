@@ -47,9 +47,9 @@ impl<'p> Keeper<'p> {
             (record { link = L.faults link.new; out = O.faults out.new; disk = D.faults disk.new }) result }
         ensures deliveries { L.deliveries link.new ≡ L.deliveries link.old }
         ensures holds { OnOk result (HoldsJoins self.new (D.may_leave disk.new)) }
-        ensures progress { (p : Play) (c : Call) (start : Outside) → IsAsked self.old p c (outcome_of outcome.now) (option_copied graph.entry) → R.words fresh.old ≡ Some p.words
+        ensures progress { (p : Play) (c : Call) (start : Outside) → IsAsked self.old p c (outcome_of outcome.now) (option_copied graph.entry) → R.random fresh.old ≡ Some p.random
             → Whole start (record { written = O.written out.old; sent = L.sent link.old }) p.steps
-            → CameTo start (record { written = O.written out.new; sent = L.sent link.new }) (D.may_leave disk.new) self.new (R.words fresh.new) (with_turn p c) result }
+            → CameTo start (record { written = O.written out.new; sent = L.sent link.new }) (D.may_leave disk.new) self.new (R.random fresh.new) (with_turn p c) result }
     {
         match self.keep_join(outcome, disk) {
             Ok(()) => {}

@@ -35,9 +35,9 @@ impl<'p> Keeper<'p> {
             (record { link = L.faults link.new; out = O.faults out.new; disk = D.faults disk.new }) result }
         ensures deliveries { L.deliveries link.new ≡ L.deliveries link.old }
         ensures holds { OnOk result (HoldsJoins self.new (D.may_leave disk.new)) }
-        ensures progress { (p : Play) (start : Outside) → RepresentsKept self.old p → R.words fresh.old ≡ Some p.words
+        ensures progress { (p : Play) (start : Outside) → RepresentsKept self.old p → R.random fresh.old ≡ Some p.random
             → Whole start (record { written = O.written out.old; sent = L.sent link.old }) p.steps
-            → CameTo start (record { written = O.written out.new; sent = L.sent link.new }) (D.may_leave disk.new) self.new (R.words fresh.new) (all_starts p starts.now) result }
+            → CameTo start (record { written = O.written out.new; sent = L.sent link.new }) (D.may_leave disk.new) self.new (R.random fresh.new) (all_starts p starts.now) result }
     {
         for start in starts {
             match self.start_one(start, link, fresh, out, disk) {
@@ -64,9 +64,9 @@ impl<'p> Keeper<'p> {
             (record { link = L.faults link.new; out = O.faults out.new; disk = D.faults disk.new }) result }
         ensures deliveries { L.deliveries link.new ≡ L.deliveries link.old }
         ensures holds { OnOk result (HoldsJoins self.new (D.may_leave disk.new)) }
-        ensures progress { (p : Play) (start : Outside) → RepresentsKept self.old p → R.words fresh.old ≡ Some p.words
+        ensures progress { (p : Play) (start : Outside) → RepresentsKept self.old p → R.random fresh.old ≡ Some p.random
             → Whole start (record { written = O.written out.old; sent = L.sent link.old }) p.steps
-            → CameTo start (record { written = O.written out.new; sent = L.sent link.new }) (D.may_leave disk.new) self.new (R.words fresh.new) (starts p start_of.now) result }
+            → CameTo start (record { written = O.written out.new; sent = L.sent link.new }) (D.may_leave disk.new) self.new (R.random fresh.new) (starts p start_of.now) result }
     {
         let nonce = fresh.next();
         match self.player.ask_start(start_of, nonce) {
@@ -90,9 +90,9 @@ impl<'p> Keeper<'p> {
         ensures disk_bound { D.bound disk.new ≡ D.bound disk.old }
         ensures faults { TellsFaults (record { link = L.faults link.old; out = O.faults out.old; disk = D.faults disk.old })
             (record { link = L.faults link.new; out = O.faults out.new; disk = D.faults disk.new }) result }
-        ensures progress { (p : Play) (start : Outside) (deliveries : List (List ℕ)) → L.deliveries link.old ≡ Some deliveries → RepresentsKept self.old p → R.words fresh.old ≡ Some p.words
+        ensures progress { (p : Play) (start : Outside) (deliveries : List (List ℕ)) → L.deliveries link.old ≡ Some deliveries → RepresentsKept self.old p → R.random fresh.old ≡ Some p.random
             → Whole start (record { written = O.written out.old; sent = L.sent link.old }) p.steps
-            → CameTo start (record { written = O.written out.new; sent = L.sent link.new }) (D.may_leave disk.new) self.new (R.words fresh.new) (all_deliveries p (take most deliveries)) result }
+            → CameTo start (record { written = O.written out.new; sent = L.sent link.new }) (D.may_leave disk.new) self.new (R.random fresh.new) (all_deliveries p (take most deliveries)) result }
         ensures left { OnOk result ((deliveries : List (List ℕ)) → L.deliveries link.old ≡ Some deliveries → L.deliveries link.new ≡ Some (drop most deliveries)) }
         ensures at_most { (deliveries : List (List ℕ)) → L.deliveries link.old ≡ Some deliveries → (n : ℕ) × (n ≤ most) × (L.deliveries link.new ≡ Some (drop n deliveries)) }
         ensures holds { OnOk result (HoldsJoins self.new (D.may_leave disk.new)) }
@@ -129,9 +129,9 @@ impl<'p> Keeper<'p> {
             (record { link = L.faults link.new; out = O.faults out.new; disk = D.faults disk.new }) result }
         ensures deliveries { L.deliveries link.new ≡ L.deliveries link.old }
         ensures holds { OnOk result (HoldsJoins self.new (D.may_leave disk.new)) }
-        ensures progress { (p : Play) (start : Outside) → RepresentsKept self.old p → R.words fresh.old ≡ Some p.words
+        ensures progress { (p : Play) (start : Outside) → RepresentsKept self.old p → R.random fresh.old ≡ Some p.random
             → Whole start (record { written = O.written out.old; sent = L.sent link.old }) p.steps
-            → CameTo start (record { written = O.written out.new; sent = L.sent link.new }) (D.may_leave disk.new) self.new (R.words fresh.new) (with_turn p (Deliver bytes.now)) result }
+            → CameTo start (record { written = O.written out.new; sent = L.sent link.new }) (D.may_leave disk.new) self.new (R.random fresh.new) (with_turn p (Deliver bytes.now)) result }
     {
         match self.player.ask_deliver(bytes) {
             Ok((outcome, graph)) => self.tell(&outcome, graph, link, fresh, out, disk),
@@ -169,9 +169,9 @@ pub fn keep<'p, L: Link, R: Fresh, O: Sink, D: Disk>(
     // Where the link tells its deliveries and the source its words: what was written and sent is what the play says, up to where it ended,
     // and what a crash leaves of the disk is the ledger with the joins of the play up to there, and so with the session and the sender of
     // each frame that was sent.
-    ensures kept { (deliveries words : List (List ℕ)) → L.deliveries link.old ≡ Some deliveries → R.words fresh.old ≡ Some words
+    ensures kept { (deliveries random : List (List ℕ)) → L.deliveries link.old ≡ Some deliveries → R.random fresh.old ≡ Some random
         → Kept (record { written = O.written out.old; sent = L.sent link.old }) (record { written = O.written out.new; sent = L.sent link.new }) (D.may_leave disk.new)
-        (played keys.now programs.now ledger.joins script (take most deliveries) words) result }
+        (played keys.now programs.now ledger.joins script (take most deliveries) random) result }
     ensures left { OnOk result ((deliveries : List (List ℕ)) → L.deliveries link.old ≡ Some deliveries → L.deliveries link.new ≡ Some (drop most deliveries)) }
     ensures at_most { (deliveries : List (List ℕ)) → L.deliveries link.old ≡ Some deliveries → (n : ℕ) × (n ≤ most) × (L.deliveries link.new ≡ Some (drop n deliveries)) }
 {

@@ -37,10 +37,10 @@ pub comes_quiet : (number : ℕ) (old new : NodeState) (past : Past) (call : Cal
 comes_quiet number old new past call told graph range h graphed goes = record { range = range; is_told = h.0; is_graph = graphed; is_sealed = none_sealed (answer real (node_of past) call) h.1; goes_on = goes }
 
 -- what comes of a step that was sent
-pub comes_sent : (number : ℕ) (old new : NodeState) (past : Past) (sid : List ℕ) (label : ℕ) (values : Map Value) (words : List (List ℕ)) (e : Protocol.Event) (to : Name) (sealed : Name × List ℕ) (graph : Option Graph) (f : Frame)
-    → to ≡ sealed.0 → answer real (node_of past) (Act sid label values words) ≡ Protocol.Sends e sealed.0 f → sealed.1 ≡ spelling f → AreValues values words → graph ≡ graph_of_call real (node_of past) (Act sid label values words)
-    → GoesOn old new (Act sid label values words) past → Comes number old new past (Act sid label values words) (Some (Sends e to number)) graph (Some sealed)
-comes_sent number old new past sid label values words e to sealed graph f is_to given spelled range graphed goes = record {
+pub comes_sent : (number : ℕ) (old new : NodeState) (past : Past) (sid : List ℕ) (label : ℕ) (values : Map Value) (random : List (List ℕ)) (e : Protocol.Event) (to : Name) (sealed : Name × List ℕ) (graph : Option Graph) (f : Frame)
+    → to ≡ sealed.0 → answer real (node_of past) (Act sid label values random) ≡ Protocol.Sends e sealed.0 f → sealed.1 ≡ spelling f → AreValues values random → graph ≡ graph_of_call real (node_of past) (Act sid label values random)
+    → GoesOn old new (Act sid label values random) past → Comes number old new past (Act sid label values random) (Some (Sends e to number)) graph (Some sealed)
+comes_sent number old new past sid label values random e to sealed graph f is_to given spelled range graphed goes = record {
   range = range;
   is_told = (λ i. Some (Sends e (is_to i) number)) ∙ ap (λ (a : Answer). Some (reported_answer number a)) (sym given);
   is_graph = graphed;

@@ -45,15 +45,15 @@ came_after start old new pl p c line made (Err OutOfMemory) w represents l m mem
 -- ---- one after another
 
 -- the words were not touched
-pub with_words : (start now : Outside) (pl : Player) (words : Option (List (List ℕ))) (p : Play) (r : Result (Unit {0}) PlayFault) → words ≡ Some p.words → Came start now pl p r → CameTo start now pl words p r
-with_words start now pl words p (Ok u) w h = (h, w)
-with_words start now pl words p (Err f) w h = h
+pub with_random : (start now : Outside) (pl : Player) (random : Option (List (List ℕ))) (p : Play) (r : Result (Unit {0}) PlayFault) → random ≡ Some p.random → Came start now pl p r → CameTo start now pl random p r
+with_random start now pl random p (Ok u) w h = (h, w)
+with_random start now pl random p (Err f) w h = h
 
 -- an early end, as what was answered says it
-pub failed : (start now : Outside) (pl : Player) (words : Option (List (List ℕ))) (p : Play) (r : Result (Unit {0}) PlayFault) (f : PlayFault) → r ≡ Err f → Ended start now p.steps (Err f) → CameTo start now pl words p r
-failed start now pl words p r f e h = subst (λ (z : Result (Unit {0}) PlayFault). CameTo start now pl words p z) (sym e) h
+pub failed : (start now : Outside) (pl : Player) (random : Option (List (List ℕ))) (p : Play) (r : Result (Unit {0}) PlayFault) (f : PlayFault) → r ≡ Err f → Ended start now p.steps (Err f) → CameTo start now pl random p r
+failed start now pl random p r f e h = subst (λ (z : Result (Unit {0}) PlayFault). CameTo start now pl random p z) (sym e) h
 
 -- what was given the outside
-pub ended_so : (start now : Outside) (pl : Player) (words : Option (List (List ℕ))) (p : Play) (r : Result (Unit {0}) PlayFault) → CameTo start now pl words p r → Ended start now p.steps r
-ended_so start now pl words p (Ok u) h = h.0.1
-ended_so start now pl words p (Err f) h = h
+pub ended_so : (start now : Outside) (pl : Player) (random : Option (List (List ℕ))) (p : Play) (r : Result (Unit {0}) PlayFault) → CameTo start now pl random p r → Ended start now p.steps r
+ended_so start now pl random p (Ok u) h = h.0.1
+ended_so start now pl random p (Err f) h = h

@@ -11,7 +11,7 @@ use Rattle.sg_protocol.specs.Told.{live_with}
 use Rattle.sg_protocol.specs.Turn.{turn_of}
 use Rattle.sg_script.specs.Script.{Start as ScriptStart, Choice}
 use Rattle.sg_play.specs.Choosing.{is_ready}
-use Rattle.sg_play.specs.Played.{Play, abandons, act_by, acts, all_deliveries, all_starts, answer_in, called, cast_of_start, chosen, or_abandons, plays, plays_on, sid_given, starts, step_in, with_turn, without, word}
+use Rattle.sg_play.specs.Played.{Play, abandons, act_by, acts, all_deliveries, all_starts, answer_in, called, cast_of_start, chosen, or_abandons, plays, plays_on, sid_given, starts, step_in, with_turn, without, next_random}
 use Rattle.sg_play.specs.Steps.{Step}
 
 -- the second has further steps
@@ -38,8 +38,8 @@ by_leaving sid p (NotDelivered x) = by_call p (Abandon sid)
 
 by_act : (sid : List ℕ) (graph : Name) (node : ℕ) (c : Choice) (p : Play) → Extends p (acts sid graph node c p)
 by_act sid graph node c p =
-    let q = called (chosen graph node c p) (act_by sid c p.words) in
-    joined p q (acts sid graph node c p) (step_in (chosen graph node c p) (act_by sid c p.words) ∷ [], refl) (by_leaving sid q (answer_in p (act_by sid c p.words)))
+    let q = called (chosen graph node c p) (act_by sid c p.random) in
+    joined p q (acts sid graph node c p) (step_in (chosen graph node c p) (act_by sid c p.random) ∷ [], refl) (by_leaving sid q (answer_in p (act_by sid c p.random)))
 
 by_plays : (sid : List ℕ) (graph : Name) (node : ℕ) (p : Play) → Extends p (plays sid graph node p)
 by_plays sid graph node p = by (find (is_ready graph node) p.choices)
@@ -71,7 +71,7 @@ pub with_call : (p : Play) (c : Call) → Extends p (with_turn p c)
 with_call p c = joined p (called p c) (with_turn p c) (by_call p c) (after_call p c)
 
 pub by_start : (p : Play) (s : ScriptStart) → Extends p (starts p s)
-by_start p s = with_call (without 1 p) (Start (cast_of_start p.past.programs s (word p.words)))
+by_start p s = with_call (without 1 p) (Start (cast_of_start p.past.programs s (next_random p.random)))
 
 pub by_starts : (p : Play) (ss : List ScriptStart) → Extends p (all_starts p ss)
 by_starts p [] = nothing p

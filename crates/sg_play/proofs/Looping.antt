@@ -3,7 +3,7 @@ use Rattle.std.proofs.Common.{◌≡◌, ℕ, zero, suc, ◌+◌, ◌<◌, ◌�
 use Rattle.std.proofs.lemmas.List.{take_more}
 use Rattle.sg_protocol.specs.Calls.{Deliver}
 use Rattle.sg_script.specs.Script.{Start as ScriptStart}
-use Rattle.sg_play.specs.Played.{Play, all_deliveries, all_starts, next_words, starts, with_turn, word}
+use Rattle.sg_play.specs.Played.{Play, all_deliveries, all_starts, next_confounders, starts, with_turn, next_random}
 use Rattle.sg_play.proofs.Extends.{Extends, by_deliveries, by_starts, deliveries_both, starts_both}
 
 module _ {X : Type 0} where
@@ -66,13 +66,13 @@ left_behind : (n : ℕ) (all : List (List ℕ)) → drop n (drop 1 all) ≡ drop
 left_behind n [] = no_drop n
 left_behind n (w ∷ all) = refl
 
-next_more : (n : ℕ) (all : List (List ℕ)) → next_words n all ++ word (drop n all) ∷ [] ≡ next_words (suc n) all
+next_more : (n : ℕ) (all : List (List ℕ)) → next_confounders n all ++ next_random (drop n all) ∷ [] ≡ next_confounders (suc n) all
 next_more zero all = refl
-next_more (suc n) all = ap (λ (l : List (List ℕ)). word all ∷ l) (ap (λ (l : List (List ℕ)). next_words n (drop 1 all) ++ word l ∷ []) (sym (left_behind n all)) ∙ next_more n (drop 1 all))
+next_more (suc n) all = ap (λ (l : List (List ℕ)). next_random all ∷ l) (ap (λ (l : List (List ℕ)). next_confounders n (drop 1 all) ++ next_random l ∷ []) (sym (left_behind n all)) ∙ next_more n (drop 1 all))
 
 -- one word more
-pub words_next : (n : ℕ) (all : List (List ℕ)) → next_words n all ++ word (drop n all) ∷ [] ≡ next_words (n + 1) all
-words_next n all = next_more n all ∙ sym (ap (λ (k : ℕ). next_words k all) (add-one n))
+pub random_next : (n : ℕ) (all : List (List ℕ)) → next_confounders n all ++ next_random (drop n all) ∷ [] ≡ next_confounders (n + 1) all
+random_next n all = next_more n all ∙ sym (ap (λ (k : ℕ). next_confounders k all) (add-one n))
 
 -- ---- deliveries
 

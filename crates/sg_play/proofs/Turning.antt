@@ -30,7 +30,7 @@ by_choices sid graph node p = by (find (is_ready graph node) p.choices)
   where
     by : (o : Option Choice) → option_map_or (λ c. acts sid graph node c p) o (abandons sid p) ≡ or_leaves sid (option_map_or (acted_by sid graph node p) o (p, false))
     by None = refl
-    by (Some c) = by_answer sid (called (chosen graph node c p) (act_by sid c p.words)) (answer_in p (act_by sid c p.words))
+    by (Some c) = by_answer sid (called (chosen graph node c p) (act_by sid c p.random)) (answer_in p (act_by sid c p.random))
 
 by_graph : (sid : List ℕ) (node : ℕ) (p : Play) (o : Option (Program × Session)) →
     option_map_or (λ (x : Program × Session). plays sid x.0.graph.name node p) o (abandons sid p) ≡ or_leaves sid (option_map_or (λ (x : Program × Session). acted_in sid x.0.graph.name node p) o (p, false))

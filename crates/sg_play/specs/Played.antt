@@ -20,7 +20,7 @@ use Rattle.sg_play.specs.Steps.{Step, frames_of, frames_in, line_of}
 pub record Play : Type 0 where
   pub past : Past
   pub choices : List Choice
-  pub words : List (List ℕ)
+  pub random : List (List ℕ)
   pub steps : List Step
 
 -- ---- a call
@@ -43,17 +43,17 @@ called p c = record p { past = past_after real p.past c; steps = p.steps ++ step
 -- ---- words
 
 -- the next word, or zeros where there is none
-abbrev pub word : List (List ℕ) → List ℕ
-word words = slice_index_or words 0 (replicate 16 0)
+abbrev pub next_random : List (List ℕ) → List ℕ
+next_random random = slice_index_or random 0 (replicate 16 0)
 
 -- the next n words
-abbrev pub next_words : ℕ → List (List ℕ) → List (List ℕ)
-next_words zero words = []
-next_words (suc n) words = word words ∷ next_words n (drop 1 words)
+abbrev pub next_confounders : ℕ → List (List ℕ) → List (List ℕ)
+next_confounders zero random = []
+next_confounders (suc n) random = next_random random ∷ next_confounders n (drop 1 random)
 
 -- a play without these words
 abbrev pub without : ℕ → Play → Play
-without n p = record p { words = drop n p.words }
+without n p = record p { random = drop n p.random }
 
 -- ---- a turn
 
@@ -68,15 +68,15 @@ or_abandons sid p other = abandons sid p
 
 -- the act by a choice, with a word to hide each value
 abbrev pub act_by : (sid : List ℕ) → Choice → List (List ℕ) → Call
-act_by sid c words = Act sid c.label c.values (next_words (length c.values) words)
+act_by sid c random = Act sid c.label c.values (next_confounders (length c.values) random)
 
 -- the play as it asks for the act by a choice: the act takes the words, and one use off the choice, whether it is refused or not
 abbrev pub chosen : (graph : Name) → (node : ℕ) → Choice → Play → Play
-chosen graph node c p = record p { choices = used graph node p.choices; words = drop (length c.values) p.words }
+chosen graph node c p = record p { choices = used graph node p.choices; random = drop (length c.values) p.random }
 
 -- the session acts by a choice
 abbrev pub acts : (sid : List ℕ) → (graph : Name) → (node : ℕ) → Choice → Play → Play
-acts sid graph node c p = or_abandons sid (called (chosen graph node c p) (act_by sid c p.words)) (answer_in p (act_by sid c p.words))
+acts sid graph node c p = or_abandons sid (called (chosen graph node c p) (act_by sid c p.random)) (answer_in p (act_by sid c p.random))
 
 -- a turn is played at a node of a graph: by the first choice for it that has uses left. Where there is none, the session is abandoned
 abbrev pub plays : (sid : List ℕ) → (graph : Name) → (node : ℕ) → Play → Play
@@ -104,7 +104,7 @@ cast_of_start programs s nonce = record { version = s.version; graph = option_ma
 
 -- a start, with the next word as its nonce
 abbrev pub starts : Play → ScriptStart → Play
-starts p s = with_turn (without 1 p) (Start (cast_of_start p.past.programs s (word p.words)))
+starts p s = with_turn (without 1 p) (Start (cast_of_start p.past.programs s (next_random p.random)))
 
 -- all starts, in order
 abbrev pub all_starts : Play → List ScriptStart → Play
@@ -117,14 +117,14 @@ all_deliveries p [] = p
 all_deliveries p (d ∷ ds) = all_deliveries (with_turn p (Deliver d)) ds
 
 -- a node with these keys and programs, which joined these pairs before, and a script
-abbrev pub beginning : Keyring → List Program → (first : List (List ℕ × ℕ)) → List Choice → (words : List (List ℕ)) → Play
-beginning keys programs first choices words = record {
+abbrev pub beginning : Keyring → List Program → (first : List (List ℕ × ℕ)) → List Choice → (random : List (List ℕ)) → Play
+beginning keys programs first choices random = record {
   past = record { keys = keys; programs = programs; first = first; calls = [] };
   choices = choices;
-  words = words;
+  random = random;
   steps = [];
 }
 
 -- the play of a script: its starts, then these deliveries, with these words
-abbrev pub played : Keyring → List Program → (first : List (List ℕ × ℕ)) → Script → (deliveries words : List (List ℕ)) → Play
-played keys programs first script deliveries words = all_deliveries (all_starts (beginning keys programs first script.choices words) script.starts) deliveries
+abbrev pub played : Keyring → List Program → (first : List (List ℕ × ℕ)) → Script → (deliveries random : List (List ℕ)) → Play
+played keys programs first script deliveries random = all_deliveries (all_starts (beginning keys programs first script.choices random) script.starts) deliveries

@@ -56,21 +56,21 @@ Came start now pl p (Ok u) = RepresentsPlay pl p × Whole start now p.steps
 Came start now pl p (Err fault) = Ended start now p.steps (Err fault)
 
 -- and the words that are left are the source's
-abbrev pub CameTo : (start now : Outside) → Player → (words : Option (List (List ℕ))) → Play → Result (Unit {0}) PlayFault → Type 0
-CameTo start now pl words p (Ok u) = Came start now pl p (Ok u) × (words ≡ Some p.words)
-CameTo start now pl words p (Err fault) = Came start now pl p (Err fault)
+abbrev pub CameTo : (start now : Outside) → Player → (random : Option (List (List ℕ))) → Play → Result (Unit {0}) PlayFault → Type 0
+CameTo start now pl random p (Ok u) = Came start now pl p (Ok u) × (random ≡ Some p.random)
+CameTo start now pl random p (Err fault) = Came start now pl p (Err fault)
 
 -- so with the answer whether a frame was sent
-abbrev pub CameActing : (start now : Outside) → Player → (words : Option (List (List ℕ))) → Play × Bool → Result Bool PlayFault → Type 0
-CameActing start now pl words x (Ok sent) = CameTo start now pl words x.0 (Ok tt) × (sent ≡ x.1)
-CameActing start now pl words x (Err fault) = CameTo start now pl words x.0 (Err fault)
+abbrev pub CameActing : (start now : Outside) → Player → (random : Option (List (List ℕ))) → Play × Bool → Result Bool PlayFault → Type 0
+CameActing start now pl random x (Ok sent) = CameTo start now pl random x.0 (Ok tt) × (sent ≡ x.1)
+CameActing start now pl random x (Err fault) = CameTo start now pl random x.0 (Err fault)
 
 -- the player has asked for the act by the first choice that can be taken, and this came of it
-pub record HasActed (pl : Player) (words : Option (List (List ℕ))) (sid : List ℕ) (graph : Name) (node : ℕ) (p : Play) (told : Option Reported) (by : Option Graph) (made : List (Addr × List ℕ)) : Type 0 where
+pub record HasActed (pl : Player) (random : Option (List (List ℕ))) (sid : List ℕ) (graph : Name) (node : ℕ) (p : Play) (told : Option Reported) (by : Option Graph) (made : List (Addr × List ℕ)) : Type 0 where
   pub choice : Choice
   pub is_first : find (is_ready graph node) p.choices ≡ Some choice
-  pub asked : HasAsked pl (chosen graph node choice p) (act_by sid choice p.words) told by made
-  pub words_left : words ≡ Some (drop (length choice.values) p.words)
+  pub asked : HasAsked pl (chosen graph node choice p) (act_by sid choice p.random) told by made
+  pub random_left : random ≡ Some (drop (length choice.values) p.random)
 
 -- where the old state of a node represented a past that was told, the new one represents such a past too, and has the same joins
 abbrev pub KeepsJoins : (old new : NodeState) → Type 0

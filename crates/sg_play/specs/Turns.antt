@@ -18,7 +18,7 @@ is_sent other = false
 
 -- the play after the act by a choice, and whether a frame was sent
 abbrev pub acted_by : (sid : List ℕ) → (graph : Name) → (node : ℕ) → Play → Choice → Play × Bool
-acted_by sid graph node p c = (called (chosen graph node c p) (act_by sid c p.words), is_sent (answer_in p (act_by sid c p.words)))
+acted_by sid graph node p c = (called (chosen graph node c p) (act_by sid c p.random), is_sent (answer_in p (act_by sid c p.random)))
 
 -- the play after the act by the first choice that can be taken, if there is one, and whether a frame was sent
 abbrev pub acted_in : (sid : List ℕ) → (graph : Name) → (node : ℕ) → Play → Play × Bool

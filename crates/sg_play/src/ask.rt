@@ -121,15 +121,23 @@ pub(crate) fn ask_act<'p>(
     sid: Sid,
     label: Label,
     values: &[(Var, Value)],
-    words: &[[u8; 16]],
+    confounders: &[[u8; 16]],
 ) -> Result<(Outcome, Option<&'p Graph>, Option<(Addr, Sealed)>), PlayFault>
-    requires { length words.now ≡ length values.now }
+    requires { length confounders.now ≡ length values.now }
     ensures comes { (past : Past) → RepresentsPast node.old past
-        → IfOk result (λ r. ComesMade keys.now frames.old frames.new node.old node.new past (Act sid label (values_of values.now) words.now) (outcome_of r.0) (option_copied r.1) r.2) }
+        → IfOk result (λ r. ComesMade keys.now frames.old frames.new node.old node.new past (Act sid label (values_of values.now) confounders.now) (outcome_of r.0) (option_copied r.1) r.2) }
     ensures memory { IfErr result (λ e. e ≡ PlayFault.OutOfMemory) }
 {
     let number = next_frame(*frames)?;
-    let (outcome, graph, sealed) = ask_numbered(alloc, node, sid, label, values, words, number)?;
+    let (outcome, graph, sealed) = ask_numbered(
+        alloc,
+        node,
+        sid,
+        label,
+        values,
+        confounders,
+        number,
+    )?;
     let frame = addressed(keys, frames, sealed, number);
     Ok((outcome, graph, frame))
 }
@@ -177,18 +185,18 @@ fn ask_numbered<'p>(
     sid: Sid,
     label: Label,
     values: &[(Var, Value)],
-    words: &[[u8; 16]],
+    confounders: &[[u8; 16]],
     number: u32,
 ) -> Result<(Outcome, Option<&'p Graph>, Option<Sealed>), PlayFault>
-    requires { length words.now ≡ length values.now }
+    requires { length confounders.now ≡ length values.now }
     ensures comes { (past : Past) → RepresentsPast node.old past
-        → IfOk result (λ r. Comes number node.old node.new past (Act sid label (values_of values.now) words.now) (outcome_of r.0) (option_copied r.1) r.2) }
+        → IfOk result (λ r. Comes number node.old node.new past (Act sid label (values_of values.now) confounders.now) (outcome_of r.0) (option_copied r.1) r.2) }
     ensures memory { IfErr result (λ e. e ≡ PlayFault.OutOfMemory) }
 {
-    facts_of_values(values, words);
+    facts_of_values(values, confounders);
     let graph = node.graph_of(&sid);
     let mut notes = Notes::new(alloc);
-    match node.act(sid, label, values, words, &mut notes) {
+    match node.act(sid, label, values, confounders, &mut notes) {
         Ok((event, sealed)) => {
             let to = sealed.to();
             let outcome = Outcome::Sent {

@@ -28,12 +28,12 @@ impl<'p> Player<'p> {
         sid: Sid,
         label: Label,
         values: &[(Var, Value)],
-        words: &[[u8; 16]],
+        confounders: &[[u8; 16]],
     ) -> Result<(Outcome, Option<&'p Graph>, Option<(Addr, Sealed)>), PlayFault>
-        requires { length words.now ≡ length values.now }
+        requires { length confounders.now ≡ length values.now }
         ensures asked { IfOk result (λ r. (p : Play) → RepresentsPlay self.old p
-            → HasAsked self.new p (Act sid label (values_of values.now) words.now) (outcome_of r.0) (option_copied r.1) (frames_made r.2)) }
-        ensures frame { IfOk result (λ r. (p : Play) → RepresentsPlay self.old p → r.2 ≡ addressed p.past.keys (sealed_in (answer_in p (Act sid label (values_of values.now) words.now)))) }
+            → HasAsked self.new p (Act sid label (values_of values.now) confounders.now) (outcome_of r.0) (option_copied r.1) (frames_made r.2)) }
+        ensures frame { IfOk result (λ r. (p : Play) → RepresentsPlay self.old p → r.2 ≡ addressed p.past.keys (sealed_in (answer_in p (Act sid label (values_of values.now) confounders.now)))) }
         ensures joins { OnOk result (KeepsJoins self.old.node self.new.node) }
         ensures memory { IfErr result (λ e. e ≡ PlayFault.OutOfMemory) }
     {
@@ -45,7 +45,7 @@ impl<'p> Player<'p> {
             sid,
             label,
             values,
-            words,
+            confounders,
         )
     }
 

@@ -20,6 +20,7 @@
 mod ask;
 mod calls;
 mod choices;
+mod confounders;
 mod facts;
 mod fault;
 mod player;
@@ -27,9 +28,8 @@ mod post;
 mod reported;
 mod run;
 mod turn;
-mod words;
 
+pub use confounders::draw;
 pub use fault::PlayFault;
 pub use player::Player;
 pub use run::play;
-pub use words::draw;

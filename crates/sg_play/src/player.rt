@@ -58,8 +58,8 @@ impl<'p> Player<'p> {
         programs: &'p Programs,
         choices: Seq<ScriptChoice>,
     ) -> Result<Player<'p>, PlayFault>
-        ensures represents { IfOk result (λ pl. (first : List (List ℕ × ℕ)) (words : List (List ℕ)) → node.entry ≡ new_state keys.entry.now programs.entry.now first
-            → RepresentsPlay pl (beginning keys.entry.now programs.entry.now first choices words)) }
+        ensures represents { IfOk result (λ pl. (first : List (List ℕ × ℕ)) (random : List (List ℕ)) → node.entry ≡ new_state keys.entry.now programs.entry.now first
+            → RepresentsPlay pl (beginning keys.entry.now programs.entry.now first choices random)) }
         ensures memory { IfErr result (λ e. e ≡ PlayFault.OutOfMemory) }
     {
         let names = SessionNames::new(alloc, b's');

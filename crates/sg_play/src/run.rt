@@ -32,8 +32,8 @@ impl<'p> Player<'p> {
         ensures link_failed { result ≡ Err PlayFault.LinkFailed → HasRisen (L.faults link.old) (L.faults link.new) }
         ensures write_failed { result ≡ Err PlayFault.WriteFailed → HasRisen (O.faults out.old) (O.faults out.new) }
         ensures deliveries { L.deliveries link.new ≡ L.deliveries link.old }
-        ensures progress { (p : Play) (start : Outside) → RepresentsPlay self.old p → R.words fresh.old ≡ Some p.words → Whole start (record { written = O.written out.old; sent = L.sent link.old }) p.steps
-            → CameTo start (record { written = O.written out.new; sent = L.sent link.new }) self.new (R.words fresh.new) (all_starts p starts.now) result }
+        ensures progress { (p : Play) (start : Outside) → RepresentsPlay self.old p → R.random fresh.old ≡ Some p.random → Whole start (record { written = O.written out.old; sent = L.sent link.old }) p.steps
+            → CameTo start (record { written = O.written out.new; sent = L.sent link.new }) self.new (R.random fresh.new) (all_starts p starts.now) result }
     {
         for start in starts {
             self.start_one(start, link, fresh, out)?;
@@ -55,8 +55,8 @@ impl<'p> Player<'p> {
         ensures link_failed { result ≡ Err PlayFault.LinkFailed → HasRisen (L.faults link.old) (L.faults link.new) }
         ensures write_failed { result ≡ Err PlayFault.WriteFailed → HasRisen (O.faults out.old) (O.faults out.new) }
         ensures deliveries { L.deliveries link.new ≡ L.deliveries link.old }
-        ensures progress { (p : Play) (start : Outside) → RepresentsPlay self.old p → R.words fresh.old ≡ Some p.words → Whole start (record { written = O.written out.old; sent = L.sent link.old }) p.steps
-            → CameTo start (record { written = O.written out.new; sent = L.sent link.new }) self.new (R.words fresh.new) (starts p start_of.now) result }
+        ensures progress { (p : Play) (start : Outside) → RepresentsPlay self.old p → R.random fresh.old ≡ Some p.random → Whole start (record { written = O.written out.old; sent = L.sent link.old }) p.steps
+            → CameTo start (record { written = O.written out.new; sent = L.sent link.new }) self.new (R.random fresh.new) (starts p start_of.now) result }
     {
         let nonce = fresh.next();
         let cast = cast_of(self.programs, start_of, nonce)?;
@@ -78,9 +78,9 @@ impl<'p> Player<'p> {
         ensures out_falls { O.faults out.old ≤ O.faults out.new }
         ensures link_failed { result ≡ Err PlayFault.LinkFailed → HasRisen (L.faults link.old) (L.faults link.new) }
         ensures write_failed { result ≡ Err PlayFault.WriteFailed → HasRisen (O.faults out.old) (O.faults out.new) }
-        ensures progress { (p : Play) (start : Outside) (deliveries : List (List ℕ)) → L.deliveries link.old ≡ Some deliveries → RepresentsPlay self.old p → R.words fresh.old ≡ Some p.words
+        ensures progress { (p : Play) (start : Outside) (deliveries : List (List ℕ)) → L.deliveries link.old ≡ Some deliveries → RepresentsPlay self.old p → R.random fresh.old ≡ Some p.random
             → Whole start (record { written = O.written out.old; sent = L.sent link.old }) p.steps
-            → CameTo start (record { written = O.written out.new; sent = L.sent link.new }) self.new (R.words fresh.new) (all_deliveries p (take most deliveries)) result }
+            → CameTo start (record { written = O.written out.new; sent = L.sent link.new }) self.new (R.random fresh.new) (all_deliveries p (take most deliveries)) result }
         ensures left { OnOk result ((deliveries : List (List ℕ)) → L.deliveries link.old ≡ Some deliveries → L.deliveries link.new ≡ Some (drop most deliveries)) }
         ensures at_most { (deliveries : List (List ℕ)) → L.deliveries link.old ≡ Some deliveries → (n : ℕ) × (n ≤ most) × (L.deliveries link.new ≡ Some (drop n deliveries)) }
     {
@@ -109,8 +109,8 @@ impl<'p> Player<'p> {
         ensures link_failed { result ≡ Err PlayFault.LinkFailed → HasRisen (L.faults link.old) (L.faults link.new) }
         ensures write_failed { result ≡ Err PlayFault.WriteFailed → HasRisen (O.faults out.old) (O.faults out.new) }
         ensures deliveries { L.deliveries link.new ≡ L.deliveries link.old }
-        ensures progress { (p : Play) (start : Outside) → RepresentsPlay self.old p → R.words fresh.old ≡ Some p.words → Whole start (record { written = O.written out.old; sent = L.sent link.old }) p.steps
-            → CameTo start (record { written = O.written out.new; sent = L.sent link.new }) self.new (R.words fresh.new) (with_turn p (Deliver bytes.now)) result }
+        ensures progress { (p : Play) (start : Outside) → RepresentsPlay self.old p → R.random fresh.old ≡ Some p.random → Whole start (record { written = O.written out.old; sent = L.sent link.old }) p.steps
+            → CameTo start (record { written = O.written out.new; sent = L.sent link.new }) self.new (R.random fresh.new) (with_turn p (Deliver bytes.now)) result }
     {
         let sid = self.take(bytes, link, out)?;
         self.play_if(sid, link, fresh, out)
@@ -131,8 +131,8 @@ impl<'p> Player<'p> {
         ensures link_failed { result ≡ Err PlayFault.LinkFailed → HasRisen (L.faults link.old) (L.faults link.new) }
         ensures write_failed { result ≡ Err PlayFault.WriteFailed → HasRisen (O.faults out.old) (O.faults out.new) }
         ensures deliveries { L.deliveries link.new ≡ L.deliveries link.old }
-        ensures progress { (p : Play) (start : Outside) → RepresentsPlay self.old p → R.words fresh.old ≡ Some p.words → Whole start (record { written = O.written out.old; sent = L.sent link.old }) p.steps
-            → CameTo start (record { written = O.written out.new; sent = L.sent link.new }) self.new (R.words fresh.new) (option_map_or (λ s. plays_on s p) sid p) result }
+        ensures progress { (p : Play) (start : Outside) → RepresentsPlay self.old p → R.random fresh.old ≡ Some p.random → Whole start (record { written = O.written out.old; sent = L.sent link.old }) p.steps
+            → CameTo start (record { written = O.written out.new; sent = L.sent link.new }) self.new (R.random fresh.new) (option_map_or (λ s. plays_on s p) sid p) result }
         ensures joins { OnOk result (KeepsJoins self.old.node self.new.node) }
     {
         match sid {
@@ -188,9 +188,9 @@ pub fn play<'p, L: Link, R: Fresh, O: Sink>(
 
     // Where the link tells its deliveries and the source its words: what was written and sent is what the play says, up to where it
     // ended.
-    ensures played { (first : List (List ℕ × ℕ)) (deliveries words : List (List ℕ)) → node.entry ≡ new_state keys.entry.now programs.entry.now first → L.deliveries link.old ≡ Some deliveries → R.words fresh.old ≡ Some words
+    ensures played { (first : List (List ℕ × ℕ)) (deliveries random : List (List ℕ)) → node.entry ≡ new_state keys.entry.now programs.entry.now first → L.deliveries link.old ≡ Some deliveries → R.random fresh.old ≡ Some random
         → Ended (record { written = O.written out.old; sent = L.sent link.old }) (record { written = O.written out.new; sent = L.sent link.new })
-        (played keys.entry.now programs.entry.now first script (take most deliveries) words).steps result }
+        (played keys.entry.now programs.entry.now first script (take most deliveries) random).steps result }
     ensures left { OnOk result ((deliveries : List (List ℕ)) → L.deliveries link.old ≡ Some deliveries → L.deliveries link.new ≡ Some (drop most deliveries)) }
     ensures at_most { (deliveries : List (List ℕ)) → L.deliveries link.old ≡ Some deliveries → (n : ℕ) × (n ≤ most) × (L.deliveries link.new ≡ Some (drop n deliveries)) }
 {

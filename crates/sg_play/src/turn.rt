@@ -13,7 +13,7 @@ ghost use Rattle.sg_play.specs.Representation.{CameActing, CameTo, HasActed, Kee
 ghost use Rattle.sg_play.specs.Turns.{acted, acted_in, is_sent};
 
 use crate::ask::ask_act;
-use crate::words::draw;
+use crate::confounders::draw;
 use crate::{PlayFault, Player};
 use sg_base::{Addr, Fresh, Link, Name, NodeId, Sealed, Sid, Sink};
 use sg_graph::Graph;
@@ -35,8 +35,8 @@ impl<'p> Player<'p> {
         ensures link_failed { result ≡ Err PlayFault.LinkFailed → HasRisen (L.faults link.old) (L.faults link.new) }
         ensures write_failed { result ≡ Err PlayFault.WriteFailed → HasRisen (O.faults out.old) (O.faults out.new) }
         ensures deliveries { L.deliveries link.new ≡ L.deliveries link.old }
-        ensures progress { (p : Play) (start : Outside) → RepresentsPlay self.old p → R.words fresh.old ≡ Some p.words → Whole start (record { written = O.written out.old; sent = L.sent link.old }) p.steps
-            → CameTo start (record { written = O.written out.new; sent = L.sent link.new }) self.new (R.words fresh.new) (plays_on sid p) result }
+        ensures progress { (p : Play) (start : Outside) → RepresentsPlay self.old p → R.random fresh.old ≡ Some p.random → Whole start (record { written = O.written out.old; sent = L.sent link.old }) p.steps
+            → CameTo start (record { written = O.written out.new; sent = L.sent link.new }) self.new (R.random fresh.new) (plays_on sid p) result }
         ensures joins { OnOk result (KeepsJoins self.old.node self.new.node) }
     {
         let Some(node) = self.node.turn(sid) else {
@@ -64,8 +64,8 @@ impl<'p> Player<'p> {
         ensures link_failed { result ≡ Err PlayFault.LinkFailed → HasRisen (L.faults link.old) (L.faults link.new) }
         ensures write_failed { result ≡ Err PlayFault.WriteFailed → HasRisen (O.faults out.old) (O.faults out.new) }
         ensures deliveries { L.deliveries link.new ≡ L.deliveries link.old }
-        ensures progress { (p : Play) (start : Outside) → RepresentsPlay self.old p → R.words fresh.old ≡ Some p.words → Whole start (record { written = O.written out.old; sent = L.sent link.old }) p.steps
-            → CameActing start (record { written = O.written out.new; sent = L.sent link.new }) self.new (R.words fresh.new) (acted sid node p) result }
+        ensures progress { (p : Play) (start : Outside) → RepresentsPlay self.old p → R.random fresh.old ≡ Some p.random → Whole start (record { written = O.written out.old; sent = L.sent link.old }) p.steps
+            → CameActing start (record { written = O.written out.new; sent = L.sent link.new }) self.new (R.random fresh.new) (acted sid node p) result }
         ensures joins { OnOk result (KeepsJoins self.old.node self.new.node) }
     {
         let Some(graph) = self.node.graph_of(&sid) else {
@@ -91,8 +91,8 @@ impl<'p> Player<'p> {
         ensures link_failed { result ≡ Err PlayFault.LinkFailed → HasRisen (L.faults link.old) (L.faults link.new) }
         ensures write_failed { result ≡ Err PlayFault.WriteFailed → HasRisen (O.faults out.old) (O.faults out.new) }
         ensures deliveries { L.deliveries link.new ≡ L.deliveries link.old }
-        ensures progress { (p : Play) (start : Outside) → RepresentsPlay self.old p → R.words fresh.old ≡ Some p.words → Whole start (record { written = O.written out.old; sent = L.sent link.old }) p.steps
-            → CameActing start (record { written = O.written out.new; sent = L.sent link.new }) self.new (R.words fresh.new) (acted_in sid graph.now node p) result }
+        ensures progress { (p : Play) (start : Outside) → RepresentsPlay self.old p → R.random fresh.old ≡ Some p.random → Whole start (record { written = O.written out.old; sent = L.sent link.old }) p.steps
+            → CameActing start (record { written = O.written out.new; sent = L.sent link.new }) self.new (R.random fresh.new) (acted_in sid graph.now node p) result }
         ensures joins { OnOk result (KeepsJoins self.old.node self.new.node) }
     {
         match self.try_act(sid, graph, node, fresh)? {
@@ -114,17 +114,17 @@ impl<'p> Player<'p> {
         node: NodeId,
         fresh: &mut R,
     ) -> Result<Option<(Outcome, Option<&'p Graph>, Option<(Addr, Sealed)>)>, PlayFault>
-        ensures acted { IfOk result (λ r. (p : Play) → RepresentsPlay self.old p → R.words fresh.old ≡ Some p.words → MatchOption r
-            ((find (is_ready graph.now node) p.choices ≡ None) × (self.new ≡ self.old) × (R.words fresh.new ≡ R.words fresh.old))
-            (λ a. HasActed self.new (R.words fresh.new) sid graph.now node p (outcome_of a.0) (option_copied a.1) (frames_made a.2))) }
+        ensures acted { IfOk result (λ r. (p : Play) → RepresentsPlay self.old p → R.random fresh.old ≡ Some p.random → MatchOption r
+            ((find (is_ready graph.now node) p.choices ≡ None) × (self.new ≡ self.old) × (R.random fresh.new ≡ R.random fresh.old))
+            (λ a. HasActed self.new (R.random fresh.new) sid graph.now node p (outcome_of a.0) (option_copied a.1) (frames_made a.2))) }
         ensures joins { OnOk result (KeepsJoins self.old.node self.new.node) }
         ensures memory { IfErr result (λ e. e ≡ PlayFault.OutOfMemory) }
     {
         let Some(choice) = self.choices.first(graph, node) else {
             return Ok(None);
         };
-        let words = match draw(self.alloc, fresh, choice.values.len()) {
-            Ok(words) => words,
+        let confounders = match draw(self.alloc, fresh, choice.values.len()) {
+            Ok(confounders) => confounders,
             Err(_) => return Err(PlayFault::OutOfMemory),
         };
         let asked = ask_act(
@@ -135,7 +135,7 @@ impl<'p> Player<'p> {
             sid,
             choice.label,
             choice.values.as_slice(),
-            words.as_slice(),
+            confounders.as_slice(),
         )?;
         self.choices.use_first(graph, node);
         Ok(Some(asked))

@@ -30,20 +30,20 @@ between_so images r run line reply t later goes e h = subst (RepresentBetween im
     ⊎_elim (λ x. inl x) (λ x. inr (t, subst (λ (y : Run). Represents image (joins_of y.serving)) (sym e) x)) (h image left))
 
 -- a request that asks nothing of the link but to take a frame
-pub plain : (images : List ℕ → Type 0) (sv : Server) (words : Option (List (List ℕ))) (coming : Option (List Coming)) (old new : ℕ) (r : Run) (line : Line) (reply : Reply) (res : Result Step ServeFault) → asks_quit line ≡ false
-    → ((took : Bool) → with_line took r line ≡ gives took r reply) → OnOk res (words ≡ Some (reply.0).play.words) → coming ≡ Some r.coming → Replied images r.serving sv reply res → CameToAnswer images sv words coming old new r line (some_ok res)
-plain images sv words coming old new r line reply (Ok step) goes e w c h = record {
+pub plain : (images : List ℕ → Type 0) (sv : Server) (random : Option (List (List ℕ))) (coming : Option (List Coming)) (old new : ℕ) (r : Run) (line : Line) (reply : Reply) (res : Result Step ServeFault) → asks_quit line ≡ false
+    → ((took : Bool) → with_line took r line ≡ gives took r reply) → OnOk res (random ≡ Some (reply.0).play.random) → coming ≡ Some r.coming → Replied images r.serving sv reply res → CameToAnswer images sv random coming old new r line (some_ok res)
+plain images sv random coming old new r line reply (Ok step) goes e w c h = record {
   run = r;
   reply = reply;
   goes_on = goes;
   replied = h;
-  words_left = w;
+  random_left = w;
   coming_left = c;
   answers = refl;
   failures = refl;
   fits = λ took quiet. (took, e took, refl, λ x. inl x);
 }
-plain images sv words coming old new r line reply (Err fault) goes e w c h = λ later. between_so images r r line reply true later goes (e true) h
+plain images sv random coming old new r line reply (Err fault) goes e w c h = λ later. between_so images r r line reply true later goes (e true) h
 
 -- ---- a wait
 
@@ -51,13 +51,13 @@ receipt_same : (got limited : Bool) (r : Run) → ((receipt got limited r).0.ans
 receipt_same true limited r = (refl, refl)
 receipt_same false limited r = (refl, refl)
 
-takes_words : (s : Serving) (found : Option (List ℕ)) → (takes s found).0.play.words ≡ s.play.words
-takes_words s None = refl
-takes_words s (Some bytes) = refl
+takes_random : (s : Serving) (found : Option (List ℕ)) → (takes s found).0.play.random ≡ s.play.random
+takes_random s None = refl
+takes_random s (Some bytes) = refl
 
-receipt_words : (got limited : Bool) (r : Run) → (receipt got limited r).1.0.play.words ≡ r.serving.play.words
-receipt_words true limited r = takes_words r.serving (received limited r.coming).0
-receipt_words false limited r = refl
+receipt_random : (got limited : Bool) (r : Run) → (receipt got limited r).1.0.play.random ≡ r.serving.play.random
+receipt_random true limited r = takes_random r.serving (received limited r.coming).0
+receipt_random false limited r = refl
 
 -- where there is no frame, it doesn't matter whether the link takes it
 same_quiet : (line : List ℕ) (frames : List (Addr × List ℕ)) → frames ≡ [] → given true (record { line = line; frames = frames }) ≡ given false (record { line = line; frames = frames })
@@ -70,20 +70,20 @@ given_quiet false false s e = refl
 given_quiet true false s e = same_quiet s.line s.frames e
 given_quiet false true s e = sym (same_quiet s.line s.frames e)
 
-pub waited : (images : List ℕ → Type 0) (sv : Server) (words : Option (List (List ℕ))) (coming : Option (List Coming)) (old new : ℕ) (r : Run) (line : Line) (limited : Bool) (res : Result Step ServeFault) → asks_quit line ≡ false
-    → ((took : Bool) → with_line took r line ≡ receives took limited r) → words ≡ Some r.serving.play.words → Received images sv coming old new r limited res → CameToAnswer images sv words coming old new r line (some_ok res)
-waited images sv words coming old new r line limited (Ok step) goes e w h = record {
+pub waited : (images : List ℕ → Type 0) (sv : Server) (random : Option (List (List ℕ))) (coming : Option (List Coming)) (old new : ℕ) (r : Run) (line : Line) (limited : Bool) (res : Result Step ServeFault) → asks_quit line ≡ false
+    → ((took : Bool) → with_line took r line ≡ receives took limited r) → random ≡ Some r.serving.play.random → Received images sv coming old new r limited res → CameToAnswer images sv random coming old new r line (some_ok res)
+waited images sv random coming old new r line limited (Ok step) goes e w h = record {
   run = (receipt h.got limited r).0;
   reply = (receipt h.got limited r).1;
   goes_on = goes;
   replied = h.replied;
-  words_left = w ∙ ap Some (sym (receipt_words h.got limited r));
+  random_left = w ∙ ap Some (sym (receipt_random h.got limited r));
   coming_left = h.coming_left;
   answers = (receipt_same h.got limited r).0;
   failures = (receipt_same h.got limited r).1;
   fits = λ took quiet. (h.got, e h.got, given_quiet h.got took (receipt h.got limited r).1.1 (ap (λ (s : Step). s.frames) (sym h.replied.is_step) ∙ h.quiet), λ x. inr (h.risen x));
 }
-waited images sv words coming old new r line limited (Err fault) goes e w h = λ later. between_so images r (receipt true limited r).0 line (receipt true limited r).1 true later goes (e true) h
+waited images sv random coming old new r line limited (Err fault) goes e w h = λ later. between_so images r (receipt true limited r).0 line (receipt true limited r).1 true later goes (e true) h
 
 -- ---- what a line asks
 

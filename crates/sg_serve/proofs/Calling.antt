@@ -10,7 +10,7 @@ use Rattle.sg_model.specs.Names.{Name}
 use Rattle.sg_model.specs.Values.{Value}
 use Rattle.sg_play.proofs.Called.{is_addressed}
 use Rattle.sg_play.specs.Asking.{addressed, sealed_in}
-use Rattle.sg_play.specs.Played.{Play, answer_in, cast_of_start, next_words, word}
+use Rattle.sg_play.specs.Played.{Play, answer_in, cast_of_start, next_confounders, next_random}
 use Rattle.sg_play.specs.Posting.{frames_made}
 use Rattle.sg_play.specs.Representation.{HasAsked, RepresentsPlay}
 use Rattle.sg_play.specs.Steps.{Step}
@@ -81,19 +81,19 @@ less_represents sv n s st = record {
 
 -- ---- an act
 
-pub acted : (sv new : Server) (pl : Player) (words : Option (List (List ℕ))) (sid : List ℕ) (label n : ℕ) (vs : Map Value) (ws : List (List ℕ)) (told : Option Reported) (graph : Option Graph) (frame : Option (Addr × (Name × List ℕ))) (r : Result Step ServeFault) → n ≡ length vs
-    → ((all : List (List ℕ)) → words ≡ Some all → ws ≡ next_words n all) → ((p : Play) → RepresentsPlay sv.player p → HasAsked pl p (Act sid label vs ws) told graph (frames_made frame))
+pub acted : (sv new : Server) (pl : Player) (random : Option (List (List ℕ))) (sid : List ℕ) (label n : ℕ) (vs : Map Value) (ws : List (List ℕ)) (told : Option Reported) (graph : Option Graph) (frame : Option (Addr × (Name × List ℕ))) (r : Result Step ServeFault) → n ≡ length vs
+    → ((all : List (List ℕ)) → random ≡ Some all → ws ≡ next_confounders n all) → ((p : Play) → RepresentsPlay sv.player p → HasAsked pl p (Act sid label vs ws) told graph (frames_made frame))
     → ((p : Play) → RepresentsPlay sv.player p → frame ≡ addressed p.past.keys (sealed_in (answer_in p (Act sid label vs ws))))
     → IfOk r (λ step. (s : Serving) (c : Call) → HasCalled (record sv { player = pl }) s c told graph frame → None ≡ sid_left c → HasReplied new step (calls s c))
-    → IfOk r (λ step. (s : Serving) → RepresentsServing sv s → words ≡ Some s.play.words → HasReplied new step (acts s sid label vs))
-acted sv new pl words sid label n vs ws told graph frame (Ok step) count drawn asked made h = λ s st w.
+    → IfOk r (λ step. (s : Serving) → RepresentsServing sv s → random ≡ Some s.play.random → HasReplied new step (acts s sid label vs))
+acted sv new pl random sid label n vs ws told graph frame (Ok step) count drawn asked made h = λ s st w.
     let m = length vs in
     let k = Act sid label vs ws in
     let q = less m s in
     let lst = less_represents sv m s st in
-    subst (λ (c : Call). HasReplied new step (calls (less m s) c)) (ap (Act sid label vs) (drawn s.play.words w ∙ ap (λ (i : ℕ). next_words i s.play.words) count))
+    subst (λ (c : Call). HasReplied new step (calls (less m s) c)) (ap (Act sid label vs) (drawn s.play.random w ∙ ap (λ (i : ℕ). next_confounders i s.play.random) count))
     (h q k (called_made sv pl q k told graph frame lst (asked q.play lst.player) (made q.play lst.player)) refl)
-acted sv new pl words sid label n vs ws told graph frame (Err f) count drawn asked made h = tt
+acted sv new pl random sid label n vs ws told graph frame (Err f) count drawn asked made h = tt
 
 pub not_twice : (b : Bool) → true ≡ b → false ≡ not b
 not_twice true e = refl
@@ -114,27 +114,27 @@ pub graph_is : (sv : Server) (s : Serving) (n : ℕ) → RepresentsServing sv s 
 graph_is sv s n st = ap (λ (gs : List (Option Graph)). unwrap_or (slice_get gs (n - 1)) None) st.graphs
 
 -- a reply by another name
-pub replied_by : (sv new : Server) (words : Option (List (List ℕ))) (a b : Serving → Reply) (r : Result Step ServeFault) → ((s : Serving) → RepresentsServing sv s → a s ≡ b s)
-    → IfOk r (λ step. (s : Serving) → RepresentsServing sv s → words ≡ Some s.play.words → HasReplied new step (a s)) → IfOk r (λ step. (s : Serving) → RepresentsServing sv s → words ≡ Some s.play.words → HasReplied new step (b s))
-replied_by sv new words a b (Ok step) e h = λ s st w. subst (λ (y : Reply). HasReplied new step y) (e s st) (h s st w)
-replied_by sv new words a b (Err f) e h = tt
+pub replied_by : (sv new : Server) (random : Option (List (List ℕ))) (a b : Serving → Reply) (r : Result Step ServeFault) → ((s : Serving) → RepresentsServing sv s → a s ≡ b s)
+    → IfOk r (λ step. (s : Serving) → RepresentsServing sv s → random ≡ Some s.play.random → HasReplied new step (a s)) → IfOk r (λ step. (s : Serving) → RepresentsServing sv s → random ≡ Some s.play.random → HasReplied new step (b s))
+replied_by sv new random a b (Ok step) e h = λ s st w. subst (λ (y : Reply). HasReplied new step y) (e s st) (h s st w)
+replied_by sv new random a b (Err f) e h = tt
 
-pub words_by : (sv : Server) (words left : Option (List (List ℕ))) (a b : Serving → Reply) (r : Result Step ServeFault) → ((s : Serving) → RepresentsServing sv s → a s ≡ b s)
-    → OnOk r ((s : Serving) → words ≡ Some s.play.words → left ≡ Some (a s).0.play.words) → OnOk r ((s : Serving) → RepresentsServing sv s → words ≡ Some s.play.words → left ≡ Some (b s).0.play.words)
-words_by sv words left a b (Ok step) e h = λ s st w. h s w ∙ ap (λ (y : Reply). Some y.0.play.words) (e s st)
-words_by sv words left a b (Err f) e h = tt
+pub random_by : (sv : Server) (random left : Option (List (List ℕ))) (a b : Serving → Reply) (r : Result Step ServeFault) → ((s : Serving) → RepresentsServing sv s → a s ≡ b s)
+    → OnOk r ((s : Serving) → random ≡ Some s.play.random → left ≡ Some (a s).0.play.random) → OnOk r ((s : Serving) → RepresentsServing sv s → random ≡ Some s.play.random → left ≡ Some (b s).0.play.random)
+random_by sv random left a b (Ok step) e h = λ s st w. h s w ∙ ap (λ (y : Reply). Some y.0.play.random) (e s st)
+random_by sv random left a b (Err f) e h = tt
 
 -- ---- a start
 
 -- there is no program of its graph's name
 pub no_start : (s : Serving) (start : ScriptStart) (now : List Program) (found : Option (Bor Program)) → option_copied found ≡ find (is_named start.graph) now → is_some found ≡ false → s.play.past.programs ≡ now → says s (wrong_text Unknown) ≡ starts s start
-no_start s start now None e none is = ap (λ (o : Option Program). option_map_or (λ p. calls (less 1 s) (Start (cast_of_start s.play.past.programs start (word s.play.words)))) o (says s (wrong_text Unknown))) (e ∙ ap (find (is_named start.graph)) (sym is))
+no_start s start now None e none is = ap (λ (o : Option Program). option_map_or (λ p. calls (less 1 s) (Start (cast_of_start s.play.past.programs start (next_random s.play.random)))) o (says s (wrong_text Unknown))) (e ∙ ap (find (is_named start.graph)) (sym is))
 no_start s start now (Some p) e none is = absurd (cc)
 
 -- there is one
 pub starts_is : (s : Serving) (start : ScriptStart) (now pl_now : List Program) (nonce : List ℕ) (found : Option (Bor Program)) → option_copied found ≡ find (is_named start.graph) now → is_some found ≡ true → s.play.past.programs ≡ now → s.play.past.programs ≡ pl_now
-    → nonce ≡ word s.play.words → calls (less 1 s) (Start (cast_of_start pl_now start nonce)) ≡ starts s start
+    → nonce ≡ next_random s.play.random → calls (less 1 s) (Start (cast_of_start pl_now start nonce)) ≡ starts s start
 starts_is s start now pl_now nonce None e some is pl_is w = absurd (cc)
 starts_is s start now pl_now nonce (Some p) e some is pl_is w =
     (λ i. calls (less 1 s) (Start (cast_of_start (sym pl_is i) start (w i))))
-    ∙ ap (λ (o : Option Program). option_map_or (λ p. calls (less 1 s) (Start (cast_of_start s.play.past.programs start (word s.play.words)))) o (says s (wrong_text Unknown))) (e ∙ ap (find (is_named start.graph)) (sym is))
+    ∙ ap (λ (o : Option Program). option_map_or (λ p. calls (less 1 s) (Start (cast_of_start s.play.past.programs start (next_random s.play.random)))) o (says s (wrong_text Unknown))) (e ∙ ap (find (is_named start.graph)) (sym is))

@@ -48,8 +48,8 @@ gave_on start old new r written sent l h = record {
 
 -- ---- an answer was given
 
-module _ (start old mid new : Outside) (words : Option (List (List ℕ))) (sv : Server) (r : Run) (line : Line) (step : Step) (gave : Gave start old r) (written : mid.written ≡ old.written) (sent : mid.sent ≡ old.sent)
-    (falls : old.failed ≤ mid.failed) (a : HasAnswer sv words mid.coming old.failed mid.failed r line step) (result : Result (Unit {0}) ServeFault) (g : Given mid new step result) where
+module _ (start old mid new : Outside) (random : Option (List (List ℕ))) (sv : Server) (r : Run) (line : Line) (step : Step) (gave : Gave start old r) (written : mid.written ≡ old.written) (sent : mid.sent ≡ old.sent)
+    (falls : old.failed ≤ mid.failed) (a : HasAnswer sv random mid.coming old.failed mid.failed r line step) (result : Result (Unit {0}) ServeFault) (g : Given mid new step result) where
   -- the way in which the line is answered that gives this
   way : (t : Bool) × (with_line t r line ≡ gives t a.run a.reply) × (given t a.reply.1 ≡ given g.took a.reply.1) × (t ≡ false → (g.took ≡ false) ⊎ HasRisen old.failed mid.failed)
   way = a.fits g.took (λ e. g.quiet (ap (λ (s : Step). s.frames) a.replied.is_step ∙ e))
@@ -76,7 +76,7 @@ module _ (start old mid new : Outside) (words : Option (List (List ℕ))) (sv : 
   line_so text h = appends_more start.written old.written new.written (lines_of r.answers) text gave.lines (λ before is. h before (written ∙ is))
 
   -- whole
-  pub agrees : Appends mid.written new.written (given g.took step).line → (t : Bool) × RepresentsServing sv (with_line t r line).serving × Agrees start new words (with_line t r line)
+  pub agrees : Appends mid.written new.written (given g.took step).line → (t : Bool) × RepresentsServing sv (with_line t r line).serving × Agrees start new random (with_line t r line)
   agrees h = (
     way.0,
     subst (λ (x : Run). RepresentsServing sv x.serving) (sym way.1) a.replied.represents,
@@ -86,7 +86,7 @@ module _ (start old mid new : Outside) (words : Option (List (List ℕ))) (sv : 
         frames = frames_so;
         failed = failed_so;
       };
-      words_left = a.words_left ∙ sym (ap (λ (x : Run). Some (x.serving).play.words) way.1);
+      random_left = a.random_left ∙ sym (ap (λ (x : Run). Some (x.serving).play.random) way.1);
       coming = g.coming ∙ a.coming_left ∙ sym (ap (λ (x : Run). Some x.coming) way.1);
     },
   )

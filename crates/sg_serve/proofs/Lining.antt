@@ -36,19 +36,19 @@ use Rattle.sg_serve.proofs.Replying.{none_called, replied_so, said}
 -- ---- words
 
 -- words that no request on a session takes
-pub session_words : (s : Serving) (o : Option (List ℕ)) (text : List ℕ) (f : List ℕ → Reply) → ((sid : List ℕ) → (f sid).0.play.words ≡ s.play.words) → (option_map_or f o (says s text)).0.play.words ≡ s.play.words
-session_words s None text f h = refl
-session_words s (Some sid) text f h = h sid
+pub session_random : (s : Serving) (o : Option (List ℕ)) (text : List ℕ) (f : List ℕ → Reply) → ((sid : List ℕ) → (f sid).0.play.random ≡ s.play.random) → (option_map_or f o (says s text)).0.play.random ≡ s.play.random
+session_random s None text f h = refl
+session_random s (Some sid) text f h = h sid
 
-again_words : (s : Serving) (o : Option SentFrame) (text : List ℕ) → (option_map_or (repeats s) o (says s text)).0.play.words ≡ s.play.words
-again_words s None text = refl
-again_words s (Some f) text = refl
+again_random : (s : Serving) (o : Option SentFrame) (text : List ℕ) → (option_map_or (repeats s) o (says s text)).0.play.random ≡ s.play.random
+again_random s None text = refl
+again_random s (Some f) text = refl
 
-pub of_again : (s : Serving) (n : ℕ) → s.play.words ≡ (of_session s n (sends_again s n)).0.play.words
-of_again s n = sym (session_words s (slice_get (sids_of s.play) (n - 1)) (unknown_text n) (sends_again s n) (λ sid. again_words s (frame_of s.last sid) (nothing_text n)))
+pub of_again : (s : Serving) (n : ℕ) → s.play.random ≡ (of_session s n (sends_again s n)).0.play.random
+of_again s n = sym (session_random s (slice_get (sids_of s.play) (n - 1)) (unknown_text n) (sends_again s n) (λ sid. again_random s (frame_of s.last sid) (nothing_text n)))
 
-pub of_says : (s : Serving) (n : ℕ) (text : List ℕ → List ℕ) → s.play.words ≡ (of_session s n (λ sid. says s (text sid))).0.play.words
-of_says s n text = sym (session_words s (slice_get (sids_of s.play) (n - 1)) (unknown_text n) (λ sid. says s (text sid)) (λ sid. refl))
+pub of_says : (s : Serving) (n : ℕ) (text : List ℕ → List ℕ) → s.play.random ≡ (of_session s n (λ sid. says s (text sid))).0.play.random
+of_says s n text = sym (session_random s (slice_get (sids_of s.play) (n - 1)) (unknown_text n) (λ sid. says s (text sid)) (λ sid. refl))
 
 -- what holds anyway on Ok
 pub on_ok : {T E : Type 0} (r : Result T E) (P : Type 0) → P → OnOk r P
@@ -109,31 +109,31 @@ wait_failed images sv coming old new r limited (Err fault) all st risen c h = no
 -- ---- a line
 
 -- a line whose form is wrong
-pub wrong_form : (images : List ℕ → Type 0) (sv : Server) (words : Option (List (List ℕ))) (coming : Option (List Coming)) (old new : ℕ) (r : Run) (line : Line) (res : Result Step ServeFault) → asks_quit line ≡ false → ((took : Bool) → with_line took r line ≡ gives took r (says r.serving (wrong_text Form)))
-    → AllRepresent images (joins_of r.serving) → RepresentsServing sv r.serving → words ≡ Some r.serving.play.words → coming ≡ Some r.coming → IfOk res (λ x. x ≡ record { line = wrong_text Form; frames = [] }) → CameToAnswer images sv words coming old new r line (some_ok res)
-wrong_form images sv words coming old new r line res goes e all st w c h =
-    plain images sv words coming old new r line (says r.serving (wrong_text Form)) res goes e (on_ok res _ w) c
+pub wrong_form : (images : List ℕ → Type 0) (sv : Server) (random : Option (List (List ℕ))) (coming : Option (List Coming)) (old new : ℕ) (r : Run) (line : Line) (res : Result Step ServeFault) → asks_quit line ≡ false → ((took : Bool) → with_line took r line ≡ gives took r (says r.serving (wrong_text Form)))
+    → AllRepresent images (joins_of r.serving) → RepresentsServing sv r.serving → random ≡ Some r.serving.play.random → coming ≡ Some r.coming → IfOk res (λ x. x ≡ record { line = wrong_text Form; frames = [] }) → CameToAnswer images sv random coming old new r line (some_ok res)
+wrong_form images sv random coming old new r line res goes e all st w c h =
+    plain images sv random coming old new r line (says r.serving (wrong_text Form)) res goes e (on_ok res _ w) c
     (replied_so images r.serving sv (says r.serving (wrong_text Form)) res (said sv r.serving (wrong_text Form) res st h) (none_called images r.serving (says r.serving (wrong_text Form)) all))
 
 -- bytes that are no request
-pub no_request : (images : List ℕ → Type 0) (sv : Server) (words : Option (List (List ℕ))) (coming : Option (List Coming)) (old new : ℕ) (r : Run) (bytes : List ℕ) (res : Result Step ServeFault) → None ≡ request_of bytes
-    → AllRepresent images (joins_of r.serving) → RepresentsServing sv r.serving → words ≡ Some r.serving.play.words → coming ≡ Some r.coming → IfOk res (λ x. x ≡ record { line = wrong_text Form; frames = [] }) → CameToAnswer images sv words coming old new r (Whole bytes) (some_ok res)
-no_request images sv words coming old new r bytes res e all st w c h =
-    wrong_form images sv words coming old new r (Whole bytes) res (ap (λ (o : Option Request). option_map_or is_quit o false) (sym e))
+pub no_request : (images : List ℕ → Type 0) (sv : Server) (random : Option (List (List ℕ))) (coming : Option (List Coming)) (old new : ℕ) (r : Run) (bytes : List ℕ) (res : Result Step ServeFault) → None ≡ request_of bytes
+    → AllRepresent images (joins_of r.serving) → RepresentsServing sv r.serving → random ≡ Some r.serving.play.random → coming ≡ Some r.coming → IfOk res (λ x. x ≡ record { line = wrong_text Form; frames = [] }) → CameToAnswer images sv random coming old new r (Whole bytes) (some_ok res)
+no_request images sv random coming old new r bytes res e all st w c h =
+    wrong_form images sv random coming old new r (Whole bytes) res (ap (λ (o : Option Request). option_map_or is_quit o false) (sym e))
     (λ took. ap (λ (o : Option Request). option_map_or (asked took r) o (gives took r (says r.serving (wrong_text Form)))) (sym e)) all st w c h
 
 -- a request for a delivery
-pub asked_wait : (images : List ℕ → Type 0) (sv : Server) (words : Option (List (List ℕ))) (coming : Option (List Coming)) (old new : ℕ) (r : Run) (bytes : List ℕ) (within : Option ℕ) (res : Result Step ServeFault) → Some (request.Receive within) ≡ request_of bytes
-    → words ≡ Some r.serving.play.words → Received images sv coming old new r (is_some within) res → CameToAnswer images sv words coming old new r (Whole bytes) (some_ok res)
-asked_wait images sv words coming old new r bytes within res e w h =
-    waited images sv words coming old new r (Whole bytes) (is_some within) res (ap (λ (o : Option Request). option_map_or is_quit o false) (sym e))
+pub asked_wait : (images : List ℕ → Type 0) (sv : Server) (random : Option (List (List ℕ))) (coming : Option (List Coming)) (old new : ℕ) (r : Run) (bytes : List ℕ) (within : Option ℕ) (res : Result Step ServeFault) → Some (request.Receive within) ≡ request_of bytes
+    → random ≡ Some r.serving.play.random → Received images sv coming old new r (is_some within) res → CameToAnswer images sv random coming old new r (Whole bytes) (some_ok res)
+asked_wait images sv random coming old new r bytes within res e w h =
+    waited images sv random coming old new r (Whole bytes) (is_some within) res (ap (λ (o : Option Request). option_map_or is_quit o false) (sym e))
     (λ took. ap (λ (o : Option Request). option_map_or (asked took r) o (gives took r (says r.serving (wrong_text Form)))) (sym e)) w h
 
 -- any other request
-pub asked_other : (images : List ℕ → Type 0) (sv : Server) (words : Option (List (List ℕ))) (coming : Option (List Coming)) (old new : ℕ) (r : Run) (bytes : List ℕ) (q : Request) (res : Result Step ServeFault) → Some q ≡ request_of bytes → (q ≡ request.Quit → ⊥) → ((within : Option ℕ) → q ≡ request.Receive within → ⊥)
-    → OnOk res (words ≡ Some (replies r.serving q).0.play.words) → coming ≡ Some r.coming → Replied images r.serving sv (replies r.serving q) res → CameToAnswer images sv words coming old new r (Whole bytes) (some_ok res)
-asked_other images sv words coming old new r bytes q res e not_end not_wait w c h =
-    plain images sv words coming old new r (Whole bytes) (replies r.serving q) res (ap (λ (o : Option Request). option_map_or is_quit o false) (sym e) ∙ not_quit q not_end)
+pub asked_other : (images : List ℕ → Type 0) (sv : Server) (random : Option (List (List ℕ))) (coming : Option (List Coming)) (old new : ℕ) (r : Run) (bytes : List ℕ) (q : Request) (res : Result Step ServeFault) → Some q ≡ request_of bytes → (q ≡ request.Quit → ⊥) → ((within : Option ℕ) → q ≡ request.Receive within → ⊥)
+    → OnOk res (random ≡ Some (replies r.serving q).0.play.random) → coming ≡ Some r.coming → Replied images r.serving sv (replies r.serving q) res → CameToAnswer images sv random coming old new r (Whole bytes) (some_ok res)
+asked_other images sv random coming old new r bytes q res e not_end not_wait w c h =
+    plain images sv random coming old new r (Whole bytes) (replies r.serving q) res (ap (λ (o : Option Request). option_map_or is_quit o false) (sym e) ∙ not_quit q not_end)
     (λ took. ap (λ (o : Option Request). option_map_or (asked took r) o (gives took r (says r.serving (wrong_text Form)))) (sym e) ∙ asked_plain took r q not_wait) w c h
 
 -- the line couldn't be read
@@ -158,6 +158,6 @@ some_failed (Ok step) x e d = absurd (let z = sym e ∙ d in cc)
 some_failed (Err fault) x e d = let y = sym e ∙ d in ap Err (let z : fault ≡ DiskFailed = (cc) in z)
 
 -- the line by another name, and the answer
-pub came_as : (images : List ℕ → Type 0) (sv : Server) (words : Option (List (List ℕ))) (coming : Option (List Coming)) (old new : ℕ) (r : Run) (a b : Line) (x y : Result (Option Step) ServeFault) → b ≡ a → y ≡ x → CameToAnswer images sv words coming old new r a x → CameToAnswer images sv words coming old new r b y
-came_as images sv words coming old new r a b x y e f h =
-    subst (λ (l : Line). CameToAnswer images sv words coming old new r l y) (sym e) (subst (λ (z : Result (Option Step) ServeFault). CameToAnswer images sv words coming old new r a z) (sym f) h)
+pub came_as : (images : List ℕ → Type 0) (sv : Server) (random : Option (List (List ℕ))) (coming : Option (List Coming)) (old new : ℕ) (r : Run) (a b : Line) (x y : Result (Option Step) ServeFault) → b ≡ a → y ≡ x → CameToAnswer images sv random coming old new r a x → CameToAnswer images sv random coming old new r b y
+came_as images sv random coming old new r a b x y e f h =
+    subst (λ (l : Line). CameToAnswer images sv random coming old new r l y) (sym e) (subst (λ (z : Result (Option Step) ServeFault). CameToAnswer images sv random coming old new r a z) (sym f) h)

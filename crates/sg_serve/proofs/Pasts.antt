@@ -118,8 +118,8 @@ module _ (keys : Keyring) (programs : List Program) (first : List Join) where
   }
 
 pub of_nodes : RunsAreOfNodes
-of_nodes keys programs first coming words lines =
-    as_run keys programs first (with_lines (opening keys programs first coming words) lines) (of_lines keys programs first (opening keys programs first coming words) lines (record { is_keys = refl; is_programs = refl; is_first = refl; answers = tt }))
+of_nodes keys programs first coming random lines =
+    as_run keys programs first (with_lines (opening keys programs first coming random) lines) (of_lines keys programs first (opening keys programs first coming random) lines (record { is_keys = refl; is_programs = refl; is_first = refl; answers = tt }))
 
 -- ---- a frame once more
 

@@ -22,21 +22,21 @@ lines_both : (r : Run) (xs ys : List (Line × Bool)) → with_lines r (xs ++ ys)
 lines_both r [] ys = refl
 lines_both r (x ∷ xs) ys = lines_both (with_line x.1 r x.0) xs ys
 
-pub serves_more : (start old new : Outside) (words0 words : Option (List (List ℕ))) (sv0 sv : Server) (first : Run) (all left : List Line) (line : Line) (h : Serves start old words0 sv0 first all (line ∷ left)) → asks_quit line ≡ false
-    → (t : Bool) × RepresentsServing sv (with_line t (with_lines first h.prefix) line).serving × Agrees start new words (with_line t (with_lines first h.prefix) line) → Serves start new words sv first all left
-serves_more start old new words0 words sv0 sv first all left line h goes x = record {
+pub serves_more : (start old new : Outside) (random0 random : Option (List (List ℕ))) (sv0 sv : Server) (first : Run) (all left : List Line) (line : Line) (h : Serves start old random0 sv0 first all (line ∷ left)) → asks_quit line ≡ false
+    → (t : Bool) × RepresentsServing sv (with_line t (with_lines first h.prefix) line).serving × Agrees start new random (with_line t (with_lines first h.prefix) line) → Serves start new random sv first all left
+serves_more start old new random0 random sv0 sv first all left line h goes x = record {
   prefix = h.prefix ++ (line, x.0) ∷ [];
   is = h.is ∙ ap (λ (ls : List Line). map (λ (y : Line × Bool). y.0) h.prefix ++ ls) (goes_behind line left goes)
       ∙ sym (append_assoc (map (λ (y : Line × Bool). y.0) h.prefix) (line ∷ []) (until_quit left))
       ∙ ap (λ (ls : List Line). ls ++ until_quit left) (sym (map-append (λ (y : Line × Bool). y.0) h.prefix ((line, x.0) ∷ [])));
   represents = subst (λ (r : Run). RepresentsServing sv r.serving) (sym (lines_both first h.prefix ((line, x.0) ∷ []))) x.1;
-  agrees = subst (λ (r : Run). Agrees start new words r) (sym (lines_both first h.prefix ((line, x.0) ∷ []))) x.2;
+  agrees = subst (λ (r : Run). Agrees start new random r) (sym (lines_both first h.prefix ((line, x.0) ∷ []))) x.2;
 }
 
 -- the run ended there
-pub served_at : (start old new : Outside) (words0 words : Option (List (List ℕ))) (images : List ℕ → Type 0) (sv : Server) (first : Run) (all left : List Line) (result : Result (Unit {0}) ServeFault) (h : Serves start old words0 sv first all left)
-    → EndedAt start new words images (with_lines first h.prefix) (until_quit left) result → Served start new words images first all result
-served_at start old new words0 words images sv first all left result h e = record { prefix = h.prefix; rest = until_quit left; is = h.is; ended = e }
+pub served_at : (start old new : Outside) (random0 random : Option (List (List ℕ))) (images : List ℕ → Type 0) (sv : Server) (first : Run) (all left : List Line) (result : Result (Unit {0}) ServeFault) (h : Serves start old random0 sv first all left)
+    → EndedAt start new random images (with_lines first h.prefix) (until_quit left) result → Served start new random images first all result
+served_at start old new random0 random images sv first all left result h e = record { prefix = h.prefix; rest = until_quit left; is = h.is; ended = e }
 
 -- ---- a run begins
 
@@ -55,19 +55,19 @@ holds_first sv ledger may_leave keys programs is st works all = record {
 }
 
 -- the joins of the ledger are those of a run that begins
-pub represent_first : (images : List ℕ → Type 0) (keys : Keyring) (programs : List Program) (first : List Join) (coming : List Coming) (words : List (List ℕ)) → AllRepresent images first → AllRepresent images (joins_of (opening keys programs first coming words).serving)
-represent_first images keys programs first coming words all = subst (AllRepresent images) (sym (append-nil first)) all
+pub represent_first : (images : List ℕ → Type 0) (keys : Keyring) (programs : List Program) (first : List Join) (coming : List Coming) (random : List (List ℕ)) → AllRepresent images first → AllRepresent images (joins_of (opening keys programs first coming random).serving)
+represent_first images keys programs first coming random all = subst (AllRepresent images) (sym (append-nil first)) all
 
 -- nothing was given
-pub gave_none : (o : Outside) (keys : Keyring) (programs : List Program) (first : List Join) (coming : List Coming) (words : List (List ℕ)) → Gave o o (opening keys programs first coming words)
-gave_none o keys programs first coming words = record { lines = kept o.written o.written refl; frames = kept o.sent o.sent refl; failed = rose_none o.failed }
+pub gave_none : (o : Outside) (keys : Keyring) (programs : List Program) (first : List Join) (coming : List Coming) (random : List (List ℕ)) → Gave o o (opening keys programs first coming random)
+gave_none o keys programs first coming random = record { lines = kept o.written o.written refl; frames = kept o.sent o.sent refl; failed = rose_none o.failed }
 
 -- memory ran out before its first line
-pub not_begun : (o : Outside) (left : Option (List (List ℕ))) (images : List ℕ → Type 0) (keys : Keyring) (programs : List Program) (first : List Join) (coming : List Coming) (words : List (List ℕ)) (lines : List Line) (f : ServeFault) → f ≡ OutOfMemory → AllRepresent images first
-    → Served o o left images (opening keys programs first coming words) lines (Err f)
-not_begun o left images keys programs first coming words lines f e all = subst (λ (x : ServeFault). Served o o left images (opening keys programs first coming words) lines (Err x)) (sym e) (record {
+pub not_begun : (o : Outside) (left : Option (List (List ℕ))) (images : List ℕ → Type 0) (keys : Keyring) (programs : List Program) (first : List Join) (coming : List Coming) (random : List (List ℕ)) (lines : List Line) (f : ServeFault) → f ≡ OutOfMemory → AllRepresent images first
+    → Served o o left images (opening keys programs first coming random) lines (Err f)
+not_begun o left images keys programs first coming random lines f e all = subst (λ (x : ServeFault). Served o o left images (opening keys programs first coming random) lines (Err x)) (sym e) (record {
   prefix = [];
   rest = until_quit lines;
   is = refl;
-  ended = record { gave = gave_none o keys programs first coming words; kept = between_all images (opening keys programs first coming words) (until_quit lines) (represent_first images keys programs first coming words all) };
+  ended = record { gave = gave_none o keys programs first coming random; kept = between_all images (opening keys programs first coming random) (until_quit lines) (represent_first images keys programs first coming random all) };
 })

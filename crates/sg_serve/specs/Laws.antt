@@ -20,7 +20,7 @@ pub record IsOfNode (keys : Keyring) (programs : List Program) (first : List Joi
 
 -- So it is in each run, whatever the lines are and whatever the link does
 abbrev pub RunsAreOfNodes : Type 0
-RunsAreOfNodes = (keys : Keyring) (programs : List Program) (first : List Join) (coming : List Coming) (words : List (List ℕ)) (lines : List (Line × Bool)) → IsOfNode keys programs first (with_lines (opening keys programs first coming words) lines)
+RunsAreOfNodes = (keys : Keyring) (programs : List Program) (first : List Join) (coming : List Coming) (random : List (List ℕ)) (lines : List (Line × Bool)) → IsOfNode keys programs first (with_lines (opening keys programs first coming random) lines)
 
 -- A frame that is sent again makes no call, takes no word, and changes nothing of the state
 abbrev pub AgainChangesNothing : Type 0

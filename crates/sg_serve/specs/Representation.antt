@@ -105,22 +105,22 @@ Fits r line run reply old new = (took : Bool) → (reply.1.frames ≡ [] → too
     → (t : Bool) × (with_line t r line ≡ gives t run reply) × (given t reply.1 ≡ given took reply.1) × (t ≡ false → (took ≡ false) ⊎ HasRisen old new)
 
 -- the server represents the state after a line, and this is its answer, which is to be given. Counts of the link's faults from before and after
-pub record HasAnswer (sv : Server) (words : Option (List (List ℕ))) (coming : Option (List Coming)) (old new : ℕ) (r : Run) (line : Line) (step : Step) : Type 0 where
+pub record HasAnswer (sv : Server) (random : Option (List (List ℕ))) (coming : Option (List Coming)) (old new : ℕ) (r : Run) (line : Line) (step : Step) : Type 0 where
   pub run : Run
   pub reply : Reply
   pub goes_on : asks_quit line ≡ false
   pub replied : HasReplied sv step reply
-  pub words_left : words ≡ Some (reply.0).play.words
+  pub random_left : random ≡ Some (reply.0).play.random
   pub coming_left : coming ≡ Some run.coming
   pub answers : run.answers ≡ r.answers
   pub failures : run.failures ≡ r.failures
   pub fits : Fits r line run reply old new
 
 -- the line asks for the end, and nothing has changed
-pub record HasEnded (sv : Server) (words : Option (List (List ℕ))) (coming : Option (List Coming)) (r : Run) (line : Line) : Type 0 where
+pub record HasEnded (sv : Server) (random : Option (List (List ℕ))) (coming : Option (List Coming)) (r : Run) (line : Line) : Type 0 where
   pub ends : asks_quit line ≡ true
   pub represents : RepresentsServing sv r.serving
-  pub words_left : words ≡ Some (r.serving).play.words
+  pub random_left : random ≡ Some (r.serving).play.random
   pub coming_left : coming ≡ Some r.coming
 
 -- a wait came to a reply: the link gave a delivery, or nothing, or failed; or the wait or the call of the delivery failed
@@ -141,20 +141,20 @@ some_ok (Ok step) = Ok (Some step)
 some_ok (Err fault) = Err fault
 
 -- a line came to an answer, or to the end; or it failed
-abbrev pub CameToAnswer : (images : List ℕ → Type 0) → Server → (words : Option (List (List ℕ))) → (coming : Option (List Coming)) → (old new : ℕ) → Run → Line → Result (Option Step) ServeFault → Type 0
-CameToAnswer images sv words coming old new r line (Ok (Some step)) = HasAnswer sv words coming old new r line step
-CameToAnswer images sv words coming old new r line (Ok None) = HasEnded sv words coming r line
-CameToAnswer images sv words coming old new r line (Err fault) = (later : List Line) → RepresentBetween images r (until_quit (line ∷ later))
+abbrev pub CameToAnswer : (images : List ℕ → Type 0) → Server → (random : Option (List (List ℕ))) → (coming : Option (List Coming)) → (old new : ℕ) → Run → Line → Result (Option Step) ServeFault → Type 0
+CameToAnswer images sv random coming old new r line (Ok (Some step)) = HasAnswer sv random coming old new r line step
+CameToAnswer images sv random coming old new r line (Ok None) = HasEnded sv random coming r line
+CameToAnswer images sv random coming old new r line (Err fault) = (later : List Line) → RepresentBetween images r (until_quit (line ∷ later))
 
 -- a line was answered, or it asks for the end; or the run ended at it, whatever lines were to follow
-abbrev pub Answered : (start now : Outside) → (words : Option (List (List ℕ))) → (images : List ℕ → Type 0) → Server → Run → Line → Result Bool ServeFault → Type 0
-Answered start now words images sv r line (Ok true) = (asks_quit line ≡ false) × ((t : Bool) × RepresentsServing sv (with_line t r line).serving × Agrees start now words (with_line t r line))
-Answered start now words images sv r line (Ok false) = (asks_quit line ≡ true) × RepresentsServing sv r.serving × Agrees start now words r
-Answered start now words images sv r line (Err fault) = (later : List Line) → EndedAt start now words images r (until_quit (line ∷ later)) (Err fault)
+abbrev pub Answered : (start now : Outside) → (random : Option (List (List ℕ))) → (images : List ℕ → Type 0) → Server → Run → Line → Result Bool ServeFault → Type 0
+Answered start now random images sv r line (Ok true) = (asks_quit line ≡ false) × ((t : Bool) × RepresentsServing sv (with_line t r line).serving × Agrees start now random (with_line t r line))
+Answered start now random images sv r line (Ok false) = (asks_quit line ≡ true) × RepresentsServing sv r.serving × Agrees start now random r
+Answered start now random images sv r line (Err fault) = (later : List Line) → EndedAt start now random images r (until_quit (line ∷ later)) (Err fault)
 
 -- the server has answered the first of these lines, and these are left
-pub record Serves (start now : Outside) (words : Option (List (List ℕ))) (sv : Server) (first : Run) (all left : List Line) : Type 0 where
+pub record Serves (start now : Outside) (random : Option (List (List ℕ))) (sv : Server) (first : Run) (all left : List Line) : Type 0 where
   pub prefix : List (Line × Bool)
   pub is : until_quit all ≡ map (λ x. x.0) prefix ++ until_quit left
   pub represents : RepresentsServing sv (with_lines first prefix).serving
-  pub agrees : Agrees start now words (with_lines first prefix)
+  pub agrees : Agrees start now random (with_lines first prefix)

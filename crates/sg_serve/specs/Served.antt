@@ -34,9 +34,9 @@ pub record Gave (old new : Outside) (r : Run) : Type 0 where
   pub failed : RoseBy r.failures old.failed new.failed
 
 -- and the words that are left, and what is to come, are as it says
-pub record Agrees (old new : Outside) (words : Option (List (List ℕ))) (r : Run) : Type 0 where
+pub record Agrees (old new : Outside) (random : Option (List (List ℕ))) (r : Run) : Type 0 where
   pub gave : Gave old new r
-  pub words_left : words ≡ Some (r.serving).play.words
+  pub random_left : random ≡ Some (r.serving).play.random
   pub coming : new.coming ≡ Some r.coming
 
 -- so with the next line, of whose answer a prefix was written
@@ -84,27 +84,27 @@ pub record HasBegun (old new : Outside) (images : List ℕ → Type 0) (r : Run)
   pub kept : AllRepresent images (joins_of (with_line took r line).serving)
 
 -- a run that has come so far, with these lines before it, ended there
-abbrev pub EndedAt : (old new : Outside) → (words : Option (List (List ℕ))) → (images : List ℕ → Type 0) → Run → (rest : List Line) → Result (Unit {0}) ServeFault → Type 0
-EndedAt old new words images r rest (Ok u) = (rest ≡ []) × Agrees old new words r × AllRepresent images (joins_of r.serving)
-EndedAt old new words images r rest (Err InputFailed) = Gave old new r × AllRepresent images (joins_of r.serving)
-EndedAt old new words images r rest (Err WriteFailed) = HasBegun old new images r rest
-EndedAt old new words images r rest (Err DiskFailed) = HasStopped old new images r rest
-EndedAt old new words images r rest (Err OutOfMemory) = HasStopped old new images r rest
+abbrev pub EndedAt : (old new : Outside) → (random : Option (List (List ℕ))) → (images : List ℕ → Type 0) → Run → (rest : List Line) → Result (Unit {0}) ServeFault → Type 0
+EndedAt old new random images r rest (Ok u) = (rest ≡ []) × Agrees old new random r × AllRepresent images (joins_of r.serving)
+EndedAt old new random images r rest (Err InputFailed) = Gave old new r × AllRepresent images (joins_of r.serving)
+EndedAt old new random images r rest (Err WriteFailed) = HasBegun old new images r rest
+EndedAt old new random images r rest (Err DiskFailed) = HasStopped old new images r rest
+EndedAt old new random images r rest (Err OutOfMemory) = HasStopped old new images r rest
 
 -- ---- a run
 
 -- a node with these keys and programs, which joined these pairs before, and nothing answered yet
-abbrev pub opening : Keyring → List Program → (first : List Join) → List Coming → (words : List (List ℕ)) → Run
-opening keys programs first coming words = record {
-  serving = record { play = beginning keys programs first [] words; graphs = []; last = [] };
+abbrev pub opening : Keyring → List Program → (first : List Join) → List Coming → (random : List (List ℕ)) → Run
+opening keys programs first coming random = record {
+  serving = record { play = beginning keys programs first [] random; graphs = []; last = [] };
   coming = coming;
   answers = [];
   failures = 0;
 }
 
 -- a run of these lines: the first of them up to the end that is asked for were answered, where it ended well all of these
-pub record Served (old new : Outside) (words : Option (List (List ℕ))) (images : List ℕ → Type 0) (start : Run) (lines : List Line) (result : Result (Unit {0}) ServeFault) : Type 0 where
+pub record Served (old new : Outside) (random : Option (List (List ℕ))) (images : List ℕ → Type 0) (start : Run) (lines : List Line) (result : Result (Unit {0}) ServeFault) : Type 0 where
   pub prefix : List (Line × Bool)
   pub rest : List Line
   pub is : until_quit lines ≡ map (λ x. x.0) prefix ++ rest
-  pub ended : EndedAt old new words images (with_lines start prefix) rest result
+  pub ended : EndedAt old new random images (with_lines start prefix) rest result

@@ -10,7 +10,7 @@ use Rattle.sg_model.specs.Last.{Map}
 use Rattle.sg_model.specs.Names.{Name}
 use Rattle.sg_model.specs.Values.{Value}
 use Rattle.sg_play.specs.Asking.{addressed, sealed_in}
-use Rattle.sg_play.specs.Played.{Play, answer_in, called, cast_of_start, next_words, step_in, without, word}
+use Rattle.sg_play.specs.Played.{Play, answer_in, called, cast_of_start, next_confounders, step_in, without, next_random}
 use Rattle.sg_play.specs.Steps.{Step, frames_of, met_in}
 use Rattle.sg_program.specs.Together.{is_named}
 use Rattle.sg_protocol.specs.Calls.{Call, Start, Act, Abandon, Deliver}
@@ -112,11 +112,11 @@ less n s = record s { play = without n s.play }
 
 -- a start, with the next word as its nonce, where there is a program of its graph's name
 abbrev pub starts : Serving → ScriptStart → Reply
-starts s start = option_map_or (λ p. calls (less 1 s) (Start (cast_of_start s.play.past.programs start (word s.play.words)))) (find (is_named start.graph) s.play.past.programs) (says s (wrong_text Unknown))
+starts s start = option_map_or (λ p. calls (less 1 s) (Start (cast_of_start s.play.past.programs start (next_random s.play.random)))) (find (is_named start.graph) s.play.past.programs) (says s (wrong_text Unknown))
 
 -- an act of these values, with a word to hide each of them
 abbrev pub acts : Serving → (sid : List ℕ) → (label : ℕ) → Map Value → Reply
-acts s sid label values = calls (less (length values) s) (Act sid label values (next_words (length values) s.play.words))
+acts s sid label values = calls (less (length values) s) (Act sid label values (next_confounders (length values) s.play.random))
 
 -- an act as it is given, by the graph of its session: with variables of the graph alone, each of them once
 abbrev pub acts_if : Serving → (sid : List ℕ) → Option Graph → List Assignment → (label : ℕ) → Reply

@@ -40,8 +40,8 @@ impl<'p> Server<'p> {
         ensures causes { IfErr result (λ e. (e ≡ ServeFault.DiskFailed) ⊎ (e ≡ ServeFault.OutOfMemory)) }
         ensures same { OnOk result (is_some self.new.ledger ≡ is_some self.old.ledger) }
         ensures holds { OnOk result (HoldsJoins self.new (D.may_leave disk.new)) }
-        ensures words { OnOk result ((s : Serving) → RepresentsServing self.old s → R.words fresh.old ≡ Some s.play.words → R.words fresh.new ≡ Some (starts s start_of.now).0.play.words) }
-        ensures replied { (s : Serving) → RepresentsServing self.old s → R.words fresh.old ≡ Some s.play.words
+        ensures random { OnOk result ((s : Serving) → RepresentsServing self.old s → R.random fresh.old ≡ Some s.play.random → R.random fresh.new ≡ Some (starts s start_of.now).0.play.random) }
+        ensures replied { (s : Serving) → RepresentsServing self.old s → R.random fresh.old ≡ Some s.play.random
             → Replied (images_if (is_some self.old.ledger) (D.may_leave disk.new)) s self.new (starts s start_of.now) result }
     {
         if self.programs.by_name(&start_of.graph).is_none() {
@@ -105,8 +105,8 @@ impl<'p> Server<'p> {
         requires given { IsTrue (list_all is_given values.now) }
         ensures joins { OnOk result (KeepsJoins self.old.player.node self.new.player.node) }
         ensures ledger { OnOk result (self.new.ledger ≡ self.old.ledger) }
-        ensures replied { IfOk result (λ step. (s : Serving) → RepresentsServing self.old s → R.words fresh.old ≡ Some s.play.words → HasReplied self.new step (of_session s number (λ sid. acts_by s sid (graph_at s number) label.now values.now))) }
-        ensures words { OnOk result ((s : Serving) → RepresentsServing self.old s → R.words fresh.old ≡ Some s.play.words → R.words fresh.new ≡ Some (of_session s number (λ sid. acts_by s sid (graph_at s number) label.now values.now)).0.play.words) }
+        ensures replied { IfOk result (λ step. (s : Serving) → RepresentsServing self.old s → R.random fresh.old ≡ Some s.play.random → HasReplied self.new step (of_session s number (λ sid. acts_by s sid (graph_at s number) label.now values.now))) }
+        ensures random { OnOk result ((s : Serving) → RepresentsServing self.old s → R.random fresh.old ≡ Some s.play.random → R.random fresh.new ≡ Some (of_session s number (λ sid. acts_by s sid (graph_at s number) label.now values.now)).0.play.random) }
         ensures memory { IfErr result (λ e. e ≡ ServeFault.OutOfMemory) }
     {
         let Some(sid) = self.sid(number) else {
@@ -140,14 +140,14 @@ impl<'p> Server<'p> {
     ) -> Result<Reply, ServeFault>
         ensures joins { OnOk result (KeepsJoins self.old.player.node self.new.player.node) }
         ensures ledger { OnOk result (self.new.ledger ≡ self.old.ledger) }
-        ensures replied { IfOk result (λ step. (s : Serving) → RepresentsServing self.old s → R.words fresh.old ≡ Some s.play.words → HasReplied self.new step (acts s sid label (values_of values.now))) }
-        ensures words { OnOk result ((s : Serving) → R.words fresh.old ≡ Some s.play.words → R.words fresh.new ≡ Some (acts s sid label (values_of values.now)).0.play.words) }
+        ensures replied { IfOk result (λ step. (s : Serving) → RepresentsServing self.old s → R.random fresh.old ≡ Some s.play.random → HasReplied self.new step (acts s sid label (values_of values.now))) }
+        ensures random { OnOk result ((s : Serving) → R.random fresh.old ≡ Some s.play.random → R.random fresh.new ≡ Some (acts s sid label (values_of values.now)).0.play.random) }
         ensures memory { IfErr result (λ e. e ≡ ServeFault.OutOfMemory) }
     {
-        let Ok(words) = draw(self.alloc, fresh, values.len()) else {
+        let Ok(drawn) = draw(self.alloc, fresh, values.len()) else {
             return Err(ServeFault::OutOfMemory);
         };
-        match self.player.ask_act(sid, label, values, words.as_slice()) {
+        match self.player.ask_act(sid, label, values, drawn.as_slice()) {
             Ok((outcome, graph, frame)) => self.tell(&None, &outcome, graph, frame),
             Err(_) => Err(ServeFault::OutOfMemory),
         }

@@ -39,8 +39,8 @@ impl<'p> Server<'p> {
         ensures sent { L.sent link.new ≡ L.sent link.old }
         ensures same { OnOk result (is_some self.new.ledger ≡ is_some self.old.ledger) }
         ensures holds { OnOk result (HoldsJoins self.new (D.may_leave disk.new)) }
-        ensures answered { (r : Run) → RepresentsServing self.old r.serving → R.words fresh.old ≡ Some r.serving.play.words → L.coming link.old ≡ Some r.coming
-            → CameToAnswer (images_if (is_some self.old.ledger) (D.may_leave disk.new)) self.new (R.words fresh.new) (L.coming link.new) (L.faults link.old) (L.faults link.new) r (found_line (option_copied line.entry)) result }
+        ensures answered { (r : Run) → RepresentsServing self.old r.serving → R.random fresh.old ≡ Some r.serving.play.random → L.coming link.old ≡ Some r.coming
+            → CameToAnswer (images_if (is_some self.old.ledger) (D.may_leave disk.new)) self.new (R.random fresh.new) (L.coming link.new) (L.faults link.old) (L.faults link.new) r (found_line (option_copied line.entry)) result }
     {
         let Some(bytes) = line else {
             return some_reply(say_wrong(self.alloc, Wrong::Form));
@@ -98,8 +98,8 @@ impl<'p> Server<'p> {
         ensures causes { IfErr result (λ e. (e ≡ ServeFault.DiskFailed) ⊎ (e ≡ ServeFault.OutOfMemory)) }
         ensures same { OnOk result (is_some self.new.ledger ≡ is_some self.old.ledger) }
         ensures holds { OnOk result (HoldsJoins self.new (D.may_leave disk.new)) }
-        ensures words { OnOk result ((s : Serving) → RepresentsServing self.old s → R.words fresh.old ≡ Some s.play.words → R.words fresh.new ≡ Some (replies s request.entry).0.play.words) }
-        ensures replied { (s : Serving) → RepresentsServing self.old s → R.words fresh.old ≡ Some s.play.words
+        ensures random { OnOk result ((s : Serving) → RepresentsServing self.old s → R.random fresh.old ≡ Some s.play.random → R.random fresh.new ≡ Some (replies s request.entry).0.play.random) }
+        ensures replied { (s : Serving) → RepresentsServing self.old s → R.random fresh.old ≡ Some s.play.random
             → Replied (images_if (is_some self.old.ledger) (D.may_leave disk.new)) s self.new (replies s request.entry) result }
     {
         match request {

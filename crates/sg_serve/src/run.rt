@@ -43,9 +43,9 @@ impl<'p> Server<'p> {
         ensures input_failed { result ≡ Err ServeFault.InputFailed → HasRisen (I.faults input.old) (I.faults input.new) }
         ensures served { (r : Run) (lines : List Line) → RepresentsServing self.old r.serving → lines_left reader.old.unread (I.coming input.old) ≡ Some lines
             → Agrees (record { written = O.written out.old; sent = L.sent link.old; coming = L.coming link.old; failed = L.faults link.old })
-            (record { written = O.written out.old; sent = L.sent link.old; coming = L.coming link.old; failed = L.faults link.old }) (R.words fresh.old) r
+            (record { written = O.written out.old; sent = L.sent link.old; coming = L.coming link.old; failed = L.faults link.old }) (R.random fresh.old) r
             → Served (record { written = O.written out.old; sent = L.sent link.old; coming = L.coming link.old; failed = L.faults link.old })
-            (record { written = O.written out.new; sent = L.sent link.new; coming = L.coming link.new; failed = L.faults link.new }) (R.words fresh.new)
+            (record { written = O.written out.new; sent = L.sent link.new; coming = L.coming link.new; failed = L.faults link.new }) (R.random fresh.new)
             (images_if (is_some self.old.ledger) (D.may_leave disk.new)) r lines result }
     {
         for _line in 0..u64::MAX {
@@ -88,8 +88,8 @@ impl<'p> Server<'p> {
         ensures same { OnOk result (is_some self.new.ledger ≡ is_some self.old.ledger) }
         ensures holds { OnOk result (HoldsJoins self.new (D.may_leave disk.new)) }
         ensures answered { (r : Run) (start : Outside) → RepresentsServing self.old r.serving
-            → Agrees start (record { written = O.written out.old; sent = L.sent link.old; coming = L.coming link.old; failed = L.faults link.old }) (R.words fresh.old) r
-            → Answered start (record { written = O.written out.new; sent = L.sent link.new; coming = L.coming link.new; failed = L.faults link.new }) (R.words fresh.new)
+            → Agrees start (record { written = O.written out.old; sent = L.sent link.old; coming = L.coming link.old; failed = L.faults link.old }) (R.random fresh.old) r
+            → Answered start (record { written = O.written out.new; sent = L.sent link.new; coming = L.coming link.new; failed = L.faults link.new }) (R.random fresh.new)
             (images_if (is_some self.old.ledger) (D.may_leave disk.new)) self.new r (found_line (option_copied line.entry)) result }
     {
         match self.answer(line, link, fresh, disk) {
@@ -135,10 +135,10 @@ pub fn serve<'p, I: Input, L: TimedLink, R: Fresh, O: Sink, D: Disk>(
 
     // Where the input, the link and the source tell what is to come: what was written and sent is what the lines of the input come to, up to
     // where it ended, and what a crash leaves of the disk is the ledger with the joins of their calls.
-    ensures served { (bytes : List ℕ) (coming : List Coming) (words : List (List ℕ)) → I.coming input.old ≡ Some bytes → L.coming link.old ≡ Some coming → R.words fresh.old ≡ Some words
+    ensures served { (bytes : List ℕ) (coming : List Coming) (random : List (List ℕ)) → I.coming input.old ≡ Some bytes → L.coming link.old ≡ Some coming → R.random fresh.old ≡ Some random
         → Served (record { written = O.written out.old; sent = L.sent link.old; coming = L.coming link.old; failed = L.faults link.old })
-        (record { written = O.written out.new; sent = L.sent link.new; coming = L.coming link.new; failed = L.faults link.new }) (R.words fresh.new)
-        (images_if (is_some ledger) (D.may_leave disk.new)) (opening keys.entry.now programs.entry.now (joins_kept ledger) coming words) (lines_of bytes) result }
+        (record { written = O.written out.new; sent = L.sent link.new; coming = L.coming link.new; failed = L.faults link.new }) (R.random fresh.new)
+        (images_if (is_some ledger) (D.may_leave disk.new)) (opening keys.entry.now programs.entry.now (joins_kept ledger) coming random) (lines_of bytes) result }
 {
     let Ok(mut reader) = LineReader::new(alloc) else {
         return Err(ServeFault::OutOfMemory);

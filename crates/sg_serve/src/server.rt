@@ -46,7 +46,7 @@ impl<'p> Server<'p> {
         ledger: Option<Ledger>,
     ) -> Result<Server<'p>, ServeFault>
         requires { node ≡ new_state keys.now programs.now (joins_kept ledger) }
-        ensures represents { IfOk result (λ sv. (words : List (List ℕ)) → RepresentsServing sv (record { play = beginning keys.entry.now programs.entry.now (joins_kept ledger) [] words; graphs = []; last = [] })) }
+        ensures represents { IfOk result (λ sv. (random : List (List ℕ)) → RepresentsServing sv (record { play = beginning keys.entry.now programs.entry.now (joins_kept ledger) [] random; graphs = []; last = [] })) }
         ensures ledger { IfOk result (λ sv. sv.ledger ≡ ledger) }
         ensures memory { IfErr result (λ e. e ≡ ServeFault.OutOfMemory) }
     {

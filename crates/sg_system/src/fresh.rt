@@ -24,12 +24,12 @@ impl OsFresh {
 impl Fresh for OsFresh {
     ghost use Rattle.std.specs.Prelude.{None};
 
-    ghost words = { λ _. None };
+    ghost random = { λ _. None };
 
     fn next(&mut self) -> [u8; 16] {
-        let mut word = [0u8; 16];
-        self.rng.fill_bytes(&mut word);
-        word
+        let mut draw = [0u8; 16];
+        self.rng.fill_bytes(&mut draw);
+        draw
     }
 }
 
@@ -41,19 +41,19 @@ mod tests {
 
     // The next 64 words of a generator.
     fn drawn(alloc: Global, fresh: &mut OsFresh) -> Result<Vec<[u8; 16]>, OutOfMemory> {
-        let mut words = Vec::new(alloc);
+        let mut draws = Vec::new(alloc);
         for _ in 0..64u8 {
-            words.push(fresh.next())?;
+            draws.push(fresh.next())?;
         }
-        Ok(words)
+        Ok(draws)
     }
 
     // The bits that are 1 in one of the words, and those that are 0 in one.
-    fn bits(words: &[[u8; 16]]) -> (u128, u128) {
+    fn bits(draws: &[[u8; 16]]) -> (u128, u128) {
         let mut ones = 0u128;
         let mut zeros = 0u128;
-        for word in words {
-            let bits = u128::from_le_bytes(*word);
+        for draw in draws {
+            let bits = u128::from_le_bytes(*draw);
             ones |= bits;
             zeros |= !bits;
         }
@@ -61,10 +61,10 @@ mod tests {
     }
 
     // How many of the words are this one.
-    fn count(words: &[[u8; 16]], wanted: &[u8; 16]) -> u32 {
+    fn count(draws: &[[u8; 16]], wanted: &[u8; 16]) -> u32 {
         let mut found = 0u32;
-        for word in words {
-            if word == wanted {
+        for draw in draws {
+            if draw == wanted {
                 found = found.saturating_add(1);
             }
         }
@@ -78,13 +78,13 @@ mod tests {
             assert!(rt; false);
             return Ok(());
         };
-        let mut words = drawn(alloc, &mut one)?;
+        let mut draws = drawn(alloc, &mut one)?;
         let more = drawn(alloc, &mut other)?;
-        assert!(rt; bits(words.as_slice()) == (u128::MAX, u128::MAX));
+        assert!(rt; bits(draws.as_slice()) == (u128::MAX, u128::MAX));
         assert!(rt; bits(more.as_slice()) == (u128::MAX, u128::MAX));
-        words.extend_from_slice(more.as_slice())?;
-        for word in words.as_slice() {
-            assert!(rt; count(words.as_slice(), word) == 1);
+        draws.extend_from_slice(more.as_slice())?;
+        for draw in draws.as_slice() {
+            assert!(rt; count(draws.as_slice(), draw) == 1);
         }
         Ok(())
     }

@@ -31,7 +31,7 @@ impl Around {
             files: files(alloc, texts, fails.files).ok()?,
             out: sink(alloc, given.room, fails.out).ok()?,
             err: sink(alloc, 1_000, fails.err).ok()?,
-            fresh: random_words(alloc).ok()?,
+            fresh: random_source(alloc).ok()?,
             stream: stream(alloc, given.pieces, fails.stream)?,
             port: link(alloc, Vec::new(alloc), fails.port).ok()?,
             input: input(alloc, given.asks, fails.input).ok()?,
@@ -44,14 +44,14 @@ impl Around {
 /// Runs the program, and gives its status.
 pub fn run<L: TimedLink>(
     alloc: Global,
-    words: &[String],
+    args: &[String],
     around: &mut Around,
     link: &mut L,
     disk: &mut MemDisk,
 ) -> u8 {
     top(
         alloc,
-        words,
+        args,
         &mut around.files,
         &mut around.out,
         &mut around.err,
@@ -65,7 +65,7 @@ pub fn run<L: TimedLink>(
 }
 
 /// The same eight random words each time.
-pub fn random_words(alloc: Global) -> Result<MemFresh, OutOfMemory> {
+pub fn random_source(alloc: Global) -> Result<MemFresh, OutOfMemory> {
     MemFresh::new(alloc, [7; 32], 8)
 }
 

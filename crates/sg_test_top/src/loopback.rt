@@ -15,13 +15,13 @@ impl Calls for Loopback {
     // The last argument is the words. Behind what a run says comes what its peer received.
     fn answer(&self, alloc: Global, call: &str, args: &[Vec<u8>]) -> Option<Vec<u8>> {
         let _ = call;
-        let (words, given) = args.split_last()?;
+        let (args, given) = args.split_last()?;
         let mut outside = Outside::new(alloc)?;
         let _ = played(alloc, &mut outside, given)?;
         let mut peer = self.peer()?;
         let mut link = UdpLink::new(self.rt.clone().ok()?);
         let mut out = ByteOut::new(alloc);
-        outside.run_over(alloc, &mut out, words, &mut link)?;
+        outside.run_over(alloc, &mut out, args, &mut link)?;
         put_received(alloc, &mut out, &mut peer)?;
         Some(out.done())
     }

@@ -5,7 +5,7 @@
 //! stream, the port or the input (none for 0; of stream and port else the first); `room N` has standard output take N bytes, `asks LINES` is what
 //! stands on standard input, `comes BYTES` and `silence` come on the link, and `piece` on the connection whose number is the first byte.
 //!
-//! `words WORD..` runs the program, whose random words are the same each time, and puts how it ended. `crash BYTES` leaves these bytes of what was
+//! `args WORD..` runs the program, whose random words are the same each time, and puts how it ended. `crash BYTES` leaves these bytes of what was
 //! written to the disk and not synced. `stands`, `left link`, `left stream` and `unasked` put what there is then.
 use crate::around::{Around, disk, run};
 use crate::given::{Given, Texts, parted};
@@ -47,12 +47,12 @@ impl Outside {
     }
 
     // Runs the program.
-    fn run(&mut self, alloc: Global, words: &[u8]) -> Option<()> {
-        let words = words_of(alloc, words)?;
+    fn run(&mut self, alloc: Global, args: &[u8]) -> Option<()> {
+        let args = words_of(alloc, args)?;
         self.renew(alloc)?;
         self.status = run(
             alloc,
-            &words,
+            &args,
             &mut self.around,
             &mut self.link,
             &mut self.disk,
@@ -65,12 +65,12 @@ impl Outside {
         &mut self,
         alloc: Global,
         out: &mut ByteOut,
-        words: &[u8],
+        args: &[u8],
         link: &mut L,
     ) -> Option<()> {
-        let words = words_of(alloc, words)?;
+        let args = words_of(alloc, args)?;
         self.renew(alloc)?;
-        let status = run(alloc, &words, &mut self.around, link, &mut self.disk);
+        let status = run(alloc, &args, &mut self.around, link, &mut self.disk);
         put_said(out, status, &self.around).ok()
     }
 
@@ -129,11 +129,11 @@ impl Script for Outside {
 }
 
 fn words_of(alloc: Global, line: &[u8]) -> Option<Vec<String>> {
-    let mut words = Vec::new(alloc);
+    let mut args = Vec::new(alloc);
     for word in str::from_utf8(line).ok()?.split(' ') {
-        words.push(String::from_str(alloc, word).ok()?).ok()?;
+        args.push(String::from_str(alloc, word).ok()?).ok()?;
     }
-    Some(words)
+    Some(args)
 }
 
 /// The call `top`, whose arguments are words as above; and `prefixes TEXT STEP WORD..`, which answers `yes` where each run that finds room for 0, STEP,
@@ -145,27 +145,27 @@ impl Calls for Top {
         if call == "top" {
             return played(alloc, &mut Outside::new(alloc)?, args);
         }
-        let [text, step, words @ ..] = args else {
+        let [text, step, args @ ..] = args else {
             return None;
         };
-        yes(alloc, leaves_fronts(alloc, text, number(step)?, words)?)
+        yes(alloc, leaves_fronts(alloc, text, number(step)?, args)?)
     }
 }
 
-fn leaves_fronts(alloc: Global, text: &[u8], step: u32, words: &[Vec<u8>]) -> Option<bool> {
+fn leaves_fronts(alloc: Global, text: &[u8], step: u32, args: &[Vec<u8>]) -> Option<bool> {
     for (index, _) in text.iter().enumerate() {
         let index = u32::try_from(index).ok()?;
-        if index.checked_rem(step)? == 0 && !leaves_front(alloc, text, index, words)? {
+        if index.checked_rem(step)? == 0 && !leaves_front(alloc, text, index, args)? {
             return Some(false);
         }
     }
     Some(true)
 }
 
-fn leaves_front(alloc: Global, text: &[u8], room: u32, words: &[Vec<u8>]) -> Option<bool> {
+fn leaves_front(alloc: Global, text: &[u8], room: u32, args: &[Vec<u8>]) -> Option<bool> {
     let mut outside = Outside::new(alloc)?;
     outside.given.room = room;
-    let _ = played(alloc, &mut outside, words)?;
+    let _ = played(alloc, &mut outside, args)?;
     let (prefix, _) = text.split_at_checked(room as usize)?;
     Some(is_front(&outside, prefix))
 }

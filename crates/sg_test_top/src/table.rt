@@ -50,9 +50,9 @@ fn holds<'t, C: Calls>(
         "#" => Some(true),
         "let" => name_bytes(alloc, named, rest),
         _ => {
-            let mut words = words_of(alloc, named, rest)?;
-            let wanted = words.pop()?;
-            let came = calls.answer(alloc, call, &words)?;
+            let mut args = words_of(alloc, named, rest)?;
+            let wanted = args.pop()?;
+            let came = calls.answer(alloc, call, &args)?;
             Some(came.as_slice() == wanted.as_slice())
         }
     }
@@ -67,11 +67,11 @@ fn name_bytes<'t>(alloc: Global, named: &mut Vec<Named<'t>>, rest: &'t str) -> O
 }
 
 fn words_of(alloc: Global, named: &[Named<'_>], line: &str) -> Option<Vec<Vec<u8>>> {
-    let mut words = Vec::new(alloc);
+    let mut args = Vec::new(alloc);
     for word in line.split(' ') {
-        words.push(bytes_of(alloc, named, word)?).ok()?;
+        args.push(bytes_of(alloc, named, word)?).ok()?;
     }
-    Some(words)
+    Some(args)
 }
 
 fn bytes_of(alloc: Global, named: &[Named<'_>], word: &str) -> Option<Vec<u8>> {
@@ -139,9 +139,9 @@ pub fn yes(alloc: Global, is_so: bool) -> Option<Vec<u8>> {
 }
 
 /// The answer of calls that are taken one after the other.
-pub fn played<S: Script>(alloc: Global, script: &mut S, words: &[Vec<u8>]) -> Option<Vec<u8>> {
+pub fn played<S: Script>(alloc: Global, script: &mut S, args: &[Vec<u8>]) -> Option<Vec<u8>> {
     let mut out = ByteOut::new(alloc);
-    play(alloc, script, &mut out, words)?;
+    play(alloc, script, &mut out, args)?;
     Some(out.done())
 }
 
@@ -149,9 +149,9 @@ fn play<S: Script>(
     alloc: Global,
     script: &mut S,
     out: &mut ByteOut,
-    words: &[Vec<u8>],
+    args: &[Vec<u8>],
 ) -> Option<()> {
-    for word in words {
+    for word in args {
         script.call(alloc, out, word)?;
     }
     Some(())

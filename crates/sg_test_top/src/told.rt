@@ -1,5 +1,5 @@
 //! What a run left, as a table has it.
-use crate::around::{Around, random_words};
+use crate::around::{Around, random_source};
 use sg_base::{Addr, ByteOut, Fresh, Link, MemFresh, MemSink, OutOfMemory};
 use sg_input::{Input, MemInput};
 use sg_ledger::MemDisk;
@@ -127,6 +127,6 @@ fn is_unread(input: &mut MemInput) -> bool {
 
 // Whether no random word was taken.
 fn is_whole(alloc: Global, fresh: &mut MemFresh) -> Option<bool> {
-    let mut again = random_words(alloc).ok()?;
+    let mut again = random_source(alloc).ok()?;
     Some(fresh.next() == again.next())
 }

@@ -28,9 +28,9 @@ rises f0 f1 f2 a b h = rises_below (2 ^ 64 - 1) f0 f1 f2 a b h
 
 -- a file that isn't read after others
 pub unread : (most : ℕ) (file : List ℕ) (known : KnownFiles) (f0 f1 f2 : ℕ) (e : Ending) → f0 ≤ f1 → f1 ≤ f2 → IsUnread most file known f1 f2 e → IsUnread most file known f0 f2 e
-unread most file known f0 f1 f2 (FileFailed word) a b h = (h.0, rises f0 f1 f2 a b h.1)
-unread most file known f0 f1 f2 (NoSuchFile word) a b h = h
-unread most file known f0 f1 f2 (TooLarge word) a b h = h
+unread most file known f0 f1 f2 (FileFailed arg) a b h = (h.0, rises f0 f1 f2 a b h.1)
+unread most file known f0 f1 f2 (NoSuchFile arg) a b h = h
+unread most file known f0 f1 f2 (TooLarge arg) a b h = h
 unread most file known f0 f1 f2 NoMemory a b h = h
 unread most file known f0 f1 f2 Written a b h = h
 unread most file known f0 f1 f2 NoCommand a b h = h

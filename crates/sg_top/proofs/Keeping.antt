@@ -26,13 +26,13 @@ after_ledger opened s most old new disk disk1 disk2 r l h = record {
   at_most = h.at_most;
 }
 
-module _ (opened : List Join) (s : Setup) (most : ℕ) (out : Output) (words : Option (List (List ℕ))) (link link1 : Linked) (kept : link1.deliveries ≡ link.deliveries) (kept_sent : link1.sent ≡ link.sent) (falls : link.faults ≤ link1.faults) where
+module _ (opened : List Join) (s : Setup) (most : ℕ) (out : Output) (random : Option (List (List ℕ))) (link link1 : Linked) (kept : link1.deliveries ≡ link.deliveries) (kept_sent : link1.sent ≡ link.sent) (falls : link.faults ≤ link1.faults) where
   -- before the link was opened, and when it was
   abbrev pub before : Outside
-  before = record { out = out; link = link; words = words }
+  before = record { out = out; link = link; random = random }
 
   abbrev pub opened_link : Outside
-  opened_link = record { out = out; link = link1; words = words }
+  opened_link = record { out = out; link = link1; random = random }
 
   -- a play from when the link was opened ended as one from before
   pub after_link : (new : Outside) (disk disk' : Disked) (r : Result (Unit {0}) KeepFault) → EndsOver opened s most opened_link new disk disk' r → EndsOver opened s most before new disk disk' r

@@ -108,14 +108,14 @@ unread files most file m m' (ProgramRefused number cause) h n = absurd h
 unread files most file m m' NoLedger h n = absurd h
 unread files most file m m' (BadSlot slot) h n = absurd h
 unread files most file m m' LedgerNotEmpty h n = absurd h
-unread files most file m m' (FileFailed word) h n = absurd (cc)
+unread files most file m m' (FileFailed arg) h n = absurd (cc)
 unread files most file m m' WriteFailed h n = absurd h
 unread files most file m m' LinkFailed h n = absurd h
 unread files most file m m' InputFailed h n = absurd h
 unread files most file m m' DiskFailed h n = absurd h
 unread files most file m m' NoMemory h n = absurd (cc)
-unread files most file m m' (NoSuchFile word) h n = subst (λ w. Unread files most file (NoSuchFile w)) (sym h.0) (Missing (h.1 files refl))
-unread files most file m m' (TooLarge word) h n = subst (λ w. Unread files most file (TooLarge w)) (sym h.0) (TooLong (h.1 files refl))
+unread files most file m m' (NoSuchFile arg) h n = subst (λ w. Unread files most file (NoSuchFile w)) (sym h.0) (Missing (h.1 files refl))
+unread files most file m m' (TooLarge arg) h n = subst (λ w. Unread files most file (TooLarge w)) (sym h.0) (TooLong (h.1 files refl))
 
 -- what is read isn't unread
 read_or_unread : (files : List (List ℕ × List ℕ)) (most : ℕ) (file bytes : List ℕ) (e : Ending) → file_at files file ≡ Some bytes → length bytes ≤ most → Unread files most file e → ⊥
@@ -176,13 +176,13 @@ check_cause bytes a a' (ProgramRefused number cause) (text, t, w) n = absurd w
 check_cause bytes a a' NoLedger (text, t, w) n = absurd w
 check_cause bytes a a' (BadSlot slot) (text, t, w) n = absurd w
 check_cause bytes a a' LedgerNotEmpty (text, t, w) n = absurd w
-check_cause bytes a a' (FileFailed word) (text, t, w) n = absurd w
+check_cause bytes a a' (FileFailed arg) (text, t, w) n = absurd w
 check_cause bytes a a' WriteFailed (text, t, w) n = Taken t.spelled t.compiled t.few
 check_cause bytes a a' LinkFailed (text, t, w) n = absurd w
 check_cause bytes a a' InputFailed (text, t, w) n = absurd w
 check_cause bytes a a' DiskFailed (text, t, w) n = absurd w
 check_cause bytes a a' NoMemory h n = absurd (cc)
-check_cause bytes a a' (NoSuchFile word) (text, t, w) n = absurd w
+check_cause bytes a a' (NoSuchFile arg) (text, t, w) n = absurd w
 check_cause bytes a a' (TooLarge what) (text, t, w) n = absurd w
 
 pub check_once : EndsOnce Checks most_graph_file
@@ -205,13 +205,13 @@ suggest_cause bytes a a' (ProgramRefused number cause) (text, t, w) n = absurd w
 suggest_cause bytes a a' NoLedger (text, t, w) n = absurd w
 suggest_cause bytes a a' (BadSlot slot) (text, t, w) n = absurd w
 suggest_cause bytes a a' LedgerNotEmpty (text, t, w) n = absurd w
-suggest_cause bytes a a' (FileFailed word) (text, t, w) n = absurd w
+suggest_cause bytes a a' (FileFailed arg) (text, t, w) n = absurd w
 suggest_cause bytes a a' WriteFailed (text, t, w) n = Taken t.accepted.spelled t.accepted.compiled t.accepted.few
 suggest_cause bytes a a' LinkFailed (text, t, w) n = absurd w
 suggest_cause bytes a a' InputFailed (text, t, w) n = absurd w
 suggest_cause bytes a a' DiskFailed (text, t, w) n = absurd w
 suggest_cause bytes a a' NoMemory h n = absurd (cc)
-suggest_cause bytes a a' (NoSuchFile word) (text, t, w) n = absurd w
+suggest_cause bytes a a' (NoSuchFile arg) (text, t, w) n = absurd w
 suggest_cause bytes a a' (TooLarge what) (text, t, w) n = absurd w
 
 pub suggest_once : EndsOnce Suggests most_graph_file
@@ -246,13 +246,13 @@ audit_cause bytes a a' (ProgramRefused number cause) (text, t, w) n = absurd w
 audit_cause bytes a a' NoLedger (text, t, w) n = absurd w
 audit_cause bytes a a' (BadSlot slot) (text, t, w) n = absurd w
 audit_cause bytes a a' LedgerNotEmpty (text, t, w) n = absurd w
-audit_cause bytes a a' (FileFailed word) (text, t, w) n = absurd w
+audit_cause bytes a a' (FileFailed arg) (text, t, w) n = absurd w
 audit_cause bytes a a' WriteFailed (text, t, w) n = Taken (t.logs, t.spelled, refl) t.compiled t.few
 audit_cause bytes a a' LinkFailed (text, t, w) n = absurd w
 audit_cause bytes a a' InputFailed (text, t, w) n = absurd w
 audit_cause bytes a a' DiskFailed (text, t, w) n = absurd w
 audit_cause bytes a a' NoMemory h n = absurd (cc)
-audit_cause bytes a a' (NoSuchFile word) (text, t, w) n = absurd w
+audit_cause bytes a a' (NoSuchFile arg) (text, t, w) n = absurd w
 audit_cause bytes a a' (TooLarge what) (same, e) n = Before e
 
 pub audit_once : EndsOnce Audits most_logs_file
@@ -302,13 +302,13 @@ compose_cause bytes a a' (ProgramRefused number cause) (text, t, w) n = absurd w
 compose_cause bytes a a' NoLedger (text, t, w) n = absurd w
 compose_cause bytes a a' (BadSlot slot) (text, t, w) n = absurd w
 compose_cause bytes a a' LedgerNotEmpty (text, t, w) n = absurd w
-compose_cause bytes a a' (FileFailed word) (text, t, w) n = absurd w
+compose_cause bytes a a' (FileFailed arg) (text, t, w) n = absurd w
 compose_cause bytes a a' WriteFailed (text, t, w) n = Taken (t.parts, t.spelled, t.expanded) t.compiled t.few
 compose_cause bytes a a' LinkFailed (text, t, w) n = absurd w
 compose_cause bytes a a' InputFailed (text, t, w) n = absurd w
 compose_cause bytes a a' DiskFailed (text, t, w) n = absurd w
 compose_cause bytes a a' NoMemory h n = absurd (cc)
-compose_cause bytes a a' (NoSuchFile word) (text, t, w) n = absurd w
+compose_cause bytes a a' (NoSuchFile arg) (text, t, w) n = absurd w
 compose_cause bytes a a' (TooLarge what) (text, t, w) n = absurd w
 
 pub compose_once : EndsOnce Composes most_graph_file
@@ -391,13 +391,13 @@ replay_cause bytes a a' (ProgramRefused number cause) (text, t, w) n = absurd w
 replay_cause bytes a a' NoLedger (text, t, w) n = absurd w
 replay_cause bytes a a' (BadSlot slot) (text, t, w) n = absurd w
 replay_cause bytes a a' LedgerNotEmpty (text, t, w) n = absurd w
-replay_cause bytes a a' (FileFailed word) (text, t, w) n = absurd w
+replay_cause bytes a a' (FileFailed arg) (text, t, w) n = absurd w
 replay_cause bytes a a' WriteFailed (text, t, w) n = Replayed t
 replay_cause bytes a a' LinkFailed (text, t, w) n = absurd w
 replay_cause bytes a a' InputFailed (text, t, w) n = absurd w
 replay_cause bytes a a' DiskFailed (text, t, w) n = absurd w
 replay_cause bytes a a' NoMemory h n = absurd (cc)
-replay_cause bytes a a' (NoSuchFile word) (text, t, w) n = absurd w
+replay_cause bytes a a' (NoSuchFile arg) (text, t, w) n = absurd w
 replay_cause bytes a a' (TooLarge what) (same, inl e) n = WrongAt e
 replay_cause bytes a a' (TooLarge what) (same, inr (is, o)) n = subst (λ w. ReplayCause bytes (TooLarge w)) (sym is) (FullIn o)
 
@@ -470,13 +470,13 @@ drive_cause seed sessions bytes a a' (ProgramRefused number cause) (text, t, w) 
 drive_cause seed sessions bytes a a' NoLedger (text, t, w) n = absurd w
 drive_cause seed sessions bytes a a' (BadSlot slot) (text, t, w) n = absurd w
 drive_cause seed sessions bytes a a' LedgerNotEmpty (text, t, w) n = absurd w
-drive_cause seed sessions bytes a a' (FileFailed word) (text, t, w) n = absurd w
+drive_cause seed sessions bytes a a' (FileFailed arg) (text, t, w) n = absurd w
 drive_cause seed sessions bytes a a' WriteFailed (text, t, w) n = Driven t
 drive_cause seed sessions bytes a a' LinkFailed (text, t, w) n = absurd w
 drive_cause seed sessions bytes a a' InputFailed (text, t, w) n = absurd w
 drive_cause seed sessions bytes a a' DiskFailed (text, t, w) n = absurd w
 drive_cause seed sessions bytes a a' NoMemory h n = absurd (cc)
-drive_cause seed sessions bytes a a' (NoSuchFile word) (text, t, w) n = absurd w
+drive_cause seed sessions bytes a a' (NoSuchFile arg) (text, t, w) n = absurd w
 drive_cause seed sessions bytes a a' (TooLarge what) (same, is, o) n = subst (λ w. DriveCause seed sessions bytes (TooLarge w)) (sym is) (FullOf o)
 
 pub drive_once : (seed sessions : ℕ) → EndsOnce (Drives seed sessions) most_graph_file
@@ -560,13 +560,13 @@ compile_cause name bytes a a' (ProgramRefused number cause) (text, t, w) n = abs
 compile_cause name bytes a a' NoLedger (text, t, w) n = absurd w
 compile_cause name bytes a a' (BadSlot slot) (text, t, w) n = absurd w
 compile_cause name bytes a a' LedgerNotEmpty (text, t, w) n = absurd w
-compile_cause name bytes a a' (FileFailed word) (text, t, w) n = absurd w
+compile_cause name bytes a a' (FileFailed arg) (text, t, w) n = absurd w
 compile_cause name bytes a a' WriteFailed (text, t, w) n = Compiled t
 compile_cause name bytes a a' LinkFailed (text, t, w) n = absurd w
 compile_cause name bytes a a' InputFailed (text, t, w) n = absurd w
 compile_cause name bytes a a' DiskFailed (text, t, w) n = absurd w
 compile_cause name bytes a a' NoMemory h n = absurd (cc)
-compile_cause name bytes a a' (NoSuchFile word) (text, t, w) n = absurd w
+compile_cause name bytes a a' (NoSuchFile arg) (text, t, w) n = absurd w
 compile_cause name bytes a a' (TooLarge what) (text, t, w) n = absurd w
 
 pub compile_once : (name : List ℕ) → EndsOnce (Compiles name) most_graph_file

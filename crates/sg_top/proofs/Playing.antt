@@ -30,11 +30,11 @@ none_left most old new same deliveries h = (0, omega arith, same ∙ h)
 
 -- a play from when the link was opened is one from before
 pub opened : (s : Setup) (most : ℕ) (start old new : Outside) (r : Result (Unit {0}) PlayFault) → old.out ≡ start.out → (old.link).deliveries ≡ (start.link).deliveries
-    → (old.link).sent ≡ (start.link).sent → old.words ≡ start.words → Plays s most old new r → Plays s most start new r
-opened s most start old new r out deliveries sent words h ds ws d w =
+    → (old.link).sent ≡ (start.link).sent → old.random ≡ start.random → Plays s most old new r → Plays s most start new r
+opened s most start old new r out deliveries sent random h ds ws d w =
     subst (λ x. Ended (record { written = (start.out).bytes; sent = x }) (record { written = (new.out).bytes; sent = (new.link).sent }) (steps_played s most ds ws) r) sent
     (subst (λ o. Ended (record { written = o.bytes; sent = (old.link).sent }) (record { written = (new.out).bytes; sent = (new.link).sent }) (steps_played s most ds ws) r) out
-    (h ds ws (deliveries ∙ d) (words ∙ w)))
+    (h ds ws (deliveries ∙ d) (random ∙ w)))
 
 -- nothing was played
 pub unplayed : (s : Setup) (most : ℕ) (old new : Outside) (r : Result (Unit {0}) PlayFault) → (new.out).bytes ≡ (old.out).bytes → (new.link).sent ≡ (old.link).sent

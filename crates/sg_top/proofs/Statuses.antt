@@ -130,7 +130,7 @@ over_stream link port input (inl played) = inl played
 over_stream link port input (inr rest) = inr (link, rest.0, port, input, rest.1)
 
 -- a command that may have played ends with one of its statuses; or the rest holds
-pub may_play : {Rest : Type 0} (words : List (List ℕ)) (c : Option Command) (work : Ending) (old new : Output) (status : ℕ) → c ≡ command_of words → HasPlayed c work ⊎ Rest
-    → Says work old new status → MayPlay words status ⊎ Rest
-may_play words c work old new status same (inl h) says = inl (subst (λ (x : Option Command). PlaysWith x status) same (status_said c work old new status h says))
-may_play words c work old new status same (inr rest) says = inr rest
+pub may_play : {Rest : Type 0} (args : List (List ℕ)) (c : Option Command) (work : Ending) (old new : Output) (status : ℕ) → c ≡ command_of args → HasPlayed c work ⊎ Rest
+    → Says work old new status → MayPlay args status ⊎ Rest
+may_play args c work old new status same (inl h) says = inl (subst (λ (x : Option Command). PlaysWith x status) same (status_said c work old new status h says))
+may_play args c work old new status same (inr rest) says = inr rest

@@ -119,8 +119,8 @@ abbrev pub shown_byte : ℕ → List ℕ
 shown_byte b = if nat_lt b 0x20 || (b == 0x7F) then escaped_byte b else b ∷ []
 
 -- a word of the command line, as a line on standard error has it
-abbrev pub shown_word : List ℕ → List ℕ
-shown_word word = flat_map shown_byte word
+abbrev pub shown_arg : List ℕ → List ℕ
+shown_arg arg = flat_map shown_byte arg
 
 -- the line on standard error
 abbrev pub line_of : Ending → List ℕ
@@ -129,7 +129,7 @@ line_of NoCommand = codes "usage: sessiongraph check|compile|run|replay|drive|le
 line_of (NoGraph fault) = codes "graph refused: " ++ parse_text fault ++ 10 ∷ []
 line_of (NoExpansion fault) = codes "graph refused: " ++ compose_text fault ++ 10 ∷ []
 line_of (GraphRefused g fault) = codes "graph refused: " ++ refusal_text g fault ++ 10 ∷ []
-line_of (NoRole role) = codes "input refused: role " ++ shown_word role ++ 10 ∷ []
+line_of (NoRole role) = codes "input refused: role " ++ shown_arg role ++ 10 ∷ []
 line_of (WrongLine line wrong) = codes "input refused: line " ++ decimal line ++ 32 ∷ wrong_text wrong ++ 10 ∷ []
 line_of (KeysRefused fault) = codes "input refused: keys " ++ keys_text fault ++ 10 ∷ []
 line_of (ScriptRefused fault) = codes "input refused: script " ++ script_text fault ++ 10 ∷ []
@@ -139,14 +139,14 @@ line_of (ProgramRefused number cause) = codes "input refused: program " ++ decim
 line_of NoLedger = codes "input refused: ledger not made\n"
 line_of (BadSlot slot) = codes "input refused: ledger slot " ++ decimal slot ++ 10 ∷ []
 line_of LedgerNotEmpty = codes "input refused: ledger not empty\n"
-line_of (FileFailed file) = codes "file failed: " ++ shown_word file ++ 10 ∷ []
+line_of (FileFailed file) = codes "file failed: " ++ shown_arg file ++ 10 ∷ []
 line_of WriteFailed = []
 line_of LinkFailed = codes "link failed\n"
 line_of InputFailed = codes "input failed\n"
 line_of DiskFailed = codes "disk failed\n"
 line_of NoMemory = codes "out of memory\n"
-line_of (NoSuchFile file) = codes "no such file: " ++ shown_word file ++ 10 ∷ []
-line_of (TooLarge what) = codes "too large: " ++ shown_word what ++ 10 ∷ []
+line_of (NoSuchFile file) = codes "no such file: " ++ shown_arg file ++ 10 ∷ []
+line_of (TooLarge what) = codes "too large: " ++ shown_arg what ++ 10 ∷ []
 
 -- ---- the ending that the input has, where nothing fails and memory doesn't run out
 

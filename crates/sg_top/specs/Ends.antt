@@ -242,9 +242,9 @@ Composes bytes old new ending = (text : List ℕ) × IsComposition bytes text ×
 
 -- a file is not read: the files failed, which their count shows, there is no such file, it has more bytes than it may have, or memory ran out
 abbrev pub IsUnread : ℕ → List ℕ → KnownFiles → (faults faults' : ℕ) → Ending → Type 0
-IsUnread most file known faults faults' (FileFailed word) = (word ≡ file) × HasRisen faults faults'
-IsUnread most file known faults faults' (NoSuchFile word) = (word ≡ file) × Has known file None
-IsUnread most file known faults faults' (TooLarge word) = (word ≡ file) × ((files : List (List ℕ × List ℕ)) → known ≡ Some files → IsSomeAnd (file_at files file) (λ bytes. most < length bytes))
+IsUnread most file known faults faults' (FileFailed arg) = (arg ≡ file) × HasRisen faults faults'
+IsUnread most file known faults faults' (NoSuchFile arg) = (arg ≡ file) × Has known file None
+IsUnread most file known faults faults' (TooLarge arg) = (arg ≡ file) × ((files : List (List ℕ × List ℕ)) → known ≡ Some files → IsSomeAnd (file_at files file) (λ bytes. most < length bytes))
 IsUnread most file known faults faults' NoMemory = ⊤
 IsUnread most file known faults faults' ending = ⊥
 

@@ -65,13 +65,13 @@ LacksLedger disk disk' ending = ⊥
 -- ---- a run over a ledger
 
 -- the play of a setup over these joins, over the first deliveries, at most `most`, and with these random words
-abbrev pub play_over : (opened : List Join) → Setup → (most : ℕ) → (deliveries words : List (List ℕ)) → Play
-play_over opened s most deliveries words = played s.keys s.programs opened s.script (take most deliveries) words
+abbrev pub play_over : (opened : List Join) → Setup → (most : ℕ) → (deliveries random : List (List ℕ)) → Play
+play_over opened s most deliveries random = played s.keys s.programs opened s.script (take most deliveries) random
 
 -- where the deliveries and the words are told: what was written and sent is what this play writes and sends, up to where it ended, and what a crash leaves of the disk is the ledger with the joins of the play up to there, among them the session and the sender of each frame that was sent
 abbrev pub PlaysOver : (opened : List Join) → Setup → (most : ℕ) → (old new : Outside) → (disk' : Disked) → Result (Unit {0}) KeepFault → Type 0
-PlaysOver opened s most old new disk' result = (deliveries words : List (List ℕ)) → (old.link).deliveries ≡ Some deliveries → old.words ≡ Some words
-    → Kept (record { written = (old.out).bytes; sent = (old.link).sent }) (record { written = (new.out).bytes; sent = (new.link).sent }) disk'.may_leave (play_over opened s most deliveries words) result
+PlaysOver opened s most old new disk' result = (deliveries random : List (List ℕ)) → (old.link).deliveries ≡ Some deliveries → old.random ≡ Some random
+    → Kept (record { written = (old.out).bytes; sent = (old.link).sent }) (record { written = (new.out).bytes; sent = (new.link).sent }) disk'.may_leave (play_over opened s most deliveries random) result
 
 -- how the program ends after a play over a ledger
 abbrev pub ending_of_play : Result (Unit {0}) KeepFault → Ending

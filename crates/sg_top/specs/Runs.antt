@@ -23,16 +23,16 @@ pub record Linked : Type 0 where
 pub record Outside : Type 0 where
   pub out : Output
   pub link : Linked
-  pub words : Option (List (List ℕ))
+  pub random : Option (List (List ℕ))
 
 -- the steps of the play of a setup over the first deliveries, at most `most`, and with these random words
-abbrev pub steps_played : Setup → (most : ℕ) → (deliveries words : List (List ℕ)) → List Step
-steps_played s most deliveries words = (played s.keys s.programs [] s.script (take most deliveries) words).steps
+abbrev pub steps_played : Setup → (most : ℕ) → (deliveries random : List (List ℕ)) → List Step
+steps_played s most deliveries random = (played s.keys s.programs [] s.script (take most deliveries) random).steps
 
 -- where the deliveries and the words are told: what was written and sent is what these steps write and send, up to where the play ended
 abbrev pub Plays : Setup → (most : ℕ) → (old new : Outside) → Result (Unit {0}) PlayFault → Type 0
-Plays s most old new result = (deliveries words : List (List ℕ)) → (old.link).deliveries ≡ Some deliveries → old.words ≡ Some words
-    → Ended (record { written = (old.out).bytes; sent = (old.link).sent }) (record { written = (new.out).bytes; sent = (new.link).sent }) (steps_played s most deliveries words) result
+Plays s most old new result = (deliveries random : List (List ℕ)) → (old.link).deliveries ≡ Some deliveries → old.random ≡ Some random
+    → Ended (record { written = (old.out).bytes; sent = (old.link).sent }) (record { written = (new.out).bytes; sent = (new.link).sent }) (steps_played s most deliveries random) result
 
 -- n deliveries were taken, or all where there were fewer, where they are told
 abbrev pub Takes : ℕ → (old new : Option (List (List ℕ))) → Type 0
@@ -52,7 +52,7 @@ PlayEnds s most old new ending = ⊥
 
 -- nothing was written or sent, nor was it tried, and no delivery and no word was taken
 abbrev pub IsUntouched : (old new : Outside) → Type 0
-IsUntouched old new = (new.out ≡ old.out) × (new.link ≡ old.link) × (new.words ≡ old.words)
+IsUntouched old new = (new.out ≡ old.out) × (new.link ≡ old.link) × (new.random ≡ old.random)
 
 -- the link isn't opened, which its count of faults shows, and nothing else is touched: it waits where it did before
 pub record LacksLink (old new : Outside) : Type 0 where
@@ -61,7 +61,7 @@ pub record LacksLink (old new : Outside) : Type 0 where
   pub deliveries : (new.link).deliveries ≡ (old.link).deliveries
   pub sent : (new.link).sent ≡ (old.link).sent
   pub out : new.out ≡ old.out
-  pub words : new.words ≡ old.words
+  pub random : new.random ≡ old.random
 
 -- the link waits at the address of the keys; or it can't be opened there, and nothing is played
 abbrev pub WaitsAt : Keyring → (old new : Outside) → Ending → Type 0

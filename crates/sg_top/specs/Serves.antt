@@ -31,7 +31,7 @@ pub record Entered : Type 0 where
 pub record Application : Type 0 where
   pub out : Output
   pub link : Waited
-  pub words : Option (List (List ℕ))
+  pub random : Option (List (List ℕ))
   pub input : Entered
 
 -- the files that it names
@@ -42,7 +42,7 @@ pub record NamedFiles : Type 0 where
 
 -- nothing was written or sent, nor was it tried, and nothing that is to come was taken
 abbrev pub IsUnasked : (old new : Application) → Type 0
-IsUnasked old new = (new.out ≡ old.out) × (new.link ≡ old.link) × (new.words ≡ old.words) × (new.input ≡ old.input)
+IsUnasked old new = (new.out ≡ old.out) × (new.link ≡ old.link) × (new.random ≡ old.random) × (new.input ≡ old.input)
 
 -- the link isn't opened, which its count of faults shows, and nothing else is touched: it waits where it did before
 pub record LacksLink (old new : Application) : Type 0 where
@@ -51,7 +51,7 @@ pub record LacksLink (old new : Application) : Type 0 where
   pub out : new.out ≡ old.out
   pub coming : (new.link).coming ≡ (old.link).coming
   pub sent : (new.link).sent ≡ (old.link).sent
-  pub words : new.words ≡ old.words
+  pub random : new.random ≡ old.random
   pub input : new.input ≡ old.input
 
 -- the link was opened at this address: what is to come and what was sent are as before
@@ -67,8 +67,8 @@ given o = record { written = (o.out).bytes; sent = (o.link).sent; coming = (o.li
 
 -- where the input, the link and the source tell what is to come: what was written and sent is what the lines of the input come to for a principal that joined these pairs before, up to where the run ended, and what a crash leaves of its ledger, if it has one, is the ledger with the joins up to there
 abbrev pub Answers : (kept : Bool) → (opened : List Join) → Principal → (old new : Application) → (disk' : Disked) → Result (Unit {0}) ServeFault → Type 0
-Answers kept opened p old new disk' result = (bytes : List ℕ) (coming : List Coming) (words : List (List ℕ)) → (old.input).bytes ≡ Some bytes → (old.link).coming ≡ Some coming → old.words ≡ Some words
-    → Served (given old) (given new) new.words (images_if kept disk'.may_leave) (opening p.keys p.programs opened coming words) (lines_of bytes) result
+Answers kept opened p old new disk' result = (bytes : List ℕ) (coming : List Coming) (random : List (List ℕ)) → (old.input).bytes ≡ Some bytes → (old.link).coming ≡ Some coming → old.random ≡ Some random
+    → Served (given old) (given new) new.random (images_if kept disk'.may_leave) (opening p.keys p.programs opened coming random) (lines_of bytes) result
 
 -- how often the link, standard output and the disk failed
 abbrev pub counts : Application → Disked → Counts

@@ -29,7 +29,7 @@ abbrev pub application : (over_tcp : Bool) → Outside → Beside → Applicatio
 application over_tcp o b = record {
   out = o.out;
   link = if over_tcp then b.port else record { bound = (o.link).bound; coming = b.coming; sent = (o.link).sent; faults = (o.link).faults };
-  words = o.words;
+  random = o.random;
   input = b.input;
 }
 
@@ -51,9 +51,9 @@ Works (Some (Claims graph claims)) known faults faults' old new stream stream' d
 Works (Some (Serve over_tcp ledger keys programs)) known faults faults' old new stream stream' disk disk' beside beside' ending = ServesRun (record { keys = keys; programs = programs; ledger = ledger }) known faults faults' (application over_tcp old beside) (application over_tcp new beside') disk disk' ending
 
 -- the work that the words ask for ends so, or memory ran out before they were read, and nothing was touched
-abbrev pub Does : (words : List (List ℕ)) → KnownFiles → (faults faults' : ℕ) → (old new : Outside) → (stream stream' : Linked) → (disk disk' : Disked) → (beside beside' : Beside) → Ending → Type 0
-Does words known faults faults' old new stream stream' disk disk' beside beside' ending =
-    Works (command_of words) known faults faults' old new stream stream' disk disk' beside beside' ending
+abbrev pub Does : (args : List (List ℕ)) → KnownFiles → (faults faults' : ℕ) → (old new : Outside) → (stream stream' : Linked) → (disk disk' : Disked) → (beside beside' : Beside) → Ending → Type 0
+Does args known faults faults' old new stream stream' disk disk' beside beside' ending =
+    Works (command_of args) known faults faults' old new stream stream' disk disk' beside beside' ending
     ⊎ (IsUntouched old new × (stream' ≡ stream) × IsNotAsked disk disk' × (beside' ≡ beside) × (faults' ≡ faults) × (ending ≡ NoMemory))
 
 -- a line is written, no write failed, and its status is given, or it is not taken whole, which the count of faults shows, and the status is that of a failed write
@@ -69,9 +69,9 @@ Says work old new status =
     ⊎ ((line_of work ≢ []) × Puts old new (line_of NoMemory) (status_of NoMemory) status)
 
 -- the program ended with this status: its work ended in some way, and so it says
-pub record Ends (words : List (List ℕ)) (known : KnownFiles) (faults faults' : ℕ) (old new : Outside) (stream stream' : Linked) (disk disk' : Disked) (beside beside' : Beside) (err err' : Output) (status : ℕ) : Type 0 where
+pub record Ends (args : List (List ℕ)) (known : KnownFiles) (faults faults' : ℕ) (old new : Outside) (stream stream' : Linked) (disk disk' : Disked) (beside beside' : Beside) (err err' : Output) (status : ℕ) : Type 0 where
   pub work : Ending
-  pub does : Does words known faults faults' old new stream stream' disk disk' beside beside' work
+  pub does : Does args known faults faults' old new stream stream' disk disk' beside beside' work
   pub says : Says work err err' status
 
 -- one of the statuses of a run that may have played
@@ -103,8 +103,8 @@ PlaysWith (Some (Serve over_tcp ledger keys programs)) status = IsOfServe status
 PlaysWith other status = ⊥
 
 -- a run may have begun to play: the words ask for one, and the status is 0, 6, 7 or 8, over a ledger or for an application 11 too, and for an application 14
-abbrev pub MayPlay : (words : List (List ℕ)) → (status : ℕ) → Type 0
-MayPlay words status = PlaysWith (command_of words) status
+abbrev pub MayPlay : (args : List (List ℕ)) → (status : ℕ) → Type 0
+MayPlay args status = PlaysWith (command_of args) status
 
 -- the command is a run over the link, also over a ledger or for an application
 abbrev pub IsOverLink : Option Command → Type 0

@@ -16,7 +16,7 @@ pub fn end_without_descriptors() -> u8
 }
 
 /// Says that the words are in no command, as where one is no UTF-8, and gives the status.
-pub fn end_without_words<E: Sink>(alloc: Global, err: &mut E) -> u8
+pub fn end_without_args<E: Sink>(alloc: Global, err: &mut E) -> u8
     ensures { Says NoCommand (record { bytes = E.written err.old; faults = E.faults err.old }) (record { bytes = E.written err.new; faults = E.faults err.new }) result }
 {
     say(alloc, &Ending::NoCommand, err)

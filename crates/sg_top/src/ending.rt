@@ -1,7 +1,7 @@
 //! How the program ends, and what it says of it.
 ghost use Rattle.std.specs.Prelude.{◌≡◌, ◌≢◌, ◌++◌, ◌∷◌, [], IfOk, OnErr, OnOk, codes};
 ghost use Rattle.sg_program.specs.FaultText.{refusal_text};
-ghost use Rattle.sg_top.specs.Ending.{status_of, line_of, shown_byte, shown_word};
+ghost use Rattle.sg_top.specs.Ending.{status_of, line_of, shown_byte, shown_arg};
 ghost use Rattle.sg_top.specs.Model.{ending_held};
 
 use sg_base::{ByteOut, OutOfMemory};
@@ -212,19 +212,19 @@ fn put_refusal(out: &mut ByteOut, graph: &Graph, fault: &CompileFault) -> Result
 }
 
 // Writes a line that ends with a word of the command line.
-fn put_about(out: &mut ByteOut, before: &[u8], word: &str) -> Result<(), OutOfMemory>
-    ensures { OnOk result (out.new ≡ out.old ++ (before.now ++ shown_word word.now ++ 10 ∷ [])) }
+fn put_about(out: &mut ByteOut, before: &[u8], arg: &str) -> Result<(), OutOfMemory>
+    ensures { OnOk result (out.new ≡ out.old ++ (before.now ++ shown_arg arg.now ++ 10 ∷ [])) }
 {
     out.bytes(before)?;
-    put_word(out, word)?;
+    put_arg(out, arg)?;
     out.u8(b'\n')
 }
 
 // Writes a word, with its control bytes escaped.
-fn put_word(out: &mut ByteOut, word: &str) -> Result<(), OutOfMemory>
-    ensures { OnOk result (out.new ≡ out.old ++ shown_word word.now) }
+fn put_arg(out: &mut ByteOut, arg: &str) -> Result<(), OutOfMemory>
+    ensures { OnOk result (out.new ≡ out.old ++ shown_arg arg.now) }
 {
-    for byte in word.as_bytes() {
+    for byte in arg.as_bytes() {
         put_shown(out, *byte)?;
     }
     Ok(())

@@ -33,8 +33,8 @@ pub fn keep<'w, F: Files, O: Sink, L: Link, R: Fresh, D: Disk>(
 ) -> Ending<'w>
     ensures kept { F.held files.new ≡ F.held files.old }
     ensures keeps { KeepsRun file.now (record { keys = keys.now; programs = map (λ p. p.now) programs.now; script = script.now }) most (F.held files.old) (F.faults files.old) (F.faults files.new)
-        (record { out = record { bytes = O.written out.old; faults = O.faults out.old }; link = record { bound = L.bound link.old; deliveries = L.deliveries link.old; sent = L.sent link.old; faults = L.faults link.old }; words = R.words fresh.old })
-        (record { out = record { bytes = O.written out.new; faults = O.faults out.new }; link = record { bound = L.bound link.new; deliveries = L.deliveries link.new; sent = L.sent link.new; faults = L.faults link.new }; words = R.words fresh.new })
+        (record { out = record { bytes = O.written out.old; faults = O.faults out.old }; link = record { bound = L.bound link.old; deliveries = L.deliveries link.old; sent = L.sent link.old; faults = L.faults link.old }; random = R.random fresh.old })
+        (record { out = record { bytes = O.written out.new; faults = O.faults out.new }; link = record { bound = L.bound link.new; deliveries = L.deliveries link.new; sent = L.sent link.new; faults = L.faults link.new }; random = R.random fresh.new })
         (record { bound = D.bound disk.old; seen = D.seen disk.old; may_leave = D.may_leave disk.old; faults = D.faults disk.old }) (record { bound = D.bound disk.new; seen = D.seen disk.new; may_leave = D.may_leave disk.new; faults = D.faults disk.new })
         (ending_held result) }
     ensures as_before { CanHaveKept (ending_held result) ⊎ ((link.new ≡ link.old) × (fresh.new ≡ fresh.old)) }
@@ -58,8 +58,8 @@ fn keep_setup<O: Sink, L: Link, R: Fresh, D: Disk>(
 ) -> Ending<'static>
     requires { setup.keys_of_node ≡ setup.keys }
     ensures keeps { KeepsSetup file.now (record { keys = setup.keys; programs = setup.programs; script = setup.script }) most
-        (record { out = record { bytes = O.written out.old; faults = O.faults out.old }; link = record { bound = L.bound link.old; deliveries = L.deliveries link.old; sent = L.sent link.old; faults = L.faults link.old }; words = R.words fresh.old })
-        (record { out = record { bytes = O.written out.new; faults = O.faults out.new }; link = record { bound = L.bound link.new; deliveries = L.deliveries link.new; sent = L.sent link.new; faults = L.faults link.new }; words = R.words fresh.new })
+        (record { out = record { bytes = O.written out.old; faults = O.faults out.old }; link = record { bound = L.bound link.old; deliveries = L.deliveries link.old; sent = L.sent link.old; faults = L.faults link.old }; random = R.random fresh.old })
+        (record { out = record { bytes = O.written out.new; faults = O.faults out.new }; link = record { bound = L.bound link.new; deliveries = L.deliveries link.new; sent = L.sent link.new; faults = L.faults link.new }; random = R.random fresh.new })
         (record { bound = D.bound disk.old; seen = D.seen disk.old; may_leave = D.may_leave disk.old; faults = D.faults disk.old }) (record { bound = D.bound disk.new; seen = D.seen disk.new; may_leave = D.may_leave disk.new; faults = D.faults disk.new })
         (ending_held result) }
     ensures as_before { CanHaveKept (ending_held result) ⊎ ((link.new ≡ link.old) × (fresh.new ≡ fresh.old)) }
@@ -86,11 +86,11 @@ fn play_over<O: Sink, L: Link, R: Fresh, D: Disk>(
     requires represents { AllRepresent (D.may_leave disk.old) ledger.joins }
     ensures bound { D.bound disk.new ≡ D.bound disk.old }
     ensures waits { (L.bound link.new ≡ Some (waits_at setup.keys)) ⊎ ((result ≡ Err (KeepFault.Played PlayFault.LinkFailed)) × LacksLink
-        (record { out = record { bytes = O.written out.old; faults = O.faults out.old }; link = record { bound = L.bound link.old; deliveries = L.deliveries link.old; sent = L.sent link.old; faults = L.faults link.old }; words = R.words fresh.old })
-        (record { out = record { bytes = O.written out.new; faults = O.faults out.new }; link = record { bound = L.bound link.new; deliveries = L.deliveries link.new; sent = L.sent link.new; faults = L.faults link.new }; words = R.words fresh.new })) }
+        (record { out = record { bytes = O.written out.old; faults = O.faults out.old }; link = record { bound = L.bound link.old; deliveries = L.deliveries link.old; sent = L.sent link.old; faults = L.faults link.old }; random = R.random fresh.old })
+        (record { out = record { bytes = O.written out.new; faults = O.faults out.new }; link = record { bound = L.bound link.new; deliveries = L.deliveries link.new; sent = L.sent link.new; faults = L.faults link.new }; random = R.random fresh.new })) }
     ensures ends { EndsOver ledger.joins (record { keys = setup.keys; programs = setup.programs; script = setup.script }) most
-        (record { out = record { bytes = O.written out.old; faults = O.faults out.old }; link = record { bound = L.bound link.old; deliveries = L.deliveries link.old; sent = L.sent link.old; faults = L.faults link.old }; words = R.words fresh.old })
-        (record { out = record { bytes = O.written out.new; faults = O.faults out.new }; link = record { bound = L.bound link.new; deliveries = L.deliveries link.new; sent = L.sent link.new; faults = L.faults link.new }; words = R.words fresh.new })
+        (record { out = record { bytes = O.written out.old; faults = O.faults out.old }; link = record { bound = L.bound link.old; deliveries = L.deliveries link.old; sent = L.sent link.old; faults = L.faults link.old }; random = R.random fresh.old })
+        (record { out = record { bytes = O.written out.new; faults = O.faults out.new }; link = record { bound = L.bound link.new; deliveries = L.deliveries link.new; sent = L.sent link.new; faults = L.faults link.new }; random = R.random fresh.new })
         (record { bound = D.bound disk.old; seen = D.seen disk.old; may_leave = D.may_leave disk.old; faults = D.faults disk.old }) (record { bound = D.bound disk.new; seen = D.seen disk.new; may_leave = D.may_leave disk.new; faults = D.faults disk.new })
         result }
 {

@@ -53,7 +53,5 @@ mod serve;
 mod setup;
 mod suggest;
 
-pub use before::{
-    end_without_descriptors, end_without_memory, end_without_seed, end_without_words,
-};
+pub use before::{end_without_args, end_without_descriptors, end_without_memory, end_without_seed};
 pub use program::top;

@@ -52,7 +52,7 @@ pub fn top<
     I: Input,
 >(
     alloc: Global,
-    words: &[String],
+    args: &[String],
     files: &mut F,
     out: &mut O,
     err: &mut E,
@@ -65,9 +65,9 @@ pub fn top<
 ) -> u8
     // No command changes the files.
     ensures files { F.held files.new ≡ F.held files.old }
-    ensures ends { Ends (map string_bytes words.now) (F.held files.old) (F.faults files.old) (F.faults files.new)
-        (record { out = record { bytes = O.written out.old; faults = O.faults out.old }; link = record { bound = L.bound link.old; deliveries = L.deliveries link.old; sent = L.sent link.old; faults = L.faults link.old }; words = R.words fresh.old })
-        (record { out = record { bytes = O.written out.new; faults = O.faults out.new }; link = record { bound = L.bound link.new; deliveries = L.deliveries link.new; sent = L.sent link.new; faults = L.faults link.new }; words = R.words fresh.new })
+    ensures ends { Ends (map string_bytes args.now) (F.held files.old) (F.faults files.old) (F.faults files.new)
+        (record { out = record { bytes = O.written out.old; faults = O.faults out.old }; link = record { bound = L.bound link.old; deliveries = L.deliveries link.old; sent = L.sent link.old; faults = L.faults link.old }; random = R.random fresh.old })
+        (record { out = record { bytes = O.written out.new; faults = O.faults out.new }; link = record { bound = L.bound link.new; deliveries = L.deliveries link.new; sent = L.sent link.new; faults = L.faults link.new }; random = R.random fresh.new })
         (streamed C.bound C.held C.faults stream.old) (streamed C.bound C.held C.faults stream.new)
         (record { bound = D.bound disk.old; seen = D.seen disk.old; may_leave = D.may_leave disk.old; faults = D.faults disk.old }) (record { bound = D.bound disk.new; seen = D.seen disk.new; may_leave = D.may_leave disk.new; faults = D.faults disk.new })
         (record { coming = L.coming link.old; port = record { bound = P.bound port.old; coming = P.coming port.old; sent = P.sent port.old; faults = P.faults port.old }; input = record { bytes = I.coming input.old; faults = I.faults input.old } })
@@ -75,17 +75,17 @@ pub fn top<
         (record { bytes = E.written err.old; faults = E.faults err.old }) (record { bytes = E.written err.new; faults = E.faults err.new }) result }
 
     // All links, the input and the random words are as before where no run began.
-    ensures as_before { MayPlay (map string_bytes words.now) result ⊎ ((link.new ≡ link.old) × (stream.new ≡ stream.old) × (port.new ≡ port.old) × (input.new ≡ input.old) × (fresh.new ≡ fresh.old)) }
+    ensures as_before { MayPlay (map string_bytes args.now) result ⊎ ((link.new ≡ link.old) × (stream.new ≡ stream.old) × (port.new ≡ port.old) × (input.new ≡ input.old) × (fresh.new ≡ fresh.old)) }
 
     // So is each link where the words ask for no run over it, the input where they don't ask to serve, and the disk where they are not on a
     // ledger.
-    ensures link { IsOverLink (command_of (map string_bytes words.now)) ⊎ (link.new ≡ link.old) }
-    ensures stream { IsOverStream (command_of (map string_bytes words.now)) ⊎ (stream.new ≡ stream.old) }
-    ensures port { IsOverPort (command_of (map string_bytes words.now)) ⊎ (port.new ≡ port.old) }
-    ensures input { IsOnInput (command_of (map string_bytes words.now)) ⊎ (input.new ≡ input.old) }
-    ensures disk { IsOnDisk (command_of (map string_bytes words.now)) ⊎ (disk.new ≡ disk.old) }
+    ensures link { IsOverLink (command_of (map string_bytes args.now)) ⊎ (link.new ≡ link.old) }
+    ensures stream { IsOverStream (command_of (map string_bytes args.now)) ⊎ (stream.new ≡ stream.old) }
+    ensures port { IsOverPort (command_of (map string_bytes args.now)) ⊎ (port.new ≡ port.old) }
+    ensures input { IsOnInput (command_of (map string_bytes args.now)) ⊎ (input.new ≡ input.old) }
+    ensures disk { IsOnDisk (command_of (map string_bytes args.now)) ⊎ (disk.new ≡ disk.old) }
 {
-    match CommandLine::new(alloc, words) {
+    match CommandLine::new(alloc, args) {
         Ok(line) => on_line(
             alloc, &line, files, out, err, link, fresh, disk, stream, port, input,
         ),
@@ -119,8 +119,8 @@ fn on_line<
 ) -> u8
     ensures files { F.held files.new ≡ F.held files.old }
     ensures ends { Ends line.now (F.held files.old) (F.faults files.old) (F.faults files.new)
-        (record { out = record { bytes = O.written out.old; faults = O.faults out.old }; link = record { bound = L.bound link.old; deliveries = L.deliveries link.old; sent = L.sent link.old; faults = L.faults link.old }; words = R.words fresh.old })
-        (record { out = record { bytes = O.written out.new; faults = O.faults out.new }; link = record { bound = L.bound link.new; deliveries = L.deliveries link.new; sent = L.sent link.new; faults = L.faults link.new }; words = R.words fresh.new })
+        (record { out = record { bytes = O.written out.old; faults = O.faults out.old }; link = record { bound = L.bound link.old; deliveries = L.deliveries link.old; sent = L.sent link.old; faults = L.faults link.old }; random = R.random fresh.old })
+        (record { out = record { bytes = O.written out.new; faults = O.faults out.new }; link = record { bound = L.bound link.new; deliveries = L.deliveries link.new; sent = L.sent link.new; faults = L.faults link.new }; random = R.random fresh.new })
         (record { bound = S.bound stream.old; deliveries = S.deliveries stream.old; sent = S.sent stream.old; faults = S.faults stream.old }) (record { bound = S.bound stream.new; deliveries = S.deliveries stream.new; sent = S.sent stream.new; faults = S.faults stream.new })
         (record { bound = D.bound disk.old; seen = D.seen disk.old; may_leave = D.may_leave disk.old; faults = D.faults disk.old }) (record { bound = D.bound disk.new; seen = D.seen disk.new; may_leave = D.may_leave disk.new; faults = D.faults disk.new })
         (record { coming = L.coming link.old; port = record { bound = P.bound port.old; coming = P.coming port.old; sent = P.sent port.old; faults = P.faults port.old }; input = record { bytes = I.coming input.old; faults = I.faults input.old } })
@@ -168,8 +168,8 @@ fn work<'w, F: Files, O: Sink, L: TimedLink, R: Fresh, D: Disk, S: Link, P: Time
     requires { CanBeDriven (option_map command_held command) }
     ensures files { F.held files.new ≡ F.held files.old }
     ensures works { Works (option_map command_held command.entry) (F.held files.old) (F.faults files.old) (F.faults files.new)
-        (record { out = record { bytes = O.written out.old; faults = O.faults out.old }; link = record { bound = L.bound link.old; deliveries = L.deliveries link.old; sent = L.sent link.old; faults = L.faults link.old }; words = R.words fresh.old })
-        (record { out = record { bytes = O.written out.new; faults = O.faults out.new }; link = record { bound = L.bound link.new; deliveries = L.deliveries link.new; sent = L.sent link.new; faults = L.faults link.new }; words = R.words fresh.new })
+        (record { out = record { bytes = O.written out.old; faults = O.faults out.old }; link = record { bound = L.bound link.old; deliveries = L.deliveries link.old; sent = L.sent link.old; faults = L.faults link.old }; random = R.random fresh.old })
+        (record { out = record { bytes = O.written out.new; faults = O.faults out.new }; link = record { bound = L.bound link.new; deliveries = L.deliveries link.new; sent = L.sent link.new; faults = L.faults link.new }; random = R.random fresh.new })
         (record { bound = S.bound stream.old; deliveries = S.deliveries stream.old; sent = S.sent stream.old; faults = S.faults stream.old }) (record { bound = S.bound stream.new; deliveries = S.deliveries stream.new; sent = S.sent stream.new; faults = S.faults stream.new })
         (record { bound = D.bound disk.old; seen = D.seen disk.old; may_leave = D.may_leave disk.old; faults = D.faults disk.old }) (record { bound = D.bound disk.new; seen = D.seen disk.new; may_leave = D.may_leave disk.new; faults = D.faults disk.new })
         (record { coming = L.coming link.old; port = record { bound = P.bound port.old; coming = P.coming port.old; sent = P.sent port.old; faults = P.faults port.old }; input = record { bytes = I.coming input.old; faults = I.faults input.old } })

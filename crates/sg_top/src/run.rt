@@ -30,8 +30,8 @@ pub fn run<'w, F: Files, O: Sink, L: Link, R: Fresh>(
 ) -> Ending<'w>
     ensures kept { F.held files.new ≡ F.held files.old }
     ensures runs { Runs (record { keys = keys.now; programs = map (λ p. p.now) programs.now; script = script.now }) most (F.held files.old) (F.faults files.old) (F.faults files.new)
-        (record { out = record { bytes = O.written out.old; faults = O.faults out.old }; link = record { bound = L.bound link.old; deliveries = L.deliveries link.old; sent = L.sent link.old; faults = L.faults link.old }; words = R.words fresh.old })
-        (record { out = record { bytes = O.written out.new; faults = O.faults out.new }; link = record { bound = L.bound link.new; deliveries = L.deliveries link.new; sent = L.sent link.new; faults = L.faults link.new }; words = R.words fresh.new })
+        (record { out = record { bytes = O.written out.old; faults = O.faults out.old }; link = record { bound = L.bound link.old; deliveries = L.deliveries link.old; sent = L.sent link.old; faults = L.faults link.old }; random = R.random fresh.old })
+        (record { out = record { bytes = O.written out.new; faults = O.faults out.new }; link = record { bound = L.bound link.new; deliveries = L.deliveries link.new; sent = L.sent link.new; faults = L.faults link.new }; random = R.random fresh.new })
         (ending_held result) }
     ensures as_before { CanHavePlayed (ending_held result) ⊎ ((link.new ≡ link.old) × (fresh.new ≡ fresh.old)) }
 {
@@ -57,11 +57,11 @@ fn play_setup<L: Link, R: Fresh, O: Sink>(
 ) -> Result<(), PlayFault>
     requires { setup.keys_of_node ≡ setup.keys }
     ensures waits { (L.bound link.new ≡ Some (waits_at setup.keys)) ⊎ ((result ≡ Err PlayFault.LinkFailed) × LacksLink
-        (record { out = record { bytes = O.written out.old; faults = O.faults out.old }; link = record { bound = L.bound link.old; deliveries = L.deliveries link.old; sent = L.sent link.old; faults = L.faults link.old }; words = R.words fresh.old })
-        (record { out = record { bytes = O.written out.new; faults = O.faults out.new }; link = record { bound = L.bound link.new; deliveries = L.deliveries link.new; sent = L.sent link.new; faults = L.faults link.new }; words = R.words fresh.new })) }
+        (record { out = record { bytes = O.written out.old; faults = O.faults out.old }; link = record { bound = L.bound link.old; deliveries = L.deliveries link.old; sent = L.sent link.old; faults = L.faults link.old }; random = R.random fresh.old })
+        (record { out = record { bytes = O.written out.new; faults = O.faults out.new }; link = record { bound = L.bound link.new; deliveries = L.deliveries link.new; sent = L.sent link.new; faults = L.faults link.new }; random = R.random fresh.new })) }
     ensures plays { Plays (record { keys = setup.keys; programs = setup.programs; script = setup.script }) most
-        (record { out = record { bytes = O.written out.old; faults = O.faults out.old }; link = record { bound = L.bound link.old; deliveries = L.deliveries link.old; sent = L.sent link.old; faults = L.faults link.old }; words = R.words fresh.old })
-        (record { out = record { bytes = O.written out.new; faults = O.faults out.new }; link = record { bound = L.bound link.new; deliveries = L.deliveries link.new; sent = L.sent link.new; faults = L.faults link.new }; words = R.words fresh.new })
+        (record { out = record { bytes = O.written out.old; faults = O.faults out.old }; link = record { bound = L.bound link.old; deliveries = L.deliveries link.old; sent = L.sent link.old; faults = L.faults link.old }; random = R.random fresh.old })
+        (record { out = record { bytes = O.written out.new; faults = O.faults out.new }; link = record { bound = L.bound link.new; deliveries = L.deliveries link.new; sent = L.sent link.new; faults = L.faults link.new }; random = R.random fresh.new })
         result }
     ensures left { OnOk result (Takes most (L.deliveries link.old) (L.deliveries link.new)) }
     ensures at_most { TakesAtMost most (L.deliveries link.old) (L.deliveries link.new) }
@@ -86,8 +86,8 @@ fn play_on<L: Link, R: Fresh, O: Sink>(
     requires { setup.keys_of_node ≡ setup.keys }
     ensures bound { L.bound link.new ≡ L.bound link.old }
     ensures plays { Plays (record { keys = setup.keys; programs = setup.programs; script = setup.script }) most
-        (record { out = record { bytes = O.written out.old; faults = O.faults out.old }; link = record { bound = L.bound link.old; deliveries = L.deliveries link.old; sent = L.sent link.old; faults = L.faults link.old }; words = R.words fresh.old })
-        (record { out = record { bytes = O.written out.new; faults = O.faults out.new }; link = record { bound = L.bound link.new; deliveries = L.deliveries link.new; sent = L.sent link.new; faults = L.faults link.new }; words = R.words fresh.new })
+        (record { out = record { bytes = O.written out.old; faults = O.faults out.old }; link = record { bound = L.bound link.old; deliveries = L.deliveries link.old; sent = L.sent link.old; faults = L.faults link.old }; random = R.random fresh.old })
+        (record { out = record { bytes = O.written out.new; faults = O.faults out.new }; link = record { bound = L.bound link.new; deliveries = L.deliveries link.new; sent = L.sent link.new; faults = L.faults link.new }; random = R.random fresh.new })
         result }
     ensures left { OnOk result (Takes most (L.deliveries link.old) (L.deliveries link.new)) }
     ensures at_most { TakesAtMost most (L.deliveries link.old) (L.deliveries link.new) }

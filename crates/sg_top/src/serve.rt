@@ -33,8 +33,8 @@ pub fn serve<'w, F: Files, O: Sink, I: Input, L: TimedLink, R: Fresh, D: Disk>(
 ) -> Ending<'w>
     ensures kept { F.held files.new ≡ F.held files.old }
     ensures serves { ServesRun (record { keys = keys.now; programs = map (λ p. p.now) programs.now; ledger = option_map (λ f. f.now) ledger.entry }) (F.held files.old) (F.faults files.old) (F.faults files.new)
-        (record { out = record { bytes = O.written out.old; faults = O.faults out.old }; link = record { bound = L.bound link.old; coming = L.coming link.old; sent = L.sent link.old; faults = L.faults link.old }; words = R.words fresh.old; input = record { bytes = I.coming input.old; faults = I.faults input.old } })
-        (record { out = record { bytes = O.written out.new; faults = O.faults out.new }; link = record { bound = L.bound link.new; coming = L.coming link.new; sent = L.sent link.new; faults = L.faults link.new }; words = R.words fresh.new; input = record { bytes = I.coming input.new; faults = I.faults input.new } })
+        (record { out = record { bytes = O.written out.old; faults = O.faults out.old }; link = record { bound = L.bound link.old; coming = L.coming link.old; sent = L.sent link.old; faults = L.faults link.old }; random = R.random fresh.old; input = record { bytes = I.coming input.old; faults = I.faults input.old } })
+        (record { out = record { bytes = O.written out.new; faults = O.faults out.new }; link = record { bound = L.bound link.new; coming = L.coming link.new; sent = L.sent link.new; faults = L.faults link.new }; random = R.random fresh.new; input = record { bytes = I.coming input.new; faults = I.faults input.new } })
         (record { bound = D.bound disk.old; seen = D.seen disk.old; may_leave = D.may_leave disk.old; faults = D.faults disk.old }) (record { bound = D.bound disk.new; seen = D.seen disk.new; may_leave = D.may_leave disk.new; faults = D.faults disk.new })
         (ending_held result) }
     ensures as_before { CanHaveServed (ending_held result) ⊎ ((link.new ≡ link.old) × (input.new ≡ input.old) × (fresh.new ≡ fresh.old)) }
@@ -59,8 +59,8 @@ fn serve_principal<O: Sink, I: Input, L: TimedLink, R: Fresh, D: Disk>(
 ) -> Ending<'static>
     requires { principal.keys_of_node ≡ principal.keys }
     ensures serves { ServesPrincipal (option_map (λ f. f.now) ledger.entry) (record { keys = principal.keys; programs = principal.programs })
-        (record { out = record { bytes = O.written out.old; faults = O.faults out.old }; link = record { bound = L.bound link.old; coming = L.coming link.old; sent = L.sent link.old; faults = L.faults link.old }; words = R.words fresh.old; input = record { bytes = I.coming input.old; faults = I.faults input.old } })
-        (record { out = record { bytes = O.written out.new; faults = O.faults out.new }; link = record { bound = L.bound link.new; coming = L.coming link.new; sent = L.sent link.new; faults = L.faults link.new }; words = R.words fresh.new; input = record { bytes = I.coming input.new; faults = I.faults input.new } })
+        (record { out = record { bytes = O.written out.old; faults = O.faults out.old }; link = record { bound = L.bound link.old; coming = L.coming link.old; sent = L.sent link.old; faults = L.faults link.old }; random = R.random fresh.old; input = record { bytes = I.coming input.old; faults = I.faults input.old } })
+        (record { out = record { bytes = O.written out.new; faults = O.faults out.new }; link = record { bound = L.bound link.new; coming = L.coming link.new; sent = L.sent link.new; faults = L.faults link.new }; random = R.random fresh.new; input = record { bytes = I.coming input.new; faults = I.faults input.new } })
         (record { bound = D.bound disk.old; seen = D.seen disk.old; may_leave = D.may_leave disk.old; faults = D.faults disk.old }) (record { bound = D.bound disk.new; seen = D.seen disk.new; may_leave = D.may_leave disk.new; faults = D.faults disk.new })
         (ending_held result) }
     ensures as_before { CanHaveServed (ending_held result) ⊎ ((link.new ≡ link.old) × (input.new ≡ input.old) × (fresh.new ≡ fresh.old)) }
@@ -99,8 +99,8 @@ fn serve_over<O: Sink, I: Input, L: TimedLink, R: Fresh, D: Disk>(
     requires working { IfSome ledger (λ l. l.failed ≡ false) }
     requires represents { AllRepresent (images_if (is_some ledger) (D.may_leave disk.old)) (joins_kept ledger) }
     ensures serves { ServesOver (is_some ledger) (joins_kept ledger) (record { keys = principal.keys; programs = principal.programs })
-        (record { out = record { bytes = O.written out.old; faults = O.faults out.old }; link = record { bound = L.bound link.old; coming = L.coming link.old; sent = L.sent link.old; faults = L.faults link.old }; words = R.words fresh.old; input = record { bytes = I.coming input.old; faults = I.faults input.old } })
-        (record { out = record { bytes = O.written out.new; faults = O.faults out.new }; link = record { bound = L.bound link.new; coming = L.coming link.new; sent = L.sent link.new; faults = L.faults link.new }; words = R.words fresh.new; input = record { bytes = I.coming input.new; faults = I.faults input.new } })
+        (record { out = record { bytes = O.written out.old; faults = O.faults out.old }; link = record { bound = L.bound link.old; coming = L.coming link.old; sent = L.sent link.old; faults = L.faults link.old }; random = R.random fresh.old; input = record { bytes = I.coming input.old; faults = I.faults input.old } })
+        (record { out = record { bytes = O.written out.new; faults = O.faults out.new }; link = record { bound = L.bound link.new; coming = L.coming link.new; sent = L.sent link.new; faults = L.faults link.new }; random = R.random fresh.new; input = record { bytes = I.coming input.new; faults = I.faults input.new } })
         (record { bound = D.bound disk.old; seen = D.seen disk.old; may_leave = D.may_leave disk.old; faults = D.faults disk.old }) (record { bound = D.bound disk.new; seen = D.seen disk.new; may_leave = D.may_leave disk.new; faults = D.faults disk.new })
         (ending_held result) }
     ensures bound { D.bound disk.new ≡ D.bound disk.old }
@@ -129,8 +129,8 @@ fn answer_all<O: Sink, I: Input, L: TimedLink, R: Fresh, D: Disk>(
     requires represents { AllRepresent (images_if (is_some ledger) (D.may_leave disk.old)) (joins_kept ledger) }
     ensures bound { D.bound disk.new ≡ D.bound disk.old }
     ensures ends { EndsServing (is_some ledger) (joins_kept ledger) (record { keys = principal.keys; programs = principal.programs })
-        (record { out = record { bytes = O.written out.old; faults = O.faults out.old }; link = record { bound = L.bound link.old; coming = L.coming link.old; sent = L.sent link.old; faults = L.faults link.old }; words = R.words fresh.old; input = record { bytes = I.coming input.old; faults = I.faults input.old } })
-        (record { out = record { bytes = O.written out.new; faults = O.faults out.new }; link = record { bound = L.bound link.new; coming = L.coming link.new; sent = L.sent link.new; faults = L.faults link.new }; words = R.words fresh.new; input = record { bytes = I.coming input.new; faults = I.faults input.new } })
+        (record { out = record { bytes = O.written out.old; faults = O.faults out.old }; link = record { bound = L.bound link.old; coming = L.coming link.old; sent = L.sent link.old; faults = L.faults link.old }; random = R.random fresh.old; input = record { bytes = I.coming input.old; faults = I.faults input.old } })
+        (record { out = record { bytes = O.written out.new; faults = O.faults out.new }; link = record { bound = L.bound link.new; coming = L.coming link.new; sent = L.sent link.new; faults = L.faults link.new }; random = R.random fresh.new; input = record { bytes = I.coming input.new; faults = I.faults input.new } })
         (record { bound = D.bound disk.old; seen = D.seen disk.old; may_leave = D.may_leave disk.old; faults = D.faults disk.old }) (record { bound = D.bound disk.new; seen = D.seen disk.new; may_leave = D.may_leave disk.new; faults = D.faults disk.new })
         result }
     ensures disk { IsNone ledger → disk.new ≡ disk.old }

@@ -1,6 +1,6 @@
 //! Random words in memory.
 ghost use Rattle.std.specs.Prelude.{◌≡◌, ◌+◌, ◌<◌, ◌^◌, drop, replicate, slice_index_or, IfOk};
-ghost use Rattle.sg_base.specs.Seeded.{seeded_words, stream_word};
+ghost use Rattle.sg_base.specs.Seeded.{seeded_random, stream_draw};
 
 use crate::{Fresh, OutOfMemory};
 use rand_chacha::ChaCha20Rng;
@@ -13,7 +13,7 @@ use std::marker::Model;
 /// A list of words, drawn from a seed when it was made.
 #[derive(Debug, Drop)]
 pub struct MemFresh {
-    words: VecDeque<[u8; 16]>,
+    random: VecDeque<[u8; 16]>,
 }
 
 impl Model for MemFresh {
@@ -21,43 +21,43 @@ impl Model for MemFresh {
 
     ghost Value = { List (List ℕ) };
 
-    ghost view = { λ f. f.words.items };
+    ghost view = { λ f. f.random.items };
 }
 
 impl MemFresh {
-    /// The first `words` words of `ChaCha20Rng` from a seed.
-    pub fn new(alloc: Global, seed: [u8; 32], words: u32) -> Result<MemFresh, OutOfMemory>
-        ensures { IfOk result (λ f. f ≡ seeded_words seed words) }
+    /// The first `count` words of `ChaCha20Rng` from a seed.
+    pub fn new(alloc: Global, seed: [u8; 32], count: u32) -> Result<MemFresh, OutOfMemory>
+        ensures { IfOk result (λ f. f ≡ seeded_random seed count) }
     {
         let mut rng = ChaCha20Rng::from_seed(seed);
-        let mut drawn = VecDeque::with_capacity(alloc, words as usize)?;
-        for _ in 0..words {
+        let mut drawn = VecDeque::with_capacity(alloc, count as usize)?;
+        for _ in 0..count {
             drawn.push_back(draw(&mut rng))?;
         }
-        Ok(MemFresh { words: drawn })
+        Ok(MemFresh { random: drawn })
     }
 }
 
 // The next word of sixteen bytes.
 fn draw(rng: &mut ChaCha20Rng) -> [u8; 16]
     requires { rng.old.word_pos + 4 < 2 ^ 68 }
-    ensures word { result ≡ stream_word rng.old.key rng.old.stream rng.old.word_pos }
+    ensures drawn { result ≡ stream_draw rng.old.key rng.old.stream rng.old.word_pos }
     ensures position { rng.new ≡ record rng.old { word_pos = rng.old.word_pos + 4 } }
 {
-    let mut word = [0u8; 16];
-    fill_bytes_via_u32(rng, &mut word);
-    word
+    let mut bytes = [0u8; 16];
+    fill_bytes_via_u32(rng, &mut bytes);
+    bytes
 }
 
 impl Fresh for MemFresh {
     ghost use Rattle.std.specs.Prelude.{Some};
 
-    ghost words = { λ f. Some f };
+    ghost random = { λ f. Some f };
 
     fn next(&mut self) -> [u8; 16]
-        ensures word { result ≡ slice_index_or self.old 0 (replicate 16 0) }
+        ensures drawn { result ≡ slice_index_or self.old 0 (replicate 16 0) }
         ensures taken { self.new ≡ drop 1 self.old }
     {
-        self.words.pop_front().unwrap_or([0; 16])
+        self.random.pop_front().unwrap_or([0; 16])
     }
 }

@@ -6,6 +6,6 @@ use Rattle.sg_play.proofs.Called.{comes_made}
 use Rattle.sg_play.proofs.ask.ask_act.Goals as goal
 
 pub returns-clause-comes : goal.returns-clause-comes
-returns-clause-comes c = λ past represents. comes_made c.args.keys.now c.args.frames.now c.addressed-frame.new.frames c.args.node.now c.ask_numbered.new.node past (Act c.args.sid c.args.label (values_of c.args.values.now) c.args.words.now) c.in_ok-number.number
+returns-clause-comes c = λ past represents. comes_made c.args.keys.now c.args.frames.now c.addressed-frame.new.frames c.args.node.now c.ask_numbered.new.node past (Act c.args.sid c.args.label (values_of c.args.values.now) c.args.confounders.now) c.in_ok-number.number
     (outcome_of c.in_ok-outcome.outcome) (option_copied c.in_ok-outcome.graph) c.in_ok-outcome.sealed c.addressed-frame.result c.in_ok-number.ensures.next (c.in_ok-outcome.ensures.comes past represents)
     c.addressed-frame.ensures.frame (c.addressed-frame.ensures.count c.in_ok-number.ensures.next)

@@ -14,31 +14,31 @@ use Rattle.sg_play.proofs.Running.{not_begun, starts_failed}
 use Rattle.sg_play.proofs.run.play.Goals as goal
 
 pub returns-in_err-player-clause-played : goal.returns-in_err-player-clause-played
-returns-in_err-player-clause-played g c = let same : c.from_residual.result ≡ Err c.in_err-player.field-0.0 = search rules in λ first deliveries words new told drawn.
+returns-in_err-player-clause-played g c = let same : c.from_residual.result ≡ Err c.in_err-player.field-0.0 = search rules in λ first deliveries random new told drawn.
     let start : Outside = record { written = g.O.Sink.written c.args.out.now; sent = g.L.Link.sent c.args.link.now } in
-    not_begun start start c.args.keys.now c.args.programs.now first c.args.script (take c.args.most deliveries) words c.from_residual.result c.in_err-player.field-0.0 same c.in_err-player.ensures.memory refl
+    not_begun start start c.args.keys.now c.args.programs.now first c.args.script (take c.args.most deliveries) random c.from_residual.result c.in_err-player.field-0.0 same c.in_err-player.ensures.memory refl
 
 pub returns-in_err-start_all-clause-played : goal.returns-in_err-start_all-clause-played
-returns-in_err-start_all-clause-played g c = let from = err_from_is_err_and c.from_residual-in_err-start_all.result c.from_residual-in_err-start_all.ensures.1 in let same : c.from_residual-in_err-start_all.result ≡ Err c.in_err-start_all.field-0.0 = from.1 ∙ ap (λ (z : PlayFault). Err z) from.2 in λ first deliveries words new told drawn.
+returns-in_err-start_all-clause-played g c = let from = err_from_is_err_and c.from_residual-in_err-start_all.result c.from_residual-in_err-start_all.ensures.1 in let same : c.from_residual-in_err-start_all.result ≡ Err c.in_err-start_all.field-0.0 = from.1 ∙ ap (λ (z : PlayFault). Err z) from.2 in λ first deliveries random new told drawn.
     let start : Outside = record { written = g.O.Sink.written c.args.out.now; sent = g.L.Link.sent c.args.link.now } in
     let now : Outside = record { written = g.O.Sink.written c.start_all.new.out; sent = g.L.Link.sent c.start_all.new.link } in
     let script : Script = record { starts = c.as_slice.result.now; choices = c.script.inside.choices } in
     let is : script ≡ c.args.script = ap (λ (ss : List ScriptStart). record { starts = ss; choices = c.script.inside.choices }) c.as_slice.ensures ∙ c.script.view_is in
-    let begun = beginning c.args.keys.now c.args.programs.now first script.choices words in
-    subst (λ (z : Script). Ended start now (played c.args.keys.now c.args.programs.now first z (take c.args.most deliveries) words).steps c.from_residual-in_err-start_all.result) is
-    (starts_failed start now c.args.keys.now c.args.programs.now first script (take c.args.most deliveries) words c.start_all.new.self (g.R.Fresh.words c.start_all.new.fresh) c.from_residual-in_err-start_all.result c.in_err-start_all.field-0.0 same
-    (c.in_err-start_all.ensures.progress begun start (c.in_ok-player.ensures.represents first words new) drawn (whole_none start)))
+    let begun = beginning c.args.keys.now c.args.programs.now first script.choices random in
+    subst (λ (z : Script). Ended start now (played c.args.keys.now c.args.programs.now first z (take c.args.most deliveries) random).steps c.from_residual-in_err-start_all.result) is
+    (starts_failed start now c.args.keys.now c.args.programs.now first script (take c.args.most deliveries) random c.start_all.new.self (g.R.Fresh.random c.start_all.new.fresh) c.from_residual-in_err-start_all.result c.in_err-start_all.field-0.0 same
+    (c.in_err-start_all.ensures.progress begun start (c.in_ok-player.ensures.represents first random new) drawn (whole_none start)))
 
 pub returns-clause-played : goal.returns-clause-played
-returns-clause-played g c = λ first deliveries words new told drawn.
+returns-clause-played g c = λ first deliveries random new told drawn.
     let start : Outside = record { written = g.O.Sink.written c.args.out.now; sent = g.L.Link.sent c.args.link.now } in
     let now : Outside = record { written = g.O.Sink.written c.take_all.new.out; sent = g.L.Link.sent c.take_all.new.link } in
     let script : Script = record { starts = c.as_slice.result.now; choices = c.script.inside.choices } in
     let is : script ≡ c.args.script = ap (λ (ss : List ScriptStart). record { starts = ss; choices = c.script.inside.choices }) c.as_slice.ensures ∙ c.script.view_is in
-    let begun = beginning c.args.keys.now c.args.programs.now first script.choices words in
-    let started = c.in_ok-start_all.ensures.progress begun start (c.in_ok-player.ensures.represents first words new) drawn (whole_none start) in
-    subst (λ (z : Script). Ended start now (played c.args.keys.now c.args.programs.now first z (take c.args.most deliveries) words).steps c.take_all.result) is
-    (ended_so start now c.take_all.new.self (g.R.Fresh.words c.take_all.new.fresh) (played c.args.keys.now c.args.programs.now first script (take c.args.most deliveries) words) c.take_all.result
+    let begun = beginning c.args.keys.now c.args.programs.now first script.choices random in
+    let started = c.in_ok-start_all.ensures.progress begun start (c.in_ok-player.ensures.represents first random new) drawn (whole_none start) in
+    subst (λ (z : Script). Ended start now (played c.args.keys.now c.args.programs.now first z (take c.args.most deliveries) random).steps c.take_all.result) is
+    (ended_so start now c.take_all.new.self (g.R.Fresh.random c.take_all.new.fresh) (played c.args.keys.now c.args.programs.now first script (take c.args.most deliveries) random) c.take_all.result
     (c.take_all.ensures.progress (all_starts begun script.starts) start deliveries (c.in_ok-start_all.ensures.deliveries ∙ told) started.0.0 started.1 started.0.1))
 
 pub returns-in_err-player-clause-link_failed : goal.returns-in_err-player-clause-link_failed

@@ -10,8 +10,8 @@ use Rattle.sg_top.proofs.keep.keep_setup.Goals as goal
 pub returns-in-Ok-clause-keeps : goal.returns-in-Ok-clause-keeps
 returns-in-Ok-clause-keeps g c =
     let setup : Setup = record { keys = c.args.setup.keys; programs = c.args.setup.programs; script = c.args.setup.script } in
-    let old : Outside = record { out = record { bytes = g.O.Sink.written c.args.out.now; faults = g.O.Sink.faults c.args.out.now }; link = record { bound = g.L.Link.bound c.args.link.now; deliveries = g.L.Link.deliveries c.args.link.now; sent = g.L.Link.sent c.args.link.now; faults = g.L.Link.faults c.args.link.now }; words = g.R.Fresh.words c.args.fresh.now } in
-    let new : Outside = record { out = record { bytes = g.O.Sink.written c.play_over.new.out; faults = g.O.Sink.faults c.play_over.new.out }; link = record { bound = g.L.Link.bound c.play_over.new.link; deliveries = g.L.Link.deliveries c.play_over.new.link; sent = g.L.Link.sent c.play_over.new.link; faults = g.L.Link.faults c.play_over.new.link }; words = g.R.Fresh.words c.play_over.new.fresh } in
+    let old : Outside = record { out = record { bytes = g.O.Sink.written c.args.out.now; faults = g.O.Sink.faults c.args.out.now }; link = record { bound = g.L.Link.bound c.args.link.now; deliveries = g.L.Link.deliveries c.args.link.now; sent = g.L.Link.sent c.args.link.now; faults = g.L.Link.faults c.args.link.now }; random = g.R.Fresh.random c.args.fresh.now } in
+    let new : Outside = record { out = record { bytes = g.O.Sink.written c.play_over.new.out; faults = g.O.Sink.faults c.play_over.new.out }; link = record { bound = g.L.Link.bound c.play_over.new.link; deliveries = g.L.Link.deliveries c.play_over.new.link; sent = g.L.Link.sent c.play_over.new.link; faults = g.L.Link.faults c.play_over.new.link }; random = g.R.Fresh.random c.play_over.new.fresh } in
     let disk : Disked = record { bound = g.D.Disk.bound c.args.disk.now; seen = g.D.Disk.seen c.args.disk.now; may_leave = g.D.Disk.may_leave c.args.disk.now; faults = g.D.Disk.faults c.args.disk.now } in
     let disk1 : Disked = record { bound = g.D.Disk.bound c.open_ledger.new.disk; seen = g.D.Disk.seen c.open_ledger.new.disk; may_leave = g.D.Disk.may_leave c.open_ledger.new.disk; faults = g.D.Disk.faults c.open_ledger.new.disk } in
     let disk2 : Disked = record { bound = g.D.Disk.bound c.play_over.new.disk; seen = g.D.Disk.seen c.play_over.new.disk; may_leave = g.D.Disk.may_leave c.play_over.new.disk; faults = g.D.Disk.faults c.play_over.new.disk } in

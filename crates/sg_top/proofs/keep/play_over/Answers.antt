@@ -14,7 +14,7 @@ returns-in-Err-clause-ends g c =
     let link : Linked = record { bound = g.L.Link.bound c.args.link.now; deliveries = g.L.Link.deliveries c.args.link.now; sent = g.L.Link.sent c.args.link.now; faults = g.L.Link.faults c.args.link.now } in
     let link1 : Linked = record { bound = g.L.Link.bound c.open.new.self; deliveries = g.L.Link.deliveries c.open.new.self; sent = g.L.Link.sent c.open.new.self; faults = g.L.Link.faults c.open.new.self } in
     let disk : Disked = record { bound = g.D.Disk.bound c.args.disk.now; seen = g.D.Disk.seen c.args.disk.now; may_leave = g.D.Disk.may_leave c.args.disk.now; faults = g.D.Disk.faults c.args.disk.now } in
-    without_link c.args.ledger.joins setup c.args.most out (g.R.Fresh.words c.args.fresh.now) link link1 c.open.ensures.kept c.open.ensures.kept_sent c.open.ensures.never_falls disk c.in-Err.ensures.failed c.requires.represents
+    without_link c.args.ledger.joins setup c.args.most out (g.R.Fresh.random c.args.fresh.now) link link1 c.open.ensures.kept c.open.ensures.kept_sent c.open.ensures.never_falls disk c.in-Err.ensures.failed c.requires.represents
 
 pub returns-clause-ends : goal.returns-clause-ends
 returns-clause-ends g c =
@@ -22,10 +22,10 @@ returns-clause-ends g c =
     let out : Output = record { bytes = g.O.Sink.written c.args.out.now; faults = g.O.Sink.faults c.args.out.now } in
     let link : Linked = record { bound = g.L.Link.bound c.args.link.now; deliveries = g.L.Link.deliveries c.args.link.now; sent = g.L.Link.sent c.args.link.now; faults = g.L.Link.faults c.args.link.now } in
     let link1 : Linked = record { bound = g.L.Link.bound c.open.new.self; deliveries = g.L.Link.deliveries c.open.new.self; sent = g.L.Link.sent c.open.new.self; faults = g.L.Link.faults c.open.new.self } in
-    let new : Outside = record { out = record { bytes = g.O.Sink.written c.keep.new.out; faults = g.O.Sink.faults c.keep.new.out }; link = record { bound = g.L.Link.bound c.keep.new.link; deliveries = g.L.Link.deliveries c.keep.new.link; sent = g.L.Link.sent c.keep.new.link; faults = g.L.Link.faults c.keep.new.link }; words = g.R.Fresh.words c.keep.new.fresh } in
+    let new : Outside = record { out = record { bytes = g.O.Sink.written c.keep.new.out; faults = g.O.Sink.faults c.keep.new.out }; link = record { bound = g.L.Link.bound c.keep.new.link; deliveries = g.L.Link.deliveries c.keep.new.link; sent = g.L.Link.sent c.keep.new.link; faults = g.L.Link.faults c.keep.new.link }; random = g.R.Fresh.random c.keep.new.fresh } in
     let disk : Disked = record { bound = g.D.Disk.bound c.args.disk.now; seen = g.D.Disk.seen c.args.disk.now; may_leave = g.D.Disk.may_leave c.args.disk.now; faults = g.D.Disk.faults c.args.disk.now } in
     let disk1 : Disked = record { bound = g.D.Disk.bound c.keep.new.disk; seen = g.D.Disk.seen c.keep.new.disk; may_leave = g.D.Disk.may_leave c.keep.new.disk; faults = g.D.Disk.faults c.keep.new.disk } in
-    after_link c.args.ledger.joins setup c.args.most out (g.R.Fresh.words c.args.fresh.now) link link1 c.open.ensures.kept c.open.ensures.kept_sent c.open.ensures.never_falls new disk disk1 c.keep.result
+    after_link c.args.ledger.joins setup c.args.most out (g.R.Fresh.random c.args.fresh.now) link link1 c.open.ensures.kept c.open.ensures.kept_sent c.open.ensures.never_falls new disk disk1 c.keep.result
     (record { plays = c.keep.ensures.kept; faults = c.keep.ensures.faults; left = c.keep.ensures.left; at_most = c.keep.ensures.at_most })
 
 pub returns-in-Err-clause-waits : goal.returns-in-Err-clause-waits
@@ -37,7 +37,7 @@ returns-in-Err-clause-waits g c = inr (
     deliveries = c.open.ensures.kept;
     sent = c.open.ensures.kept_sent;
     out = refl;
-    words = refl;
+    random = refl;
   },
 )
 

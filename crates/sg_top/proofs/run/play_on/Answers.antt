@@ -12,8 +12,8 @@ returns-in-Ok-clause-plays g c = λ ds ws d w.
 pub returns-clause-plays : goal.returns-clause-plays
 returns-clause-plays g c = λ ds ws d w.
     unplayed (record { keys = c.args.setup.keys; programs = c.args.setup.programs; script = c.args.setup.script }) c.args.most
-    (record { out = record { bytes = g.O.Sink.written c.args.out.now; faults = g.O.Sink.faults c.args.out.now }; link = record { bound = g.L.Link.bound c.args.link.now; deliveries = g.L.Link.deliveries c.args.link.now; sent = g.L.Link.sent c.args.link.now; faults = g.L.Link.faults c.args.link.now }; words = g.R.Fresh.words c.args.fresh.now })
-    (record { out = record { bytes = g.O.Sink.written c.args.out.now; faults = g.O.Sink.faults c.args.out.now }; link = record { bound = g.L.Link.bound c.args.link.now; deliveries = g.L.Link.deliveries c.args.link.now; sent = g.L.Link.sent c.args.link.now; faults = g.L.Link.faults c.args.link.now }; words = g.R.Fresh.words c.args.fresh.now })
+    (record { out = record { bytes = g.O.Sink.written c.args.out.now; faults = g.O.Sink.faults c.args.out.now }; link = record { bound = g.L.Link.bound c.args.link.now; deliveries = g.L.Link.deliveries c.args.link.now; sent = g.L.Link.sent c.args.link.now; faults = g.L.Link.faults c.args.link.now }; random = g.R.Fresh.random c.args.fresh.now })
+    (record { out = record { bytes = g.O.Sink.written c.args.out.now; faults = g.O.Sink.faults c.args.out.now }; link = record { bound = g.L.Link.bound c.args.link.now; deliveries = g.L.Link.deliveries c.args.link.now; sent = g.L.Link.sent c.args.link.now; faults = g.L.Link.faults c.args.link.now }; random = g.R.Fresh.random c.args.fresh.now })
     (Err Play.OutOfMemory) refl refl (λ o n steps h. h) ds ws d w
 
 pub returns-clause-at_most : goal.returns-clause-at_most

@@ -17,16 +17,16 @@ returns-in-Err-clause-waits g c = inr (
     deliveries = c.open.ensures.kept;
     sent = c.open.ensures.kept_sent;
     out = refl;
-    words = refl;
+    random = refl;
   },
 )
 
 pub returns-in-Ok-clause-plays : goal.returns-in-Ok-clause-plays
 returns-in-Ok-clause-plays g c =
     opened (record { keys = c.args.setup.keys; programs = c.args.setup.programs; script = c.args.setup.script }) c.args.most
-    (record { out = record { bytes = g.O.Sink.written c.args.out.now; faults = g.O.Sink.faults c.args.out.now }; link = record { bound = g.L.Link.bound c.args.link.now; deliveries = g.L.Link.deliveries c.args.link.now; sent = g.L.Link.sent c.args.link.now; faults = g.L.Link.faults c.args.link.now }; words = g.R.Fresh.words c.args.fresh.now })
-    (record { out = record { bytes = g.O.Sink.written c.args.out.now; faults = g.O.Sink.faults c.args.out.now }; link = record { bound = g.L.Link.bound c.open.new.self; deliveries = g.L.Link.deliveries c.open.new.self; sent = g.L.Link.sent c.open.new.self; faults = g.L.Link.faults c.open.new.self }; words = g.R.Fresh.words c.args.fresh.now })
-    (record { out = record { bytes = g.O.Sink.written c.play_on.new.out; faults = g.O.Sink.faults c.play_on.new.out }; link = record { bound = g.L.Link.bound c.play_on.new.link; deliveries = g.L.Link.deliveries c.play_on.new.link; sent = g.L.Link.sent c.play_on.new.link; faults = g.L.Link.faults c.play_on.new.link }; words = g.R.Fresh.words c.play_on.new.fresh })
+    (record { out = record { bytes = g.O.Sink.written c.args.out.now; faults = g.O.Sink.faults c.args.out.now }; link = record { bound = g.L.Link.bound c.args.link.now; deliveries = g.L.Link.deliveries c.args.link.now; sent = g.L.Link.sent c.args.link.now; faults = g.L.Link.faults c.args.link.now }; random = g.R.Fresh.random c.args.fresh.now })
+    (record { out = record { bytes = g.O.Sink.written c.args.out.now; faults = g.O.Sink.faults c.args.out.now }; link = record { bound = g.L.Link.bound c.open.new.self; deliveries = g.L.Link.deliveries c.open.new.self; sent = g.L.Link.sent c.open.new.self; faults = g.L.Link.faults c.open.new.self }; random = g.R.Fresh.random c.args.fresh.now })
+    (record { out = record { bytes = g.O.Sink.written c.play_on.new.out; faults = g.O.Sink.faults c.play_on.new.out }; link = record { bound = g.L.Link.bound c.play_on.new.link; deliveries = g.L.Link.deliveries c.play_on.new.link; sent = g.L.Link.sent c.play_on.new.link; faults = g.L.Link.faults c.play_on.new.link }; random = g.R.Fresh.random c.play_on.new.fresh })
     c.play_on.result refl c.open.ensures.kept c.open.ensures.kept_sent refl c.play_on.ensures.plays
 
 pub returns-in-Ok-clause-left : goal.returns-in-Ok-clause-left
@@ -42,8 +42,8 @@ returns-in-Ok-clause-link_failed g c = λ e.
 pub returns-in-Err-clause-plays : goal.returns-in-Err-clause-plays
 returns-in-Err-clause-plays g c =
     unplayed (record { keys = c.args.setup.keys; programs = c.args.setup.programs; script = c.args.setup.script }) c.args.most
-    (record { out = record { bytes = g.O.Sink.written c.args.out.now; faults = g.O.Sink.faults c.args.out.now }; link = record { bound = g.L.Link.bound c.args.link.now; deliveries = g.L.Link.deliveries c.args.link.now; sent = g.L.Link.sent c.args.link.now; faults = g.L.Link.faults c.args.link.now }; words = g.R.Fresh.words c.args.fresh.now })
-    (record { out = record { bytes = g.O.Sink.written c.args.out.now; faults = g.O.Sink.faults c.args.out.now }; link = record { bound = g.L.Link.bound c.open.new.self; deliveries = g.L.Link.deliveries c.open.new.self; sent = g.L.Link.sent c.open.new.self; faults = g.L.Link.faults c.open.new.self }; words = g.R.Fresh.words c.args.fresh.now })
+    (record { out = record { bytes = g.O.Sink.written c.args.out.now; faults = g.O.Sink.faults c.args.out.now }; link = record { bound = g.L.Link.bound c.args.link.now; deliveries = g.L.Link.deliveries c.args.link.now; sent = g.L.Link.sent c.args.link.now; faults = g.L.Link.faults c.args.link.now }; random = g.R.Fresh.random c.args.fresh.now })
+    (record { out = record { bytes = g.O.Sink.written c.args.out.now; faults = g.O.Sink.faults c.args.out.now }; link = record { bound = g.L.Link.bound c.open.new.self; deliveries = g.L.Link.deliveries c.open.new.self; sent = g.L.Link.sent c.open.new.self; faults = g.L.Link.faults c.open.new.self }; random = g.R.Fresh.random c.args.fresh.now })
     (Err Play.LinkFailed) refl c.open.ensures.kept_sent (λ o n steps h. h)
 
 pub returns-in-Err-clause-at_most : goal.returns-in-Err-clause-at_most

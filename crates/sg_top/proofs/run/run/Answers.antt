@@ -29,8 +29,8 @@ returns-in-Ok-play_setup-clause-runs g c =
       setup c.in-Ok.setup,
       c.in-Ok.ensures.has,
       waits (c.in-Ok.setup).keys
-          (record { out = record { bytes = g.O.Sink.written c.args.out.now; faults = g.O.Sink.faults c.args.out.now }; link = record { bound = g.L.Link.bound c.args.link.now; deliveries = g.L.Link.deliveries c.args.link.now; sent = g.L.Link.sent c.args.link.now; faults = g.L.Link.faults c.args.link.now }; words = g.R.Fresh.words c.args.fresh.now })
-          (record { out = record { bytes = g.O.Sink.written c.play_setup.new.out; faults = g.O.Sink.faults c.play_setup.new.out }; link = record { bound = g.L.Link.bound c.play_setup.new.link; deliveries = g.L.Link.deliveries c.play_setup.new.link; sent = g.L.Link.sent c.play_setup.new.link; faults = g.L.Link.faults c.play_setup.new.link }; words = g.R.Fresh.words c.play_setup.new.fresh })
+          (record { out = record { bytes = g.O.Sink.written c.args.out.now; faults = g.O.Sink.faults c.args.out.now }; link = record { bound = g.L.Link.bound c.args.link.now; deliveries = g.L.Link.deliveries c.args.link.now; sent = g.L.Link.sent c.args.link.now; faults = g.L.Link.faults c.args.link.now }; random = g.R.Fresh.random c.args.fresh.now })
+          (record { out = record { bytes = g.O.Sink.written c.play_setup.new.out; faults = g.O.Sink.faults c.play_setup.new.out }; link = record { bound = g.L.Link.bound c.play_setup.new.link; deliveries = g.L.Link.deliveries c.play_setup.new.link; sent = g.L.Link.sent c.play_setup.new.link; faults = g.L.Link.faults c.play_setup.new.link }; random = g.R.Fresh.random c.play_setup.new.fresh })
           Written (λ h. absurd (other done refl h)) c.play_setup.ensures.waits,
       (c.in-Ok-play_setup.ensures.plays, c.in-Ok-play_setup.ensures.left),
     )
@@ -42,13 +42,13 @@ returns-in-Err-LinkFailed-clause-runs g c =
       setup c.in-Ok.setup,
       c.in-Ok.ensures.has,
       waits (c.in-Ok.setup).keys
-          (record { out = record { bytes = g.O.Sink.written c.args.out.now; faults = g.O.Sink.faults c.args.out.now }; link = record { bound = g.L.Link.bound c.args.link.now; deliveries = g.L.Link.deliveries c.args.link.now; sent = g.L.Link.sent c.args.link.now; faults = g.L.Link.faults c.args.link.now }; words = g.R.Fresh.words c.args.fresh.now })
-          (record { out = record { bytes = g.O.Sink.written c.play_setup.new.out; faults = g.O.Sink.faults c.play_setup.new.out }; link = record { bound = g.L.Link.bound c.play_setup.new.link; deliveries = g.L.Link.deliveries c.play_setup.new.link; sent = g.L.Link.sent c.play_setup.new.link; faults = g.L.Link.faults c.play_setup.new.link }; words = g.R.Fresh.words c.play_setup.new.fresh })
+          (record { out = record { bytes = g.O.Sink.written c.args.out.now; faults = g.O.Sink.faults c.args.out.now }; link = record { bound = g.L.Link.bound c.args.link.now; deliveries = g.L.Link.deliveries c.args.link.now; sent = g.L.Link.sent c.args.link.now; faults = g.L.Link.faults c.args.link.now }; random = g.R.Fresh.random c.args.fresh.now })
+          (record { out = record { bytes = g.O.Sink.written c.play_setup.new.out; faults = g.O.Sink.faults c.play_setup.new.out }; link = record { bound = g.L.Link.bound c.play_setup.new.link; deliveries = g.L.Link.deliveries c.play_setup.new.link; sent = g.L.Link.sent c.play_setup.new.link; faults = g.L.Link.faults c.play_setup.new.link }; random = g.R.Fresh.random c.play_setup.new.fresh })
           LinkFailed (λ h. refl) c.play_setup.ensures.waits,
       (
         ended_as (setup c.in-Ok.setup) c.args.most
-            (record { out = record { bytes = g.O.Sink.written c.args.out.now; faults = g.O.Sink.faults c.args.out.now }; link = record { bound = g.L.Link.bound c.args.link.now; deliveries = g.L.Link.deliveries c.args.link.now; sent = g.L.Link.sent c.args.link.now; faults = g.L.Link.faults c.args.link.now }; words = g.R.Fresh.words c.args.fresh.now })
-            (record { out = record { bytes = g.O.Sink.written c.play_setup.new.out; faults = g.O.Sink.faults c.play_setup.new.out }; link = record { bound = g.L.Link.bound c.play_setup.new.link; deliveries = g.L.Link.deliveries c.play_setup.new.link; sent = g.L.Link.sent c.play_setup.new.link; faults = g.L.Link.faults c.play_setup.new.link }; words = g.R.Fresh.words c.play_setup.new.fresh })
+            (record { out = record { bytes = g.O.Sink.written c.args.out.now; faults = g.O.Sink.faults c.args.out.now }; link = record { bound = g.L.Link.bound c.args.link.now; deliveries = g.L.Link.deliveries c.args.link.now; sent = g.L.Link.sent c.args.link.now; faults = g.L.Link.faults c.args.link.now }; random = g.R.Fresh.random c.args.fresh.now })
+            (record { out = record { bytes = g.O.Sink.written c.play_setup.new.out; faults = g.O.Sink.faults c.play_setup.new.out }; link = record { bound = g.L.Link.bound c.play_setup.new.link; deliveries = g.L.Link.deliveries c.play_setup.new.link; sent = g.L.Link.sent c.play_setup.new.link; faults = g.L.Link.faults c.play_setup.new.link }; random = g.R.Fresh.random c.play_setup.new.fresh })
             c.play_setup.result (Err Play.LinkFailed) e c.play_setup.ensures.plays,
         c.play_setup.ensures.at_most,
         c.play_setup.ensures.link_failed e,
@@ -62,13 +62,13 @@ returns-in-Err-WriteFailed-clause-runs g c =
       setup c.in-Ok.setup,
       c.in-Ok.ensures.has,
       waits (c.in-Ok.setup).keys
-          (record { out = record { bytes = g.O.Sink.written c.args.out.now; faults = g.O.Sink.faults c.args.out.now }; link = record { bound = g.L.Link.bound c.args.link.now; deliveries = g.L.Link.deliveries c.args.link.now; sent = g.L.Link.sent c.args.link.now; faults = g.L.Link.faults c.args.link.now }; words = g.R.Fresh.words c.args.fresh.now })
-          (record { out = record { bytes = g.O.Sink.written c.play_setup.new.out; faults = g.O.Sink.faults c.play_setup.new.out }; link = record { bound = g.L.Link.bound c.play_setup.new.link; deliveries = g.L.Link.deliveries c.play_setup.new.link; sent = g.L.Link.sent c.play_setup.new.link; faults = g.L.Link.faults c.play_setup.new.link }; words = g.R.Fresh.words c.play_setup.new.fresh })
+          (record { out = record { bytes = g.O.Sink.written c.args.out.now; faults = g.O.Sink.faults c.args.out.now }; link = record { bound = g.L.Link.bound c.args.link.now; deliveries = g.L.Link.deliveries c.args.link.now; sent = g.L.Link.sent c.args.link.now; faults = g.L.Link.faults c.args.link.now }; random = g.R.Fresh.random c.args.fresh.now })
+          (record { out = record { bytes = g.O.Sink.written c.play_setup.new.out; faults = g.O.Sink.faults c.play_setup.new.out }; link = record { bound = g.L.Link.bound c.play_setup.new.link; deliveries = g.L.Link.deliveries c.play_setup.new.link; sent = g.L.Link.sent c.play_setup.new.link; faults = g.L.Link.faults c.play_setup.new.link }; random = g.R.Fresh.random c.play_setup.new.fresh })
           WriteFailed (λ h. absurd (other e refl h)) c.play_setup.ensures.waits,
       (
         ended_as (setup c.in-Ok.setup) c.args.most
-            (record { out = record { bytes = g.O.Sink.written c.args.out.now; faults = g.O.Sink.faults c.args.out.now }; link = record { bound = g.L.Link.bound c.args.link.now; deliveries = g.L.Link.deliveries c.args.link.now; sent = g.L.Link.sent c.args.link.now; faults = g.L.Link.faults c.args.link.now }; words = g.R.Fresh.words c.args.fresh.now })
-            (record { out = record { bytes = g.O.Sink.written c.play_setup.new.out; faults = g.O.Sink.faults c.play_setup.new.out }; link = record { bound = g.L.Link.bound c.play_setup.new.link; deliveries = g.L.Link.deliveries c.play_setup.new.link; sent = g.L.Link.sent c.play_setup.new.link; faults = g.L.Link.faults c.play_setup.new.link }; words = g.R.Fresh.words c.play_setup.new.fresh })
+            (record { out = record { bytes = g.O.Sink.written c.args.out.now; faults = g.O.Sink.faults c.args.out.now }; link = record { bound = g.L.Link.bound c.args.link.now; deliveries = g.L.Link.deliveries c.args.link.now; sent = g.L.Link.sent c.args.link.now; faults = g.L.Link.faults c.args.link.now }; random = g.R.Fresh.random c.args.fresh.now })
+            (record { out = record { bytes = g.O.Sink.written c.play_setup.new.out; faults = g.O.Sink.faults c.play_setup.new.out }; link = record { bound = g.L.Link.bound c.play_setup.new.link; deliveries = g.L.Link.deliveries c.play_setup.new.link; sent = g.L.Link.sent c.play_setup.new.link; faults = g.L.Link.faults c.play_setup.new.link }; random = g.R.Fresh.random c.play_setup.new.fresh })
             c.play_setup.result (Err Play.WriteFailed) e c.play_setup.ensures.plays,
         c.play_setup.ensures.at_most,
         c.play_setup.ensures.write_failed e,
@@ -82,13 +82,13 @@ returns-in-Err-OutOfMemory-clause-runs g c =
       setup c.in-Ok.setup,
       c.in-Ok.ensures.has,
       waits (c.in-Ok.setup).keys
-          (record { out = record { bytes = g.O.Sink.written c.args.out.now; faults = g.O.Sink.faults c.args.out.now }; link = record { bound = g.L.Link.bound c.args.link.now; deliveries = g.L.Link.deliveries c.args.link.now; sent = g.L.Link.sent c.args.link.now; faults = g.L.Link.faults c.args.link.now }; words = g.R.Fresh.words c.args.fresh.now })
-          (record { out = record { bytes = g.O.Sink.written c.play_setup.new.out; faults = g.O.Sink.faults c.play_setup.new.out }; link = record { bound = g.L.Link.bound c.play_setup.new.link; deliveries = g.L.Link.deliveries c.play_setup.new.link; sent = g.L.Link.sent c.play_setup.new.link; faults = g.L.Link.faults c.play_setup.new.link }; words = g.R.Fresh.words c.play_setup.new.fresh })
+          (record { out = record { bytes = g.O.Sink.written c.args.out.now; faults = g.O.Sink.faults c.args.out.now }; link = record { bound = g.L.Link.bound c.args.link.now; deliveries = g.L.Link.deliveries c.args.link.now; sent = g.L.Link.sent c.args.link.now; faults = g.L.Link.faults c.args.link.now }; random = g.R.Fresh.random c.args.fresh.now })
+          (record { out = record { bytes = g.O.Sink.written c.play_setup.new.out; faults = g.O.Sink.faults c.play_setup.new.out }; link = record { bound = g.L.Link.bound c.play_setup.new.link; deliveries = g.L.Link.deliveries c.play_setup.new.link; sent = g.L.Link.sent c.play_setup.new.link; faults = g.L.Link.faults c.play_setup.new.link }; random = g.R.Fresh.random c.play_setup.new.fresh })
           NoMemory (λ h. absurd (other e refl h)) c.play_setup.ensures.waits,
       (
         ended_as (setup c.in-Ok.setup) c.args.most
-            (record { out = record { bytes = g.O.Sink.written c.args.out.now; faults = g.O.Sink.faults c.args.out.now }; link = record { bound = g.L.Link.bound c.args.link.now; deliveries = g.L.Link.deliveries c.args.link.now; sent = g.L.Link.sent c.args.link.now; faults = g.L.Link.faults c.args.link.now }; words = g.R.Fresh.words c.args.fresh.now })
-            (record { out = record { bytes = g.O.Sink.written c.play_setup.new.out; faults = g.O.Sink.faults c.play_setup.new.out }; link = record { bound = g.L.Link.bound c.play_setup.new.link; deliveries = g.L.Link.deliveries c.play_setup.new.link; sent = g.L.Link.sent c.play_setup.new.link; faults = g.L.Link.faults c.play_setup.new.link }; words = g.R.Fresh.words c.play_setup.new.fresh })
+            (record { out = record { bytes = g.O.Sink.written c.args.out.now; faults = g.O.Sink.faults c.args.out.now }; link = record { bound = g.L.Link.bound c.args.link.now; deliveries = g.L.Link.deliveries c.args.link.now; sent = g.L.Link.sent c.args.link.now; faults = g.L.Link.faults c.args.link.now }; random = g.R.Fresh.random c.args.fresh.now })
+            (record { out = record { bytes = g.O.Sink.written c.play_setup.new.out; faults = g.O.Sink.faults c.play_setup.new.out }; link = record { bound = g.L.Link.bound c.play_setup.new.link; deliveries = g.L.Link.deliveries c.play_setup.new.link; sent = g.L.Link.sent c.play_setup.new.link; faults = g.L.Link.faults c.play_setup.new.link }; random = g.R.Fresh.random c.play_setup.new.fresh })
             c.play_setup.result (Err Play.OutOfMemory) e c.play_setup.ensures.plays,
         c.play_setup.ensures.at_most,
       ),

@@ -27,7 +27,7 @@ returns-in-Err-clause-serves g c = inl (
     out = refl;
     coming = c.open_at.ensures.kept;
     sent = c.open_at.ensures.kept_sent;
-    words = refl;
+    random = refl;
     input = refl;
   },
   (refl, λ image left. left),

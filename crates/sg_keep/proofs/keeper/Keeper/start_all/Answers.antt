@@ -33,7 +33,7 @@ loop-start-preserved g c =
           let at = c.loop-start.start-index in
           let so_far : Play = all_starts p (take at c.args.starts.now) in
           let before = inv.progress p start s w h in
-          to_same start now (g.D.Disk.may_leave c.start_one.new.disk) c.start_one.new.self (g.R.Fresh.words c.start_one.new.fresh) (starts so_far c.start-item.result) (all_starts p (take (at + 1) c.args.starts.now)) (Ok tt)
+          to_same start now (g.D.Disk.may_leave c.start_one.new.disk) c.start_one.new.self (g.R.Fresh.random c.start_one.new.fresh) (starts so_far c.start-item.result) (all_starts p (take (at + 1) c.args.starts.now)) (Ok tt)
           (start_next p at c.args.starts.now c.start-item.result c.loop-start-test.true c.start-item.is) (one.progress so_far start before.0 before.2 before.1);
     }
 
@@ -60,4 +60,4 @@ returns-clause-faults g c = went (record { link = g.L.Link.faults c.args.link.no
 pub returns-clause-progress : goal.returns-clause-progress
 returns-clause-progress g c = λ p start s w h.
     let now : Outside = record { written = g.O.Sink.written c.loop-start.out; sent = g.L.Link.sent c.loop-start.link } in
-    subst (λ (z : List ScriptStart). CameTo start now (g.D.Disk.may_leave c.loop-start.disk) c.loop-start.self (g.R.Fresh.words c.loop-start.fresh) (all_starts p z) (Ok tt)) (take_all c.loop-start.start-index c.args.starts.now c.loop-start-test.false) (c.loop-start.invariant.progress p start s w h)
+    subst (λ (z : List ScriptStart). CameTo start now (g.D.Disk.may_leave c.loop-start.disk) c.loop-start.self (g.R.Fresh.random c.loop-start.fresh) (all_starts p z) (Ok tt)) (take_all c.loop-start.start-index c.args.starts.now c.loop-start-test.false) (c.loop-start.invariant.progress p start s w h)

@@ -12,6 +12,6 @@ invariant-loop-start g l = record {
   falls : NoFall (record { link = g.L.Link.faults l.initial.link; out = g.O.Sink.faults l.initial.out; disk = g.D.Disk.faults l.initial.disk }) (record { link = g.L.Link.faults l.link; out = g.O.Sink.faults l.out; disk = g.D.Disk.faults l.disk });
   deliveries : g.L.Link.deliveries l.link ≡ g.L.Link.deliveries l.initial.link;
   holds : HoldsJoins l.self (g.D.Disk.may_leave l.disk);
-  progress : (p : Play) (start : Outside) → RepresentsKept l.initial.self p → g.R.Fresh.words l.initial.fresh ≡ Some p.words → Whole start (record { written = g.O.Sink.written l.initial.out; sent = g.L.Link.sent l.initial.link }) p.steps
-      → CameTo start (record { written = g.O.Sink.written l.out; sent = g.L.Link.sent l.link }) (g.D.Disk.may_leave l.disk) l.self (g.R.Fresh.words l.fresh) (all_starts p (take l.start-index l.starts)) (Ok tt);
+  progress : (p : Play) (start : Outside) → RepresentsKept l.initial.self p → g.R.Fresh.random l.initial.fresh ≡ Some p.random → Whole start (record { written = g.O.Sink.written l.initial.out; sent = g.L.Link.sent l.initial.link }) p.steps
+      → CameTo start (record { written = g.O.Sink.written l.out; sent = g.L.Link.sent l.link }) (g.D.Disk.may_leave l.disk) l.self (g.R.Fresh.random l.fresh) (all_starts p (take l.start-index l.starts)) (Ok tt);
 }

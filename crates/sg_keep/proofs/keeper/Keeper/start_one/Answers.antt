@@ -23,11 +23,11 @@ returns-in-Ok-clause-progress g c = λ p start s w h.
     let q : Play = without 1 p in
     let cast = cast_of_start c.args.self.now.player.programs.now c.args.start_of.now c.next-nonce.result in
     let t = kept_without c.args.self.now p q refl refl (without_one c.args.self.now.player p s.player) s in
-    let is : with_turn q (Start cast) ≡ starts p c.args.start_of.now = start_is p c.args.start_of.now c.args.self.now.player.programs.now c.next-nonce.result cast s.player.programs (c.next-nonce.ensures.word p.words w) refl in
-    to_same start now (g.D.Disk.may_leave c.tell.new.disk) c.tell.new.self (g.R.Fresh.words c.tell.new.fresh) (with_turn q (Start cast)) (starts p c.args.start_of.now) c.tell.result is
+    let is : with_turn q (Start cast) ≡ starts p c.args.start_of.now = start_is p c.args.start_of.now c.args.self.now.player.programs.now c.next-nonce.result cast s.player.programs (c.next-nonce.ensures.drawn p.random w) refl in
+    to_same start now (g.D.Disk.may_leave c.tell.new.disk) c.tell.new.self (g.R.Fresh.random c.tell.new.fresh) (with_turn q (Start cast)) (starts p c.args.start_of.now) c.tell.result is
     (c.tell.ensures.progress q (Start cast) start
     (is_asked c.args.self.now c.ask_start.new.self leaves q (Start cast) (outcome_of c.in-Ok.outcome) (option_copied c.in-Ok.graph) c.requires.holds t c.in-Ok.ensures.rest (λ number. c.in-Ok.ensures.comes number q.past t.player.node) refl)
-    (c.next-nonce.ensures.taken p.words w) h)
+    (c.next-nonce.ensures.taken p.random w) h)
 
 pub returns-in-Err-clause-faults : goal.returns-in-Err-clause-faults
 returns-in-Err-clause-faults g c = memory_tells (record { link = g.L.Link.faults c.args.link.now; out = g.O.Sink.faults c.args.out.now; disk = g.D.Disk.faults c.args.disk.now }) c.in-Err.fault c.in-Err.ensures.memory

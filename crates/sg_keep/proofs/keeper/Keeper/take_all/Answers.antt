@@ -45,7 +45,7 @@ loop-taken-preserved g c =
           let before = inv.progress p start deliveries told s w h in
           let whole = nothing_sent start so_far (g.O.Sink.written c.loop-taken.out) (g.L.Link.sent c.loop-taken.link) (g.L.Link.sent c.recv.new.self) c.recv.ensures.kept_sent before.1 in
           let next : drop k deliveries ≡ c.as_slice.result.now ∷ drop 1 (drop k deliveries) = (first (drop k deliveries) (inv.left deliveries told)).0 ∙ ap (λ (b : List ℕ). b ∷ drop 1 (drop k deliveries)) (sym c.as_slice.ensures.value) in
-          to_same start now (g.D.Disk.may_leave c.deliver.new.disk) c.deliver.new.self (g.R.Fresh.words c.deliver.new.fresh) (with_turn so_far (Deliver c.as_slice.result.now)) (all_deliveries p (take (k + 1) deliveries)) (Ok tt)
+          to_same start now (g.D.Disk.may_leave c.deliver.new.disk) c.deliver.new.self (g.R.Fresh.random c.deliver.new.fresh) (with_turn so_far (Deliver c.as_slice.result.now)) (all_deliveries p (take (k + 1) deliveries)) (Ok tt)
           (delivery_next p k deliveries c.as_slice.result.now next) (one.progress so_far start before.0 before.2 whole);
     }
 
@@ -93,7 +93,7 @@ returns-in-Ok-None-clause-progress g c = let within : c.loop-taken._taken ≤ c.
     let so_far : Play = all_deliveries p (take k deliveries) in
     let before = inv.progress p start deliveries told s w h in
     let whole = nothing_sent start so_far (g.O.Sink.written c.loop-taken.out) (g.L.Link.sent c.loop-taken.link) (g.L.Link.sent c.recv.new.self) c.recv.ensures.kept_sent before.1 in
-    subst (λ (z : List (List ℕ)). CameTo start now (g.D.Disk.may_leave c.loop-taken.disk) c.loop-taken.self (g.R.Fresh.words c.loop-taken.fresh) (all_deliveries p z) (Ok tt))
+    subst (λ (z : List (List ℕ)). CameTo start now (g.D.Disk.may_leave c.loop-taken.disk) c.loop-taken.self (g.R.Fresh.random c.loop-taken.fresh) (all_deliveries p z) (Ok tt))
     (sym (taken_all k c.args.most deliveries within (end (drop k deliveries) (inv.left deliveries told)))) (before.0, whole, before.2)
 
 pub returns-in-Ok-None-clause-left : goal.returns-in-Ok-None-clause-left
@@ -154,7 +154,7 @@ returns-clause-faults g c = went (record { link = g.L.Link.faults c.args.link.no
 pub returns-clause-progress : goal.returns-clause-progress
 returns-clause-progress g c = let all : c.loop-taken._taken ≡ c.args.most = omega arith in λ p start deliveries told s w h.
     let now : Outside = record { written = g.O.Sink.written c.loop-taken.out; sent = g.L.Link.sent c.loop-taken.link } in
-    subst (λ (k : ℕ). CameTo start now (g.D.Disk.may_leave c.loop-taken.disk) c.loop-taken.self (g.R.Fresh.words c.loop-taken.fresh) (all_deliveries p (take k deliveries)) (Ok tt)) all (c.loop-taken.invariant.progress p start deliveries told s w h)
+    subst (λ (k : ℕ). CameTo start now (g.D.Disk.may_leave c.loop-taken.disk) c.loop-taken.self (g.R.Fresh.random c.loop-taken.fresh) (all_deliveries p (take k deliveries)) (Ok tt)) all (c.loop-taken.invariant.progress p start deliveries told s w h)
 
 pub returns-clause-left : goal.returns-clause-left
 returns-clause-left g c = let all : c.loop-taken._taken ≡ c.args.most = omega arith in λ deliveries told.

@@ -12,7 +12,7 @@ invariant-loop-taken g l = record {
   falls : NoFall (record { link = g.L.Link.faults l.initial.link; out = g.O.Sink.faults l.initial.out; disk = g.D.Disk.faults l.initial.disk }) (record { link = g.L.Link.faults l.link; out = g.O.Sink.faults l.out; disk = g.D.Disk.faults l.disk });
   holds : HoldsJoins l.self (g.D.Disk.may_leave l.disk);
   left : (deliveries : List (List ℕ)) → g.L.Link.deliveries l.initial.link ≡ Some deliveries → g.L.Link.deliveries l.link ≡ Some (drop l._taken deliveries);
-  progress : (p : Play) (start : Outside) (deliveries : List (List ℕ)) → g.L.Link.deliveries l.initial.link ≡ Some deliveries → RepresentsKept l.initial.self p → g.R.Fresh.words l.initial.fresh ≡ Some p.words
+  progress : (p : Play) (start : Outside) (deliveries : List (List ℕ)) → g.L.Link.deliveries l.initial.link ≡ Some deliveries → RepresentsKept l.initial.self p → g.R.Fresh.random l.initial.fresh ≡ Some p.random
       → Whole start (record { written = g.O.Sink.written l.initial.out; sent = g.L.Link.sent l.initial.link }) p.steps
-      → CameTo start (record { written = g.O.Sink.written l.out; sent = g.L.Link.sent l.link }) (g.D.Disk.may_leave l.disk) l.self (g.R.Fresh.words l.fresh) (all_deliveries p (take l._taken deliveries)) (Ok tt);
+      → CameTo start (record { written = g.O.Sink.written l.out; sent = g.L.Link.sent l.link }) (g.D.Disk.may_leave l.disk) l.self (g.R.Fresh.random l.fresh) (all_deliveries p (take l._taken deliveries)) (Ok tt);
 }

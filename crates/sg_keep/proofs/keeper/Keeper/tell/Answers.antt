@@ -70,7 +70,7 @@ returns-in-Ok-play_if-clause-progress g c = λ p k start a w h.
     let now : Outside = record { written = g.O.Sink.written c.play_if.new.out; sent = g.L.Link.sent c.play_if.new.link } in
     let given = c.in-Ok-give.ensures.progress p k start (asked_then start now leaves c.args.self.now p k told graph a m c.keep_join.ensures.player c.in-Ok.ensures.holds) a.stays h in
     let sid = c.sid_reported.ensures.told ∙ ap (option_and_then sid_reported) a.asked.is_told ∙ told_given _ (answer_in p k) in
-    let turn = turn_given start now c.play_if.new.self (g.R.Fresh.words c.play_if.new.fresh) p k c.sid_reported.result (Ok tt) sid (c.in-Ok-play_if.ensures.progress (called p k) start given.0 w given.1) in
+    let turn = turn_given start now c.play_if.new.self (g.R.Fresh.random c.play_if.new.fresh) p k c.sid_reported.result (Ok tt) sid (c.in-Ok-play_if.ensures.progress (called p k) start given.0 w given.1) in
     (represents_kept start now leaves c.args.self.now p k told graph a m c.keep_join.ensures.player c.in-Ok.ensures.holds (record m { player = c.play_if.new.self }) turn.0.0, turn.0.1, turn.1)
 
 pub returns-in-Err-play_if-clause-faults : goal.returns-in-Err-play_if-clause-faults
@@ -95,5 +95,5 @@ returns-in-Err-play_if-clause-progress g c = λ p k start a w h.
     let now : Outside = record { written = g.O.Sink.written c.play_if.new.out; sent = g.L.Link.sent c.play_if.new.link } in
     let given = c.in-Ok-give.ensures.progress p k start (asked_then start now leaves c.args.self.now p k told graph a m c.keep_join.ensures.player c.in-Ok.ensures.holds) a.stays h in
     let sid = c.sid_reported.ensures.told ∙ ap (option_and_then sid_reported) a.asked.is_told ∙ told_given _ (answer_in p k) in
-    let turn = turn_given start now c.play_if.new.self (g.R.Fresh.words c.play_if.new.fresh) p k c.sid_reported.result (Err c.in-Err-play_if.fault) sid (c.in-Err-play_if.ensures.progress (called p k) start given.0 w given.1) in
+    let turn = turn_given start now c.play_if.new.self (g.R.Fresh.random c.play_if.new.fresh) p k c.sid_reported.result (Err c.in-Err-play_if.fault) sid (c.in-Err-play_if.ensures.progress (called p k) start given.0 w given.1) in
     unplayed start now leaves c.args.self.now p k told graph a m c.keep_join.ensures.player c.in-Ok.ensures.holds c.in-Err-play_if.fault turn

@@ -15,28 +15,28 @@ use Rattle.sg_play.proofs.player.Player.act_in.Goals as goal
 pub returns-in_err-outcome-clause-progress : goal.returns-in_err-outcome-clause-progress
 returns-in_err-outcome-clause-progress g c = let same : c.from_residual.result ≡ Err c.in_err-outcome.field-0.0 = search rules in λ p start s w h.
     let now : Outside = record { written = g.O.Sink.written c.args.out.now; sent = g.L.Link.sent c.args.link.now } in
-    act_failed start now c.try_act.new.self (g.R.Fresh.words c.try_act.new.fresh) (acted_in c.args.sid c.args.graph.now c.args.node p) c.from_residual.result c.in_err-outcome.field-0.0 same
+    act_failed start now c.try_act.new.self (g.R.Fresh.random c.try_act.new.fresh) (acted_in c.args.sid c.args.graph.now c.args.node p) c.from_residual.result c.in_err-outcome.field-0.0 same
     (no_memory_by start now p (acted_in c.args.sid c.args.graph.now c.args.node p).0 c.in_err-outcome.field-0.0 c.in_err-outcome.ensures.memory (acting_adds c.args.sid c.args.graph.now c.args.node p) h)
 
 pub returns-in_err-give-in-Some-clause-progress : goal.returns-in_err-give-in-Some-clause-progress
 returns-in_err-give-in-Some-clause-progress g c = let same : c.from_residual-in_err-give-in-Some.result ≡ Err c.in_err-give-in-Some.field-0.0 = search rules in λ p start s w h.
     let acted = rw c.in-Some.is at (c.in_ok-outcome.ensures.acted p s w) in
-    act_stopped start (record { written = g.O.Sink.written c.give.new.out; sent = g.L.Link.sent c.give.new.link }) c.try_act.new.self c.give.new.self (g.R.Fresh.words c.try_act.new.fresh) c.args.sid c.args.graph.now c.args.node p
+    act_stopped start (record { written = g.O.Sink.written c.give.new.out; sent = g.L.Link.sent c.give.new.link }) c.try_act.new.self c.give.new.self (g.R.Fresh.random c.try_act.new.fresh) c.args.sid c.args.graph.now c.args.node p
     (outcome_of c.in-Some.outcome) (option_copied c.in-Some.told_by) (frames_made c.in-Some.frame) acted c.from_residual-in_err-give-in-Some.result c.in_err-give-in-Some.field-0.0 same
-    (c.in_err-give-in-Some.ensures.progress (chosen c.args.graph.now c.args.node acted.choice p) (act_by c.args.sid acted.choice p.words) start acted.asked refl h)
+    (c.in_err-give-in-Some.ensures.progress (chosen c.args.graph.now c.args.node acted.choice p) (act_by c.args.sid acted.choice p.random) start acted.asked refl h)
 
 pub returns-in_ok-give-in-Some-clause-progress : goal.returns-in_ok-give-in-Some-clause-progress
 returns-in_ok-give-in-Some-clause-progress g c = λ p start s w h.
     let acted = rw c.in-Some.is at (c.in_ok-outcome.ensures.acted p s w) in
-    act_given start (record { written = g.O.Sink.written c.give.new.out; sent = g.L.Link.sent c.give.new.link }) c.try_act.new.self c.give.new.self (g.R.Fresh.words c.try_act.new.fresh) c.args.sid c.args.graph.now c.args.node p
+    act_given start (record { written = g.O.Sink.written c.give.new.out; sent = g.L.Link.sent c.give.new.link }) c.try_act.new.self c.give.new.self (g.R.Fresh.random c.try_act.new.fresh) c.args.sid c.args.graph.now c.args.node p
     (outcome_of c.in-Some.outcome) (option_copied c.in-Some.told_by) (frames_made c.in-Some.frame) acted c.was_sent.result
-    (c.in_ok-give-in-Some.ensures.progress (chosen c.args.graph.now c.args.node acted.choice p) (act_by c.args.sid acted.choice p.words) start acted.asked refl h)
-    (c.was_sent.ensures (length (frames_of p.steps) + 1) (answer_in p (act_by c.args.sid acted.choice p.words)) acted.asked.is_told)
+    (c.in_ok-give-in-Some.ensures.progress (chosen c.args.graph.now c.args.node acted.choice p) (act_by c.args.sid acted.choice p.random) start acted.asked refl h)
+    (c.was_sent.ensures (length (frames_of p.steps) + 1) (answer_in p (act_by c.args.sid acted.choice p.random)) acted.asked.is_told)
 
 pub returns-in-None-clause-progress : goal.returns-in-None-clause-progress
 returns-in-None-clause-progress g c = λ p start s w h.
     let none = rw c.in-None.is at (c.in_ok-outcome.ensures.acted p s w) in
-    act_none start (record { written = g.O.Sink.written c.args.out.now; sent = g.L.Link.sent c.args.link.now }) c.try_act.new.self (g.R.Fresh.words c.try_act.new.fresh) c.args.self.now (g.R.Fresh.words c.args.fresh.now)
+    act_none start (record { written = g.O.Sink.written c.args.out.now; sent = g.L.Link.sent c.args.link.now }) c.try_act.new.self (g.R.Fresh.random c.try_act.new.fresh) c.args.self.now (g.R.Fresh.random c.args.fresh.now)
     (acted_in c.args.sid c.args.graph.now c.args.node p) p (acted_none c.args.sid c.args.node p c.args.graph.now none.0) none.1 none.2 s w h
 
 pub returns-in_ok-give-in-Some-clause-joins : goal.returns-in_ok-give-in-Some-clause-joins

@@ -20,7 +20,7 @@ returns-clause-asked c =
     let old = c.args.self.now in
     let node = c.ask_act.new.node in
     let frames = c.ask_act.new.frames in
-    let act = Act c.args.sid c.args.label (values_of c.args.values.now) c.args.words.now in
+    let act = Act c.args.sid c.args.label (values_of c.args.values.now) c.args.confounders.now in
     each_ok c.ask_act.result (λ (p : Play). RepresentsPlay old p)
     (λ (p : Play) r. ComesMade old.keys.now old.frames frames old.node node p.past act (outcome_of r.0) (option_copied r.1) r.2)
     (λ (p : Play) r. HasAsked (record old { node = node; frames = frames }) p act (outcome_of r.0) (option_copied r.1) (frames_made r.2))
@@ -32,7 +32,7 @@ returns-clause-frame c =
     let old = c.args.self.now in
     let node = c.ask_act.new.node in
     let frames = c.ask_act.new.frames in
-    let act = Act c.args.sid c.args.label (values_of c.args.values.now) c.args.words.now in
+    let act = Act c.args.sid c.args.label (values_of c.args.values.now) c.args.confounders.now in
     each_ok c.ask_act.result (λ (p : Play). RepresentsPlay old p)
     (λ (p : Play) r. ComesMade old.keys.now old.frames frames old.node node p.past act (outcome_of r.0) (option_copied r.1) r.2)
     (λ (p : Play) r. r.2 ≡ addressed p.past.keys (sealed_in (answer_in p act)))
@@ -46,6 +46,6 @@ returns-clause-joins c =
     let frames = c.ask_act.new.frames in
     let values = values_of c.args.values.now in
     then_ok c.ask_act.result (λ (past : Past). RepresentsPast old.node past)
-    (λ (past : Past) r. ComesMade old.keys.now old.frames frames old.node node past (Act c.args.sid c.args.label values c.args.words.now) (outcome_of r.0) (option_copied r.1) r.2) (KeepsJoins old.node node)
-    (λ r h. keeps_by_act old.keys.now old.frames frames old.node node c.args.sid c.args.label values c.args.words.now (outcome_of r.0) (option_copied r.1) r.2 h)
+    (λ (past : Past) r. ComesMade old.keys.now old.frames frames old.node node past (Act c.args.sid c.args.label values c.args.confounders.now) (outcome_of r.0) (option_copied r.1) r.2) (KeepsJoins old.node node)
+    (λ r h. keeps_by_act old.keys.now old.frames frames old.node node c.args.sid c.args.label values c.args.confounders.now (outcome_of r.0) (option_copied r.1) r.2 h)
     c.ask_act.ensures.comes

@@ -8,11 +8,11 @@ use Rattle.sg_play.proofs.player.Player.deliver.Goals as goal
 pub returns-in_err-sid-clause-progress : goal.returns-in_err-sid-clause-progress
 returns-in_err-sid-clause-progress g c = let same : c.from_residual.result ≡ Err c.in_err-sid.field-0.0 = search rules in λ p start s w h.
     let now : Outside = record { written = g.O.Sink.written c.take.new.out; sent = g.L.Link.sent c.take.new.link } in
-    call_failed start now c.take.new.self (g.R.Fresh.words c.args.fresh.now) p (Deliver c.args.bytes.now) c.from_residual.result c.in_err-sid.field-0.0 same (c.in_err-sid.ensures.progress p start s h)
+    call_failed start now c.take.new.self (g.R.Fresh.random c.args.fresh.now) p (Deliver c.args.bytes.now) c.from_residual.result c.in_err-sid.field-0.0 same (c.in_err-sid.ensures.progress p start s h)
 
 pub returns-clause-progress : goal.returns-clause-progress
 returns-clause-progress g c = λ p start s w h.
     let now : Outside = record { written = g.O.Sink.written c.play_if.new.out; sent = g.L.Link.sent c.play_if.new.link } in
     let came = c.in_ok-sid.ensures.progress p start s h in
-    turn_given start now c.play_if.new.self (g.R.Fresh.words c.play_if.new.fresh) p (Deliver c.args.bytes.now) c.in_ok-sid.sid c.play_if.result (c.in_ok-sid.ensures.turn p s)
+    turn_given start now c.play_if.new.self (g.R.Fresh.random c.play_if.new.fresh) p (Deliver c.args.bytes.now) c.in_ok-sid.sid c.play_if.result (c.in_ok-sid.ensures.turn p s)
     (c.play_if.ensures.progress (called p (Deliver c.args.bytes.now)) start came.0 w came.1)

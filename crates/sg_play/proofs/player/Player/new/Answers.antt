@@ -5,7 +5,7 @@ use Rattle.sg_play.specs.Queues.{HoldsChoices}
 use Rattle.sg_play.proofs.player.Player.new.Goals as goal
 
 pub returns-in-Ok-clause-represents : goal.returns-in-Ok-clause-represents
-returns-in-Ok-clause-represents c = λ first words is. record {
+returns-in-Ok-clause-represents c = λ first random is. record {
   node = represents_new c.args.node c.args.keys.now c.args.programs.now first is;
   told = (new_nodes c.args.keys.now c.args.programs.now first).1;
   keys = refl;

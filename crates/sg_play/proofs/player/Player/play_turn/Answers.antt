@@ -8,23 +8,23 @@ use Rattle.sg_play.specs.Ends.{Outside}
 use Rattle.sg_play.specs.Played.{abandons}
 use Rattle.sg_play.specs.Turns.{acted}
 use Rattle.sg_play.proofs.Acting.{turn_failed, turn_left, turn_none, turn_sent}
-use Rattle.sg_play.proofs.Coming.{with_words}
+use Rattle.sg_play.proofs.Coming.{with_random}
 use Rattle.sg_play.proofs.player.Player.play_turn.Goals as goal
 
 pub returns-in_default-clause-progress : goal.returns-in_default-clause-progress
 returns-in_default-clause-progress g c = λ p start s w h.
-    turn_none start (record { written = g.O.Sink.written c.args.out.now; sent = g.L.Link.sent c.args.link.now }) c.args.self.now (g.R.Fresh.words c.args.fresh.now) c.args.sid p (sym (c.turn.ensures p.past s.node) ∙ c.in_default.is) s w h
+    turn_none start (record { written = g.O.Sink.written c.args.out.now; sent = g.L.Link.sent c.args.link.now }) c.args.self.now (g.R.Fresh.random c.args.fresh.now) c.args.sid p (sym (c.turn.ensures p.past s.node) ∙ c.in_default.is) s w h
 
 pub returns-in_err-act-clause-progress : goal.returns-in_err-act-clause-progress
 returns-in_err-act-clause-progress g c = let same : c.from_residual.result ≡ Err c.in_err-act.field-0.0 = search rules in λ p start s w h.
     let turn : turn_of (node_of p.past) c.args.sid ≡ Some c.in-Some.node = sym (c.turn.ensures p.past s.node) ∙ c.in-Some.is in
-    turn_failed start (record { written = g.O.Sink.written c.act.new.out; sent = g.L.Link.sent c.act.new.link }) c.act.new.self (g.R.Fresh.words c.act.new.fresh) c.args.sid p c.in-Some.node c.from_residual.result c.in_err-act.field-0.0 turn same
+    turn_failed start (record { written = g.O.Sink.written c.act.new.out; sent = g.L.Link.sent c.act.new.link }) c.act.new.self (g.R.Fresh.random c.act.new.fresh) c.args.sid p c.in-Some.node c.from_residual.result c.in_err-act.field-0.0 turn same
     (c.in_err-act.ensures.progress p start s w h)
 
 pub returns-then-branch-clause-progress : goal.returns-then-branch-clause-progress
 returns-then-branch-clause-progress g c = λ p start s w h.
     let turn : turn_of (node_of p.past) c.args.sid ≡ Some c.in-Some.node = sym (c.turn.ensures p.past s.node) ∙ c.in-Some.is in
-    turn_sent start (record { written = g.O.Sink.written c.act.new.out; sent = g.L.Link.sent c.act.new.link }) c.act.new.self (g.R.Fresh.words c.act.new.fresh) c.args.sid p c.in-Some.node c.in_ok-act.field-0 turn c.if-branch.true
+    turn_sent start (record { written = g.O.Sink.written c.act.new.out; sent = g.L.Link.sent c.act.new.link }) c.act.new.self (g.R.Fresh.random c.act.new.fresh) c.args.sid p c.in-Some.node c.in_ok-act.field-0 turn c.if-branch.true
     (c.in_ok-act.ensures.progress p start s w h)
 
 pub returns-clause-progress : goal.returns-clause-progress
@@ -33,8 +33,8 @@ returns-clause-progress g c = λ p start s w h.
     let after = (acted c.args.sid c.in-Some.node p).0 in
     let now : Outside = record { written = g.O.Sink.written c.leave.new.out; sent = g.L.Link.sent c.leave.new.link } in
     let came = c.in_ok-act.ensures.progress p start s w h in
-    turn_left start now c.leave.new.self (g.R.Fresh.words c.act.new.fresh) c.args.sid p c.in-Some.node c.leave.result turn (sym came.1 ∙ c.if-branch.false)
-    (with_words start now c.leave.new.self (g.R.Fresh.words c.act.new.fresh) (abandons c.args.sid after) c.leave.result came.0.1 (c.leave.ensures.progress after start came.0.0.0 came.0.0.1))
+    turn_left start now c.leave.new.self (g.R.Fresh.random c.act.new.fresh) c.args.sid p c.in-Some.node c.leave.result turn (sym came.1 ∙ c.if-branch.false)
+    (with_random start now c.leave.new.self (g.R.Fresh.random c.act.new.fresh) (abandons c.args.sid after) c.leave.result came.0.1 (c.leave.ensures.progress after start came.0.0.0 came.0.0.1))
 
 pub returns-in_default-clause-joins : goal.returns-in_default-clause-joins
 returns-in_default-clause-joins g c = keeps_same c.args.self.now.node c.args.self.now.node refl

@@ -20,7 +20,7 @@ loop-start-preserved g c =
           let now : Outside = record { written = g.O.Sink.written c.start_one.new.out; sent = g.L.Link.sent c.start_one.new.link } in
           let so_far : Play = all_starts p (take c.loop-start.start-index c.args.starts.now) in
           let before = inv.progress p start s w h in
-          start_more start now c.start_one.new.self (g.R.Fresh.words c.start_one.new.fresh) p c.args.starts.now c.loop-start.start-index c.start-item.result c.loop-start-test.true c.start-item.is
+          start_more start now c.start_one.new.self (g.R.Fresh.random c.start_one.new.fresh) p c.args.starts.now c.loop-start.start-index c.start-item.result c.loop-start-test.true c.start-item.is
           (one.progress so_far start before.0.0 before.1 before.0.1);
     }
 
@@ -29,10 +29,10 @@ returns-in_err-start_one-clause-progress g c = let same : c.from_residual.result
     let now : Outside = record { written = g.O.Sink.written c.start_one.new.out; sent = g.L.Link.sent c.start_one.new.link } in
     let so_far : Play = all_starts p (take c.loop-start.start-index c.args.starts.now) in
     let before = c.loop-start.invariant.progress p start s w h in
-    start_failed start now c.start_one.new.self (g.R.Fresh.words c.start_one.new.fresh) p c.args.starts.now c.loop-start.start-index c.start-item.result c.from_residual.result c.in_err-start_one.field-0.0 c.loop-start-test.true c.start-item.is same
+    start_failed start now c.start_one.new.self (g.R.Fresh.random c.start_one.new.fresh) p c.args.starts.now c.loop-start.start-index c.start-item.result c.from_residual.result c.in_err-start_one.field-0.0 c.loop-start-test.true c.start-item.is same
     (c.in_err-start_one.ensures.progress so_far start before.0.0 before.1 before.0.1)
 
 pub returns-clause-progress : goal.returns-clause-progress
 returns-clause-progress g c = λ p start s w h.
     let now : Outside = record { written = g.O.Sink.written c.loop-start.out; sent = g.L.Link.sent c.loop-start.link } in
-    starts_done start now c.loop-start.self (g.R.Fresh.words c.loop-start.fresh) p c.args.starts.now c.loop-start.start-index c.loop-start-test.false (c.loop-start.invariant.progress p start s w h)
+    starts_done start now c.loop-start.self (g.R.Fresh.random c.loop-start.fresh) p c.args.starts.now c.loop-start.start-index c.loop-start-test.false (c.loop-start.invariant.progress p start s w h)

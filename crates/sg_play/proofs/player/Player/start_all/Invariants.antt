@@ -10,6 +10,6 @@ invariant-loop-start g l = record {
   link_falls : g.L.Link.faults l.initial.link ≤ g.L.Link.faults l.link;
   out_falls : g.O.Sink.faults l.initial.out ≤ g.O.Sink.faults l.out;
   deliveries : g.L.Link.deliveries l.link ≡ g.L.Link.deliveries l.initial.link;
-  progress : (p : Play) (start : Outside) → RepresentsPlay l.initial.self p → g.R.Fresh.words l.initial.fresh ≡ Some p.words → Whole start (record { written = g.O.Sink.written l.initial.out; sent = g.L.Link.sent l.initial.link }) p.steps
-      → CameTo start (record { written = g.O.Sink.written l.out; sent = g.L.Link.sent l.link }) l.self (g.R.Fresh.words l.fresh) (all_starts p (take l.start-index l.starts)) (Ok tt);
+  progress : (p : Play) (start : Outside) → RepresentsPlay l.initial.self p → g.R.Fresh.random l.initial.fresh ≡ Some p.random → Whole start (record { written = g.O.Sink.written l.initial.out; sent = g.L.Link.sent l.initial.link }) p.steps
+      → CameTo start (record { written = g.O.Sink.written l.out; sent = g.L.Link.sent l.link }) l.self (g.R.Fresh.random l.fresh) (all_starts p (take l.start-index l.starts)) (Ok tt);
 }

@@ -26,7 +26,7 @@ loop-taken-preserved g c =
           let before = inv.progress p start deliveries told s w h in
           let whole = nothing_sent start so_far (g.O.Sink.written c.loop-taken.out) (g.L.Link.sent c.loop-taken.link) (g.L.Link.sent c.recv.new.self) c.recv.ensures.kept_sent before.0.1 in
           let next : drop k deliveries ≡ c.as_slice.result.now ∷ drop 1 (drop k deliveries) = (first (drop k deliveries) (inv.left deliveries told)).0 ∙ ap (λ (b : List ℕ). b ∷ drop 1 (drop k deliveries)) (sym c.as_slice.ensures.value) in
-          delivery_more start now c.deliver.new.self (g.R.Fresh.words c.deliver.new.fresh) p deliveries k c.as_slice.result.now next (one.progress so_far start before.0.0 before.1 whole);
+          delivery_more start now c.deliver.new.self (g.R.Fresh.random c.deliver.new.fresh) p deliveries k c.as_slice.result.now next (one.progress so_far start before.0.0 before.1 whole);
     }
 
 pub returns-in_err-deliver-in-Ok-Some-clause-progress : goal.returns-in_err-deliver-in-Ok-Some-clause-progress
@@ -39,7 +39,7 @@ returns-in_err-deliver-in-Ok-Some-clause-progress g c = let same : c.from_residu
     let before = inv.progress p start deliveries told s w h in
     let whole = nothing_sent start so_far (g.O.Sink.written c.loop-taken.out) (g.L.Link.sent c.loop-taken.link) (g.L.Link.sent c.recv.new.self) c.recv.ensures.kept_sent before.0.1 in
     let next : drop k deliveries ≡ c.as_slice.result.now ∷ drop 1 (drop k deliveries) = (first (drop k deliveries) (inv.left deliveries told)).0 ∙ ap (λ (b : List ℕ). b ∷ drop 1 (drop k deliveries)) (sym c.as_slice.ensures.value) in
-    delivery_failed start now c.deliver.new.self (g.R.Fresh.words c.deliver.new.fresh) p deliveries k c.as_slice.result.now c.args.most c.from_residual.result c.in_err-deliver-in-Ok-Some.field-0.0 next within same
+    delivery_failed start now c.deliver.new.self (g.R.Fresh.random c.deliver.new.fresh) p deliveries k c.as_slice.result.now c.args.most c.from_residual.result c.in_err-deliver-in-Ok-Some.field-0.0 next within same
     (c.in_err-deliver-in-Ok-Some.ensures.progress so_far start before.0.0 before.1 whole)
 
 pub returns-in_err-deliver-in-Ok-Some-clause-at_most : goal.returns-in_err-deliver-in-Ok-Some-clause-at_most
@@ -56,7 +56,7 @@ returns-in-Ok-None-clause-progress g c = let within : c.loop-taken._taken ≤ c.
     let now : Outside = record { written = g.O.Sink.written c.loop-taken.out; sent = g.L.Link.sent c.recv.new.self } in
     let so_far : Play = all_deliveries p (take k deliveries) in
     let before = inv.progress p start deliveries told s w h in
-    link_ended start now c.loop-taken.self (g.R.Fresh.words c.loop-taken.fresh) p deliveries k c.args.most within (end (drop k deliveries) (inv.left deliveries told)) before.0.0
+    link_ended start now c.loop-taken.self (g.R.Fresh.random c.loop-taken.fresh) p deliveries k c.args.most within (end (drop k deliveries) (inv.left deliveries told)) before.0.0
     (nothing_sent start so_far (g.O.Sink.written c.loop-taken.out) (g.L.Link.sent c.loop-taken.link) (g.L.Link.sent c.recv.new.self) c.recv.ensures.kept_sent before.0.1) before.1
 
 pub returns-in-Ok-None-clause-left : goal.returns-in-Ok-None-clause-left
@@ -79,7 +79,7 @@ returns-in-Err-Failed-clause-progress g c = let within : c.loop-taken._taken ≤
     let now : Outside = record { written = g.O.Sink.written c.loop-taken.out; sent = g.L.Link.sent c.recv.new.self } in
     let so_far : Play = all_deliveries p (take k deliveries) in
     let before = c.loop-taken.invariant.progress p start deliveries told s w h in
-    link_failed start now c.loop-taken.self (g.R.Fresh.words c.loop-taken.fresh) p deliveries k c.args.most within
+    link_failed start now c.loop-taken.self (g.R.Fresh.random c.loop-taken.fresh) p deliveries k c.args.most within
     (nothing_sent start so_far (g.O.Sink.written c.loop-taken.out) (g.L.Link.sent c.loop-taken.link) (g.L.Link.sent c.recv.new.self) c.recv.ensures.kept_sent before.0.1)
 
 pub returns-in-Err-Failed-clause-at_most : goal.returns-in-Err-Failed-clause-at_most
@@ -91,7 +91,7 @@ returns-in-Err-OutOfMemory-clause-progress g c = let within : c.loop-taken._take
     let now : Outside = record { written = g.O.Sink.written c.loop-taken.out; sent = g.L.Link.sent c.recv.new.self } in
     let so_far : Play = all_deliveries p (take k deliveries) in
     let before = c.loop-taken.invariant.progress p start deliveries told s w h in
-    link_full start now c.loop-taken.self (g.R.Fresh.words c.loop-taken.fresh) p deliveries k c.args.most within
+    link_full start now c.loop-taken.self (g.R.Fresh.random c.loop-taken.fresh) p deliveries k c.args.most within
     (nothing_sent start so_far (g.O.Sink.written c.loop-taken.out) (g.L.Link.sent c.loop-taken.link) (g.L.Link.sent c.recv.new.self) c.recv.ensures.kept_sent before.0.1)
 
 pub returns-in-Err-OutOfMemory-clause-at_most : goal.returns-in-Err-OutOfMemory-clause-at_most
@@ -100,7 +100,7 @@ returns-in-Err-OutOfMemory-clause-at_most g c = let within : c.loop-taken._taken
 pub returns-clause-progress : goal.returns-clause-progress
 returns-clause-progress g c = let all : c.loop-taken._taken ≡ c.args.most = omega arith in λ p start deliveries told s w h.
     let now : Outside = record { written = g.O.Sink.written c.loop-taken.out; sent = g.L.Link.sent c.loop-taken.link } in
-    subst (λ (k : ℕ). CameTo start now c.loop-taken.self (g.R.Fresh.words c.loop-taken.fresh) (all_deliveries p (take k deliveries)) (Ok tt)) all (c.loop-taken.invariant.progress p start deliveries told s w h)
+    subst (λ (k : ℕ). CameTo start now c.loop-taken.self (g.R.Fresh.random c.loop-taken.fresh) (all_deliveries p (take k deliveries)) (Ok tt)) all (c.loop-taken.invariant.progress p start deliveries told s w h)
 
 pub returns-clause-left : goal.returns-clause-left
 returns-clause-left g c = let all : c.loop-taken._taken ≡ c.args.most = omega arith in λ deliveries told.

@@ -10,7 +10,7 @@ invariant-loop-taken g l = record {
   link_falls : g.L.Link.faults l.initial.link ≤ g.L.Link.faults l.link;
   out_falls : g.O.Sink.faults l.initial.out ≤ g.O.Sink.faults l.out;
   left : (deliveries : List (List ℕ)) → g.L.Link.deliveries l.initial.link ≡ Some deliveries → g.L.Link.deliveries l.link ≡ Some (drop l._taken deliveries);
-  progress : (p : Play) (start : Outside) (deliveries : List (List ℕ)) → g.L.Link.deliveries l.initial.link ≡ Some deliveries → RepresentsPlay l.initial.self p → g.R.Fresh.words l.initial.fresh ≡ Some p.words
+  progress : (p : Play) (start : Outside) (deliveries : List (List ℕ)) → g.L.Link.deliveries l.initial.link ≡ Some deliveries → RepresentsPlay l.initial.self p → g.R.Fresh.random l.initial.fresh ≡ Some p.random
       → Whole start (record { written = g.O.Sink.written l.initial.out; sent = g.L.Link.sent l.initial.link }) p.steps
-      → CameTo start (record { written = g.O.Sink.written l.out; sent = g.L.Link.sent l.link }) l.self (g.R.Fresh.words l.fresh) (all_deliveries p (take l._taken deliveries)) (Ok tt);
+      → CameTo start (record { written = g.O.Sink.written l.out; sent = g.L.Link.sent l.link }) l.self (g.R.Fresh.random l.fresh) (all_deliveries p (take l._taken deliveries)) (Ok tt);
 }

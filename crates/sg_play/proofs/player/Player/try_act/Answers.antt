@@ -16,12 +16,12 @@ returns-clause-acted g c = λ p s w.
     let choice : Choice = c.in-Some.choice.now in
     let values : values_of c.as_slice.result.now ≡ choice.values = ap values_of c.as_slice.ensures ∙ ap (λ (k : Choice). k.values) c.choice.view_is in
     let count : c.len.result ≡ length choice.values = count_is choice c.as_slice.result.now c.len.result (c.len.ensures ∙ sym (ap (λ vs. length vs) c.as_slice.ensures)) values in
-    let drawn = c.as_slice-2.ensures.value ∙ c.in-Ok.ensures.words p.words w in
-    let call = act_is c.args.sid choice c.choice.inside.label (values_of c.as_slice.result.now) c.len.result c.as_slice-2.result.now p.words (ap (λ (k : Choice). k.label) c.choice.view_is) values count drawn in
+    let drawn = c.as_slice-2.ensures.value ∙ c.in-Ok.ensures.confounders p.random w in
+    let call = act_is c.args.sid choice c.choice.inside.label (values_of c.as_slice.result.now) c.len.result c.as_slice-2.result.now p.random (ap (λ (k : Choice). k.label) c.choice.view_is) values count drawn in
     has_acted c.args.self.now c.ask_act.new.node c.use_first.new.self c.ask_act.new.frames p c.args.sid c.args.graph.now c.args.node choice
     (Act c.args.sid c.choice.inside.label (values_of c.as_slice.result.now) c.as_slice-2.result.now) (outcome_of c.in_ok-asked.asked.0) (option_copied c.in_ok-asked.asked.1) c.in_ok-asked.asked.2
-    (g.R.Fresh.words c.draw.new.fresh) s (sym (c.first.ensures p.choices s.choices) ∙ ap option_copied c.in-Some.is) call (c.in_ok-asked.ensures.comes p.past s.node) (c.use_first.ensures p.choices s.choices)
-    (c.in-Ok.ensures.left p.words w ∙ ap (λ n. Some (drop n p.words)) count)
+    (g.R.Fresh.random c.draw.new.fresh) s (sym (c.first.ensures p.choices s.choices) ∙ ap option_copied c.in-Some.is) call (c.in_ok-asked.ensures.comes p.past s.node) (c.use_first.ensures p.choices s.choices)
+    (c.in-Ok.ensures.left p.random w ∙ ap (λ n. Some (drop n p.random)) count)
 
 pub returns-in_default-clause-joins : goal.returns-in_default-clause-joins
 returns-in_default-clause-joins g c = keeps_same c.args.self.now.node c.args.self.now.node refl

@@ -12,12 +12,12 @@ pub returns-in_default-clause-answered : goal.returns-in_default-clause-answered
 returns-in_default-clause-answered g c = λ r st w co.
     let sv = c.args.self.now in
     let images = images_if (is_some sv.ledger) (g.D.Disk.may_leave c.args.disk.now) in
-    let words = g.R.Fresh.words c.args.fresh.now in
+    let random = g.R.Fresh.random c.args.fresh.now in
     let coming = g.L.TimedLink.coming c.args.link.now in
     let old = g.L.Link.faults c.args.link.now in
-    came_as images sv words coming old old r TooLong (found_line (option_copied c.args.line)) (some_ok c.say_wrong.result) c.some_reply.result
+    came_as images sv random coming old old r TooLong (found_line (option_copied c.args.line)) (some_ok c.say_wrong.result) c.some_reply.result
     (ap (λ (o : Option (Bor (List ℕ))). found_line (option_copied o)) c.in_default.is) c.some_reply.ensures
-    (wrong_form images sv words coming old old r TooLong c.say_wrong.result refl (λ took. refl) (holds_all sv sv (g.D.Disk.may_leave c.args.disk.now) r.serving refl c.requires.holds st) st w co c.say_wrong.ensures.text)
+    (wrong_form images sv random coming old old r TooLong c.say_wrong.result refl (λ took. refl) (holds_all sv sv (g.D.Disk.may_leave c.args.disk.now) r.serving refl c.requires.holds st) st w co c.say_wrong.ensures.text)
 
 pub reply-requires : goal.reply-requires
 reply-requires g c = record {
@@ -28,20 +28,20 @@ reply-requires g c = record {
 pub returns-in-Ok-Some-Receive-clause-answered : goal.returns-in-Ok-Some-Receive-clause-answered
 returns-in-Ok-Some-Receive-clause-answered g c = λ r st w co.
     let images = images_if (is_some c.args.self.now.ledger) (g.D.Disk.may_leave c.receive.new.disk) in
-    let words = g.R.Fresh.words c.args.fresh.now in
+    let random = g.R.Fresh.random c.args.fresh.now in
     let coming = g.L.TimedLink.coming c.receive.new.link in
     let old = g.L.Link.faults c.args.link.now in
     let new = g.L.Link.faults c.receive.new.link in
-    came_as images c.receive.new.self words coming old new r (Whole c.in-Some.bytes.now) (found_line (option_copied c.args.line)) (some_ok c.receive.result) c.some_reply-in-Ok-Some-Receive.result
+    came_as images c.receive.new.self random coming old new r (Whole c.in-Some.bytes.now) (found_line (option_copied c.args.line)) (some_ok c.receive.result) c.some_reply-in-Ok-Some-Receive.result
     (ap (λ (o : Option (Bor (List ℕ))). found_line (option_copied o)) c.in-Some.is) c.some_reply-in-Ok-Some-Receive.ensures
-    (asked_wait images c.receive.new.self words coming old new r c.in-Some.bytes.now c.in-Ok-Some-Receive.within c.receive.result (sym (c.in-Ok-Some-Receive.field-0-is ∙ ap Some c.in-Ok-Some-Receive.field-0-0-is) ∙ c.in-Ok-Some-Receive.ensures) w (c.receive.ensures.received r st co))
+    (asked_wait images c.receive.new.self random coming old new r c.in-Some.bytes.now c.in-Ok-Some-Receive.within c.receive.result (sym (c.in-Ok-Some-Receive.field-0-is ∙ ap Some c.in-Ok-Some-Receive.field-0-0-is) ∙ c.in-Ok-Some-Receive.ensures) w (c.receive.ensures.received r st co))
 
 pub returns-in-Ok-Some : goal.returns-in-Ok-Some
 returns-in-Ok-Some g c =
     let x = c.some_reply-in-Ok-Some.result in
     let is = c.some_reply-in-Ok-Some.ensures in
     let images = images_if (is_some c.args.self.now.ledger) (g.D.Disk.may_leave c.reply.new.disk) in
-    let words = g.R.Fresh.words c.reply.new.fresh in
+    let random = g.R.Fresh.random c.reply.new.fresh in
     let coming = g.L.TimedLink.coming c.args.link.now in
     let old = g.L.Link.faults c.args.link.now in
     record {
@@ -56,23 +56,23 @@ returns-in-Ok-Some g c =
       same = some_on_ok c.reply.result x _ is c.reply.ensures.same;
       holds = some_on_ok c.reply.result x _ is c.reply.ensures.holds;
       answered = λ r st w co.
-          came_as images c.reply.new.self words coming old old r (Whole c.in-Some.bytes.now) (found_line (option_copied c.args.line)) (some_ok c.reply.result) x
+          came_as images c.reply.new.self random coming old old r (Whole c.in-Some.bytes.now) (found_line (option_copied c.args.line)) (some_ok c.reply.result) x
           (ap (λ (o : Option (Bor (List ℕ))). found_line (option_copied o)) c.in-Some.is) is
-          (asked_other images c.reply.new.self words coming old old r c.in-Some.bytes.now c.in-Ok-Some.request c.reply.result (sym c.in-Ok-Some.field-0-is ∙ c.in-Ok-Some.ensures)
+          (asked_other images c.reply.new.self random coming old old r c.in-Some.bytes.now c.in-Ok-Some.request c.reply.result (sym c.in-Ok-Some.field-0-is ∙ c.in-Ok-Some.ensures)
           (λ e. search rules) (λ n e. search rules)
-          (mapped_ok c.reply.result _ _ (λ h. h r.serving st w) c.reply.ensures.words) co (c.reply.ensures.replied r.serving st w));
+          (mapped_ok c.reply.result _ _ (λ h. h r.serving st w) c.reply.ensures.random) co (c.reply.ensures.replied r.serving st w));
     }
 
 pub returns-in-Ok-None-clause-answered : goal.returns-in-Ok-None-clause-answered
 returns-in-Ok-None-clause-answered g c = λ r st w co.
     let sv = c.args.self.now in
     let images = images_if (is_some sv.ledger) (g.D.Disk.may_leave c.args.disk.now) in
-    let words = g.R.Fresh.words c.args.fresh.now in
+    let random = g.R.Fresh.random c.args.fresh.now in
     let coming = g.L.TimedLink.coming c.args.link.now in
     let old = g.L.Link.faults c.args.link.now in
-    came_as images sv words coming old old r (Whole c.in-Some.bytes.now) (found_line (option_copied c.args.line)) (some_ok c.say_wrong-in-Ok-None.result) c.some_reply-in-Ok-None.result
+    came_as images sv random coming old old r (Whole c.in-Some.bytes.now) (found_line (option_copied c.args.line)) (some_ok c.say_wrong-in-Ok-None.result) c.some_reply-in-Ok-None.result
     (ap (λ (o : Option (Bor (List ℕ))). found_line (option_copied o)) c.in-Some.is) c.some_reply-in-Ok-None.ensures
-    (no_request images sv words coming old old r c.in-Some.bytes.now c.say_wrong-in-Ok-None.result (sym c.in-Ok-None.field-0-is ∙ c.in-Ok-None.ensures) (holds_all sv sv (g.D.Disk.may_leave c.args.disk.now) r.serving refl c.requires.holds st) st w co c.say_wrong-in-Ok-None.ensures.text)
+    (no_request images sv random coming old old r c.in-Some.bytes.now c.say_wrong-in-Ok-None.result (sym c.in-Ok-None.field-0-is ∙ c.in-Ok-None.ensures) (holds_all sv sv (g.D.Disk.may_leave c.args.disk.now) r.serving refl c.requires.holds st) st w co c.say_wrong-in-Ok-None.ensures.text)
 
 pub returns-in-Err-clause-answered : goal.returns-in-Err-clause-answered
 returns-in-Err-clause-answered g c = λ r st w co later.

@@ -6,8 +6,8 @@ use Rattle.sg_serve.specs.Served.{joins_kept}
 use Rattle.sg_serve.proofs.server.Server.new.Goals as goal
 
 pub returns-clause-represents : goal.returns-clause-represents
-returns-clause-represents c = λ words. record {
-  player = subst (λ (l : List Choice). RepresentsPlay c.in-Ok.player (beginning c.args.keys.now c.args.programs.now (joins_kept c.args.ledger) l words)) c.new.ensures (c.in-Ok.ensures.represents (joins_kept c.args.ledger) words c.requires);
+returns-clause-represents c = λ random. record {
+  player = subst (λ (l : List Choice). RepresentsPlay c.in-Ok.player (beginning c.args.keys.now c.args.programs.now (joins_kept c.args.ledger) l random)) c.new.ensures (c.in-Ok.ensures.represents (joins_kept c.args.ledger) random c.requires);
   programs = refl;
   graphs = c.new-3.ensures;
   last = c.new-4.ensures;

@@ -30,10 +30,10 @@ returns-in-Abandon-clause-replied g c = λ s st w.
     (replied_plain sv c.abandon.new.self (g.D.Disk.may_leave c.args.disk.now) s a c.abandon.result c.requires.holds st
     (applied c.abandon.result _ (λ (step : Step). HasReplied c.abandon.new.self step a) (λ step h. h s st) c.abandon.ensures.replied))
 
-pub returns-in-Again-clause-words : goal.returns-in-Again-clause-words
-returns-in-Again-clause-words g c = on_ok c.again.result _ (λ s st w.
+pub returns-in-Again-clause-random : goal.returns-in-Again-clause-random
+returns-in-Again-clause-random g c = on_ok c.again.result _ (λ s st w.
     let n = c.in-Again.number in
-    subst (λ (q : Request). g.R.Fresh.words c.args.fresh.now ≡ Some (replies s q).0.play.words) (sym c.in-Again.is) (w ∙ ap Some (of_again s n)))
+    subst (λ (q : Request). g.R.Fresh.random c.args.fresh.now ≡ Some (replies s q).0.play.random) (sym c.in-Again.is) (w ∙ ap Some (of_again s n)))
 
 pub returns-in-Again-clause-replied : goal.returns-in-Again-clause-replied
 returns-in-Again-clause-replied g c = λ s st w.
@@ -44,10 +44,10 @@ returns-in-Again-clause-replied g c = λ s st w.
     (replied_plain sv sv (g.D.Disk.may_leave c.args.disk.now) s a c.again.result c.requires.holds st
     (applied c.again.result _ (λ (step : Step). HasReplied sv step a) (λ step h. h s st) c.again.ensures.replied))
 
-pub returns-in-Turn-clause-words : goal.returns-in-Turn-clause-words
-returns-in-Turn-clause-words g c = on_ok c.turn.result _ (λ s st w.
+pub returns-in-Turn-clause-random : goal.returns-in-Turn-clause-random
+returns-in-Turn-clause-random g c = on_ok c.turn.result _ (λ s st w.
     let n = c.in-Turn.number in
-    subst (λ (q : Request). g.R.Fresh.words c.args.fresh.now ≡ Some (replies s q).0.play.words) (sym c.in-Turn.is) (w ∙ ap Some (of_says s n (turn_line s n))))
+    subst (λ (q : Request). g.R.Fresh.random c.args.fresh.now ≡ Some (replies s q).0.play.random) (sym c.in-Turn.is) (w ∙ ap Some (of_says s n (turn_line s n))))
 
 pub returns-in-Turn-clause-replied : goal.returns-in-Turn-clause-replied
 returns-in-Turn-clause-replied g c = λ s st w.
@@ -58,10 +58,10 @@ returns-in-Turn-clause-replied g c = λ s st w.
     (replied_plain sv sv (g.D.Disk.may_leave c.args.disk.now) s a c.turn.result c.requires.holds st
     (applied c.turn.result _ (λ (step : Step). HasReplied sv step a) (λ step h. h s st) c.turn.ensures.replied))
 
-pub returns-in-Id-clause-words : goal.returns-in-Id-clause-words
-returns-in-Id-clause-words g c = on_ok c.id.result _ (λ s st w.
+pub returns-in-Id-clause-random : goal.returns-in-Id-clause-random
+returns-in-Id-clause-random g c = on_ok c.id.result _ (λ s st w.
     let n = c.in-Id.number in
-    subst (λ (q : Request). g.R.Fresh.words c.args.fresh.now ≡ Some (replies s q).0.play.words) (sym c.in-Id.is) (w ∙ ap Some (of_says s n (id_text n))))
+    subst (λ (q : Request). g.R.Fresh.random c.args.fresh.now ≡ Some (replies s q).0.play.random) (sym c.in-Id.is) (w ∙ ap Some (of_says s n (id_text n))))
 
 pub returns-in-Id-clause-replied : goal.returns-in-Id-clause-replied
 returns-in-Id-clause-replied g c = λ s st w.

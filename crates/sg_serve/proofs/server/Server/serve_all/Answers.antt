@@ -16,13 +16,13 @@ returns-in_err-serve_line-in-Ok-Some-Line-clause-served g c = let same : c.from_
     let start : Outside = record { written = g.O.Sink.written c.args.out.now; sent = g.L.Link.sent c.args.link.now; coming = g.L.TimedLink.coming c.args.link.now; failed = g.L.Link.faults c.args.link.now } in
     let old : Outside = record { written = g.O.Sink.written c.loop-line.out; sent = g.L.Link.sent c.loop-line.link; coming = g.L.TimedLink.coming c.loop-line.link; failed = g.L.Link.faults c.loop-line.link } in
     let new : Outside = record { written = g.O.Sink.written c.serve_line.new.out; sent = g.L.Link.sent c.serve_line.new.link; coming = g.L.TimedLink.coming c.serve_line.new.link; failed = g.L.Link.faults c.serve_line.new.link } in
-    let words = g.R.Fresh.words c.serve_line.new.fresh in
+    let random = g.R.Fresh.random c.serve_line.new.fresh in
     let leaves = g.D.Disk.may_leave c.serve_line.new.disk in
     let before = c.loop-line.invariant.served r lines st told a in
     let left = before.0 in
     let next : left ≡ Whole c.line.result.now ∷ drop 1 left = (c.next.ensures.line (c.in-Ok-Some-Line.is ∙ ap Ok (c.in-Ok-Some-Line.field-0-is ∙ ap Some c.in-Ok-Some-Line.field-0-0-is)) left before.1).0 ∙ ap (λ (b : List ℕ). Whole b ∷ drop 1 left) (sym c.line.ensures) in
-    subst (λ x. Served start new words (images_if (is_some c.args.self.now.ledger) leaves) r lines x) (sym same)
-    (failed_line start old new (g.R.Fresh.words c.loop-line.fresh) words c.loop-line.self c.serve_line.new.self r lines left (Whole c.line.result.now) before.2 next (is_some c.loop-line.self.ledger) (is_some c.args.self.now.ledger) leaves c.in_err-serve_line-in-Ok-Some-Line.field-0.0 c.loop-line.invariant.same
+    subst (λ x. Served start new random (images_if (is_some c.args.self.now.ledger) leaves) r lines x) (sym same)
+    (failed_line start old new (g.R.Fresh.random c.loop-line.fresh) random c.loop-line.self c.serve_line.new.self r lines left (Whole c.line.result.now) before.2 next (is_some c.loop-line.self.ledger) (is_some c.args.self.now.ledger) leaves c.in_err-serve_line-in-Ok-Some-Line.field-0.0 c.loop-line.invariant.same
     (λ z zs za. c.in_err-serve_line-in-Ok-Some-Line.ensures.answered z start zs za))
 
 pub returns-then-not-branch-clause-served : goal.returns-then-not-branch-clause-served
@@ -30,27 +30,27 @@ returns-then-not-branch-clause-served g c = let ends : c.in_ok-serve_line-in-Ok-
     let start : Outside = record { written = g.O.Sink.written c.args.out.now; sent = g.L.Link.sent c.args.link.now; coming = g.L.TimedLink.coming c.args.link.now; failed = g.L.Link.faults c.args.link.now } in
     let old : Outside = record { written = g.O.Sink.written c.loop-line.out; sent = g.L.Link.sent c.loop-line.link; coming = g.L.TimedLink.coming c.loop-line.link; failed = g.L.Link.faults c.loop-line.link } in
     let new : Outside = record { written = g.O.Sink.written c.serve_line.new.out; sent = g.L.Link.sent c.serve_line.new.link; coming = g.L.TimedLink.coming c.serve_line.new.link; failed = g.L.Link.faults c.serve_line.new.link } in
-    let words = g.R.Fresh.words c.serve_line.new.fresh in
+    let random = g.R.Fresh.random c.serve_line.new.fresh in
     let leaves = g.D.Disk.may_leave c.serve_line.new.disk in
     let before = c.loop-line.invariant.served r lines st told a in
     let left = before.0 in
     let next : left ≡ Whole c.line.result.now ∷ drop 1 left = (c.next.ensures.line (c.in-Ok-Some-Line.is ∙ ap Ok (c.in-Ok-Some-Line.field-0-is ∙ ap Some c.in-Ok-Some-Line.field-0-0-is)) left before.1).0 ∙ ap (λ (b : List ℕ). Whole b ∷ drop 1 left) (sym c.line.ensures) in
     let images = images_if (is_some c.loop-line.self.ledger) leaves in
-    last_line start old new (g.R.Fresh.words c.loop-line.fresh) words c.loop-line.self c.serve_line.new.self r lines left (Whole c.line.result.now) before.2 next images c.args.self.now leaves (c.in_ok-serve_line-in-Ok-Some-Line.ensures.same ∙ c.loop-line.invariant.same) c.in_ok-serve_line-in-Ok-Some-Line.ensures.holds
-    (λ z zs za. subst (λ (b : Bool). Answered start new words images c.serve_line.new.self z (Whole c.line.result.now) (Ok b)) ends (c.in_ok-serve_line-in-Ok-Some-Line.ensures.answered z start zs za))
+    last_line start old new (g.R.Fresh.random c.loop-line.fresh) random c.loop-line.self c.serve_line.new.self r lines left (Whole c.line.result.now) before.2 next images c.args.self.now leaves (c.in_ok-serve_line-in-Ok-Some-Line.ensures.same ∙ c.loop-line.invariant.same) c.in_ok-serve_line-in-Ok-Some-Line.ensures.holds
+    (λ z zs za. subst (λ (b : Bool). Answered start new random images c.serve_line.new.self z (Whole c.line.result.now) (Ok b)) ends (c.in_ok-serve_line-in-Ok-Some-Line.ensures.answered z start zs za))
 
 pub returns-in_err-serve_line-in-Ok-Some-TooLong-clause-served : goal.returns-in_err-serve_line-in-Ok-Some-TooLong-clause-served
 returns-in_err-serve_line-in-Ok-Some-TooLong-clause-served g c = let same : c.from_residual-in_err-serve_line-in-Ok-Some-TooLong.result ≡ Err c.in_err-serve_line-in-Ok-Some-TooLong.field-0.0 = search rules in λ r lines st told a.
     let start : Outside = record { written = g.O.Sink.written c.args.out.now; sent = g.L.Link.sent c.args.link.now; coming = g.L.TimedLink.coming c.args.link.now; failed = g.L.Link.faults c.args.link.now } in
     let old : Outside = record { written = g.O.Sink.written c.loop-line.out; sent = g.L.Link.sent c.loop-line.link; coming = g.L.TimedLink.coming c.loop-line.link; failed = g.L.Link.faults c.loop-line.link } in
     let new : Outside = record { written = g.O.Sink.written c.serve_line-in-Ok-Some-TooLong.new.out; sent = g.L.Link.sent c.serve_line-in-Ok-Some-TooLong.new.link; coming = g.L.TimedLink.coming c.serve_line-in-Ok-Some-TooLong.new.link; failed = g.L.Link.faults c.serve_line-in-Ok-Some-TooLong.new.link } in
-    let words = g.R.Fresh.words c.serve_line-in-Ok-Some-TooLong.new.fresh in
+    let random = g.R.Fresh.random c.serve_line-in-Ok-Some-TooLong.new.fresh in
     let leaves = g.D.Disk.may_leave c.serve_line-in-Ok-Some-TooLong.new.disk in
     let before = c.loop-line.invariant.served r lines st told a in
     let left = before.0 in
     let next : left ≡ TooLong ∷ drop 1 left = (c.next.ensures.too_long (c.in-Ok-Some-TooLong.is ∙ ap Ok (c.in-Ok-Some-TooLong.field-0-is ∙ ap Some c.in-Ok-Some-TooLong.field-0-0-is)) left before.1).0 in
-    subst (λ x. Served start new words (images_if (is_some c.args.self.now.ledger) leaves) r lines x) (sym same)
-    (failed_line start old new (g.R.Fresh.words c.loop-line.fresh) words c.loop-line.self c.serve_line-in-Ok-Some-TooLong.new.self r lines left (TooLong) before.2 next (is_some c.loop-line.self.ledger) (is_some c.args.self.now.ledger) leaves c.in_err-serve_line-in-Ok-Some-TooLong.field-0.0 c.loop-line.invariant.same
+    subst (λ x. Served start new random (images_if (is_some c.args.self.now.ledger) leaves) r lines x) (sym same)
+    (failed_line start old new (g.R.Fresh.random c.loop-line.fresh) random c.loop-line.self c.serve_line-in-Ok-Some-TooLong.new.self r lines left (TooLong) before.2 next (is_some c.loop-line.self.ledger) (is_some c.args.self.now.ledger) leaves c.in_err-serve_line-in-Ok-Some-TooLong.field-0.0 c.loop-line.invariant.same
     (λ z zs za. c.in_err-serve_line-in-Ok-Some-TooLong.ensures.answered z start zs za))
 
 pub returns-then-not-branch-2-clause-served : goal.returns-then-not-branch-2-clause-served
@@ -58,42 +58,42 @@ returns-then-not-branch-2-clause-served g c = let ends : c.in_ok-serve_line-in-O
     let start : Outside = record { written = g.O.Sink.written c.args.out.now; sent = g.L.Link.sent c.args.link.now; coming = g.L.TimedLink.coming c.args.link.now; failed = g.L.Link.faults c.args.link.now } in
     let old : Outside = record { written = g.O.Sink.written c.loop-line.out; sent = g.L.Link.sent c.loop-line.link; coming = g.L.TimedLink.coming c.loop-line.link; failed = g.L.Link.faults c.loop-line.link } in
     let new : Outside = record { written = g.O.Sink.written c.serve_line-in-Ok-Some-TooLong.new.out; sent = g.L.Link.sent c.serve_line-in-Ok-Some-TooLong.new.link; coming = g.L.TimedLink.coming c.serve_line-in-Ok-Some-TooLong.new.link; failed = g.L.Link.faults c.serve_line-in-Ok-Some-TooLong.new.link } in
-    let words = g.R.Fresh.words c.serve_line-in-Ok-Some-TooLong.new.fresh in
+    let random = g.R.Fresh.random c.serve_line-in-Ok-Some-TooLong.new.fresh in
     let leaves = g.D.Disk.may_leave c.serve_line-in-Ok-Some-TooLong.new.disk in
     let before = c.loop-line.invariant.served r lines st told a in
     let left = before.0 in
     let next : left ≡ TooLong ∷ drop 1 left = (c.next.ensures.too_long (c.in-Ok-Some-TooLong.is ∙ ap Ok (c.in-Ok-Some-TooLong.field-0-is ∙ ap Some c.in-Ok-Some-TooLong.field-0-0-is)) left before.1).0 in
     let images = images_if (is_some c.loop-line.self.ledger) leaves in
-    last_line start old new (g.R.Fresh.words c.loop-line.fresh) words c.loop-line.self c.serve_line-in-Ok-Some-TooLong.new.self r lines left (TooLong) before.2 next images c.args.self.now leaves (c.in_ok-serve_line-in-Ok-Some-TooLong.ensures.same ∙ c.loop-line.invariant.same) c.in_ok-serve_line-in-Ok-Some-TooLong.ensures.holds
-    (λ z zs za. subst (λ (b : Bool). Answered start new words images c.serve_line-in-Ok-Some-TooLong.new.self z (TooLong) (Ok b)) ends (c.in_ok-serve_line-in-Ok-Some-TooLong.ensures.answered z start zs za))
+    last_line start old new (g.R.Fresh.random c.loop-line.fresh) random c.loop-line.self c.serve_line-in-Ok-Some-TooLong.new.self r lines left (TooLong) before.2 next images c.args.self.now leaves (c.in_ok-serve_line-in-Ok-Some-TooLong.ensures.same ∙ c.loop-line.invariant.same) c.in_ok-serve_line-in-Ok-Some-TooLong.ensures.holds
+    (λ z zs za. subst (λ (b : Bool). Answered start new random images c.serve_line-in-Ok-Some-TooLong.new.self z (TooLong) (Ok b)) ends (c.in_ok-serve_line-in-Ok-Some-TooLong.ensures.answered z start zs za))
 
 pub returns-in-Ok-None-clause-served : goal.returns-in-Ok-None-clause-served
 returns-in-Ok-None-clause-served g c = λ r lines st told a.
     let start : Outside = record { written = g.O.Sink.written c.args.out.now; sent = g.L.Link.sent c.args.link.now; coming = g.L.TimedLink.coming c.args.link.now; failed = g.L.Link.faults c.args.link.now } in
     let old : Outside = record { written = g.O.Sink.written c.loop-line.out; sent = g.L.Link.sent c.loop-line.link; coming = g.L.TimedLink.coming c.loop-line.link; failed = g.L.Link.faults c.loop-line.link } in
     let before = c.loop-line.invariant.served r lines st told a in
-    no_line start old (g.R.Fresh.words c.loop-line.fresh) c.loop-line.self c.args.self.now (g.D.Disk.may_leave c.loop-line.disk) r lines before.0 before.2 c.loop-line.invariant.same c.loop-line.invariant.holds (c.next.ensures.at_end (c.in-Ok-None.is ∙ ap Ok c.in-Ok-None.field-0-is) before.0 before.1)
+    no_line start old (g.R.Fresh.random c.loop-line.fresh) c.loop-line.self c.args.self.now (g.D.Disk.may_leave c.loop-line.disk) r lines before.0 before.2 c.loop-line.invariant.same c.loop-line.invariant.holds (c.next.ensures.at_end (c.in-Ok-None.is ∙ ap Ok c.in-Ok-None.field-0-is) before.0 before.1)
 
 pub returns-in-Err-Failed-clause-served : goal.returns-in-Err-Failed-clause-served
 returns-in-Err-Failed-clause-served g c = λ r lines st told a.
     let start : Outside = record { written = g.O.Sink.written c.args.out.now; sent = g.L.Link.sent c.args.link.now; coming = g.L.TimedLink.coming c.args.link.now; failed = g.L.Link.faults c.args.link.now } in
     let old : Outside = record { written = g.O.Sink.written c.loop-line.out; sent = g.L.Link.sent c.loop-line.link; coming = g.L.TimedLink.coming c.loop-line.link; failed = g.L.Link.faults c.loop-line.link } in
     let before = c.loop-line.invariant.served r lines st told a in
-    input_ended start old (g.R.Fresh.words c.loop-line.fresh) c.loop-line.self c.args.self.now (g.D.Disk.may_leave c.loop-line.disk) r lines before.0 before.2 c.loop-line.invariant.same c.loop-line.invariant.holds InputFailed refl
+    input_ended start old (g.R.Fresh.random c.loop-line.fresh) c.loop-line.self c.args.self.now (g.D.Disk.may_leave c.loop-line.disk) r lines before.0 before.2 c.loop-line.invariant.same c.loop-line.invariant.holds InputFailed refl
 
 pub returns-in-Err-OutOfMemory-clause-served : goal.returns-in-Err-OutOfMemory-clause-served
 returns-in-Err-OutOfMemory-clause-served g c = λ r lines st told a.
     let start : Outside = record { written = g.O.Sink.written c.args.out.now; sent = g.L.Link.sent c.args.link.now; coming = g.L.TimedLink.coming c.args.link.now; failed = g.L.Link.faults c.args.link.now } in
     let old : Outside = record { written = g.O.Sink.written c.loop-line.out; sent = g.L.Link.sent c.loop-line.link; coming = g.L.TimedLink.coming c.loop-line.link; failed = g.L.Link.faults c.loop-line.link } in
     let before = c.loop-line.invariant.served r lines st told a in
-    memory_ended start old (g.R.Fresh.words c.loop-line.fresh) c.loop-line.self c.args.self.now (g.D.Disk.may_leave c.loop-line.disk) r lines before.0 before.2 c.loop-line.invariant.same c.loop-line.invariant.holds OutOfMemory refl
+    memory_ended start old (g.R.Fresh.random c.loop-line.fresh) c.loop-line.self c.args.self.now (g.D.Disk.may_leave c.loop-line.disk) r lines before.0 before.2 c.loop-line.invariant.same c.loop-line.invariant.holds OutOfMemory refl
 
 pub returns-clause-served : goal.returns-clause-served
 returns-clause-served g c = λ r lines st told a.
     let start : Outside = record { written = g.O.Sink.written c.args.out.now; sent = g.L.Link.sent c.args.link.now; coming = g.L.TimedLink.coming c.args.link.now; failed = g.L.Link.faults c.args.link.now } in
     let old : Outside = record { written = g.O.Sink.written c.loop-line.out; sent = g.L.Link.sent c.loop-line.link; coming = g.L.TimedLink.coming c.loop-line.link; failed = g.L.Link.faults c.loop-line.link } in
     let before = c.loop-line.invariant.served r lines st told a in
-    memory_ended start old (g.R.Fresh.words c.loop-line.fresh) c.loop-line.self c.args.self.now (g.D.Disk.may_leave c.loop-line.disk) r lines before.0 before.2 c.loop-line.invariant.same c.loop-line.invariant.holds OutOfMemory refl
+    memory_ended start old (g.R.Fresh.random c.loop-line.fresh) c.loop-line.self c.args.self.now (g.D.Disk.may_leave c.loop-line.disk) r lines before.0 before.2 c.loop-line.invariant.same c.loop-line.invariant.holds OutOfMemory refl
 
 pub loop-line-preserved : goal.loop-line-preserved
 loop-line-preserved g c =
@@ -123,8 +123,8 @@ loop-line-preserved g c =
                 let images = images_if (is_some c.loop-line.self.ledger) (g.D.Disk.may_leave w.serve_line.new.disk) in (
                   drop 1 left,
                   took.1,
-                  next_line start old new (g.R.Fresh.words c.loop-line.fresh) (g.R.Fresh.words w.serve_line.new.fresh) c.loop-line.self w.serve_line.new.self r lines left (Whole w.line.result.now) before.2 next images
-                      (λ z zs za. subst (λ (b : Bool). Answered start new (g.R.Fresh.words w.serve_line.new.fresh) images w.serve_line.new.self z (Whole w.line.result.now) (Ok b)) more (w.in_ok-serve_line-in-Ok-Some-Line.ensures.answered z start zs za)),
+                  next_line start old new (g.R.Fresh.random c.loop-line.fresh) (g.R.Fresh.random w.serve_line.new.fresh) c.loop-line.self w.serve_line.new.self r lines left (Whole w.line.result.now) before.2 next images
+                      (λ z zs za. subst (λ (b : Bool). Answered start new (g.R.Fresh.random w.serve_line.new.fresh) images w.serve_line.new.self z (Whole w.line.result.now) (Ok b)) more (w.in_ok-serve_line-in-Ok-Some-Line.ensures.answered z start zs za)),
                 ));
           })
       | in-Ok-Some-TooLong+in_ok-serve_line-in-Ok-Some-TooLong+else-not-branch-2 w ↦
@@ -147,8 +147,8 @@ loop-line-preserved g c =
                 let images = images_if (is_some c.loop-line.self.ledger) (g.D.Disk.may_leave w.serve_line-in-Ok-Some-TooLong.new.disk) in (
                   drop 1 left,
                   took.1,
-                  next_line start old new (g.R.Fresh.words c.loop-line.fresh) (g.R.Fresh.words w.serve_line-in-Ok-Some-TooLong.new.fresh) c.loop-line.self w.serve_line-in-Ok-Some-TooLong.new.self r lines left (TooLong) before.2 next images
-                      (λ z zs za. subst (λ (b : Bool). Answered start new (g.R.Fresh.words w.serve_line-in-Ok-Some-TooLong.new.fresh) images w.serve_line-in-Ok-Some-TooLong.new.self z (TooLong) (Ok b)) more (w.in_ok-serve_line-in-Ok-Some-TooLong.ensures.answered z start zs za)),
+                  next_line start old new (g.R.Fresh.random c.loop-line.fresh) (g.R.Fresh.random w.serve_line-in-Ok-Some-TooLong.new.fresh) c.loop-line.self w.serve_line-in-Ok-Some-TooLong.new.self r lines left (TooLong) before.2 next images
+                      (λ z zs za. subst (λ (b : Bool). Answered start new (g.R.Fresh.random w.serve_line-in-Ok-Some-TooLong.new.fresh) images w.serve_line-in-Ok-Some-TooLong.new.self z (TooLong) (Ok b)) more (w.in_ok-serve_line-in-Ok-Some-TooLong.ensures.answered z start zs za)),
                 ));
           })
     ]

@@ -18,8 +18,8 @@ invariant-loop-line g l = record {
   holds : HoldsJoins l.self (g.D.Disk.may_leave l.disk);
   served : (r : Run) (lines : List Line) → RepresentsServing l.initial.self r.serving → lines_left l.initial.reader.unread (g.I.Input.coming l.initial.input) ≡ Some lines
       → Agrees (record { written = g.O.Sink.written l.initial.out; sent = g.L.Link.sent l.initial.link; coming = g.L.TimedLink.coming l.initial.link; failed = g.L.Link.faults l.initial.link })
-      (record { written = g.O.Sink.written l.initial.out; sent = g.L.Link.sent l.initial.link; coming = g.L.TimedLink.coming l.initial.link; failed = g.L.Link.faults l.initial.link }) (g.R.Fresh.words l.initial.fresh) r
+      (record { written = g.O.Sink.written l.initial.out; sent = g.L.Link.sent l.initial.link; coming = g.L.TimedLink.coming l.initial.link; failed = g.L.Link.faults l.initial.link }) (g.R.Fresh.random l.initial.fresh) r
       → (left : List Line) × (lines_left l.reader.unread (g.I.Input.coming l.input) ≡ Some left)
       × Serves (record { written = g.O.Sink.written l.initial.out; sent = g.L.Link.sent l.initial.link; coming = g.L.TimedLink.coming l.initial.link; failed = g.L.Link.faults l.initial.link })
-      (record { written = g.O.Sink.written l.out; sent = g.L.Link.sent l.link; coming = g.L.TimedLink.coming l.link; failed = g.L.Link.faults l.link }) (g.R.Fresh.words l.fresh) l.self r lines left;
+      (record { written = g.O.Sink.written l.out; sent = g.L.Link.sent l.link; coming = g.L.TimedLink.coming l.link; failed = g.L.Link.faults l.link }) (g.R.Fresh.random l.fresh) l.self r lines left;
 }
