@@ -1,16 +1,16 @@
 #!/usr/bin/env bash
 # Runs commands with the k-th allocation refused, for each k from 1 to as many as the run makes; then with the k-th and all later ones refused; then with
 # the k-th call that opens, reads or writes, asks for a seed or is of a socket failing; and then with the k-th of these that reads or writes taking one
-# byte alone. Without memory a run must end with status 8, say `out of memory` and write nothing, or end as it does with ample memory, where a growth that
-# is refused only saves time. Where a call on a file fails, it must end with status 5, say so and write nothing; where one on what it writes fails, with
-# status 6, and what is written is a front part of what it writes else; where one of a socket fails, with 7, and where there is no seed, with 12. What
-# `run`, `keep` and `stream` write before memory runs out or a call fails stays, in whole lines; where one on a ledger fails, with 11. Where a call takes
+# byte alone. Without memory a run must end with status 8, say `out of memory` and write nothing, or end as it does with ample memory, if a growth that
+# is refused only saves time. If a call on a file fails, it must end with status 5, say so and write nothing; if one on what it writes fails, with
+# status 6, and what is written is a prefix of what it writes else; if one of a socket fails, with 7, and if there is no seed, with 12. What
+# `run`, `keep` and `stream` write before memory runs out or a call fails stays, in whole lines; if one on a ledger fails, with 11. If a call takes
 # one byte, it must end as ever. Of `stream` the allocations alone are tried, with a peer that takes what is sent. Prints for each run how many allocations
 # and calls it makes, each of which was tried, and with what statuses these runs ended. Needs python3 and a C compiler; no part of the gate.
 #
 #     bench/allocations.sh [PROGRAM]
 #
-# PROGRAM stands in the place of the one that ./sessiongraph has built. The exit status is 0 where every run ended as it must, and 1 otherwise.
+# PROGRAM stands in the place of the one that ./sessiongraph has built. The exit status is 0 if every run ended as it must, and 1 otherwise.
 set -eu
 here=$(cd "$(dirname "${BASH_SOURCE[0]}")/.." && pwd)
 program=${1-$here/crates/sg_cli/out/sg_cli}

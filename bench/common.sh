@@ -37,7 +37,7 @@ program() {
 }
 
 # built: proves and builds the program, and names it. What a run of `rt ci` on this machine proved of the same files is taken, so after the gate only
-# the program itself is proved. `rt ci` runs it without words over the files in `data`, and it must write what the file `stdout` has, or nothing.
+# the program itself is proved. `rt ci` runs it without arguments over the files in `data`, and it must write what the file `stdout` has, or nothing.
 built() {
     local name
     name=$(basename "$bench")
@@ -46,7 +46,7 @@ built() {
 }
 
 # hashes: makes a program that makes as many tags and digests as the file `counts` where it runs says, by the product's own `tag` and `graph_digest`: a
-# line for each kind and length, `t` or `d`, how many, and the length of each text. `tag` hashes the key with each text; where a line begins with `k`,
+# line for each kind and length, `t` or `d`, how many, and the length of each text. `tag` hashes the key with each text; if a line begins with `k`,
 # `Key::tag` makes the tags, which has hashed it before. `built` proves and builds it.
 hashes() {
     program hashes sg_base sg_crypt

@@ -1,7 +1,7 @@
 #!/usr/bin/env bash
 # Checks each graph of the gallery 300 times, and prints its name and the shortest of these runs in milliseconds by the clock, the program's
-# start in it, and the ratio to that start; the first line is the start alone, a run without words. Runs of different graphs take turns, so that a busy machine slows all
-# alike. The program is the one that `./sessiongraph` has built, or the first word's. Needs python3; no part of the gate.
+# start in it, and the ratio to that start; the first line is the start alone, a run without arguments. Runs of different graphs take turns, so that a busy machine slows all
+# alike. The program is the one that `./sessiongraph` has built, or the first argument's. Needs python3; no part of the gate.
 set -eu
 here=$(cd "$(dirname "${BASH_SOURCE[0]}")/.." && pwd)
 program=${1:-$here/crates/sg_cli/out/sg_cli}

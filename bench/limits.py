@@ -2,7 +2,7 @@
 
     python3 bench/limits.py NANOSECONDS SCHEDULE..
 
-prints what the hashes of each step of a schedule take where a compression takes so many nanoseconds.
+prints what the hashes of each step of a schedule take if a compression takes so many nanoseconds.
 """
 import os
 import pathlib

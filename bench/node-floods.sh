@@ -1,7 +1,7 @@
 #!/usr/bin/env bash
 # Floods a node alone with hostile deliveries, a million for each refusal that a node has, in one run each, without a schedule, a record or a report.
 # Prints for each the deliveries in a second of a processor, in the quicker of this run and one with half as many, with all that stands before the flood;
-# and the peak memory of both: a refusal leaves nothing behind where these are the same, but for a part of a MiB. Each delivery must be refused alike, and
+# and the peak memory of both: a refusal leaves nothing behind if these are the same, but for a part of a MiB. Each delivery must be refused alike, and
 # the frame that was awaited be taken behind them. The hostile bytes are those of bench/floods.sh, as tools/model.py makes them. The program is made in a
 # folder of its own, over this repository's crates. Needs python3; no part of the gate.
 #

@@ -1,7 +1,7 @@
 #!/usr/bin/env bash
 # Plays sessions between the nodes of two principals, a step of each session in turn, with 1, 64 and 4,096 live sessions among 1, 1,024 and 65,535
 # joins, and prints the acts and the deliveries per second. Rates that are alike show that a call costs the same however many other sessions and joins
-# there are. Each is of the median call, so that other work on the machine shows in it as little as can be. Where valgrind is there, it prints beside
+# there are. Each is of the median call, so that other work on the machine shows in it as little as can be. If valgrind is there, it prints beside
 # them the instructions of an act and its delivery, on which other work has no influence. What a flood of refused deliveries takes shows
 # bench/node-floods.sh. The program is made in a folder of its own, over this repository's crates. Needs python3; no part of the gate.
 set -eu

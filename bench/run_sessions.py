@@ -1,4 +1,4 @@
-"""Plays sessions of `pair` between two processes that run `run`: a program and a folder with its programs as the words. Prints how many ended in a second,
+"""Plays sessions of `pair` between two processes that run `run`: a program and a folder with its programs as the arguments. Prints how many ended in a second,
 and writes the seconds of a processor for one into the folder's file `per_session`."""
 import os
 import pathlib

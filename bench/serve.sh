@@ -2,7 +2,7 @@
 # Plays sessions of `pair`, a question and its answer, between two processes that run `serve` over the loopback, driven over pipes: 200 at once and 50 times
 # over, once with the lines of a round given ahead, and once line by line, each behind the answer to the one before; and beside that between two processes that
 # run `run`. Prints how many ended in a second and what processor time a session takes in both processes; then times the hashes of a session alone, and
-# prints their share of it. Where a frame is lost, it is said. PROGRAM may name another program. Needs python3; no part of the gate.
+# prints their share of it. If a frame is lost, it is said. PROGRAM may name another program. Needs python3; no part of the gate.
 set -eu
 source "$(dirname "${BASH_SOURCE[0]}")/common.sh"
 "$here/sessiongraph" check "$here/examples/pair.graph" >/dev/null || exit 1

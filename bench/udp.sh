@@ -1,7 +1,7 @@
 #!/usr/bin/env bash
 # Plays sessions of `pair` between two processes over the loopback, 200 at once and 50 times over, and prints how many ended in a second and what
 # processor time a session takes in both processes; then times the hashes of a session alone, two identifiers and four tags, and prints their share.
-# 200 frames of 136 bytes fit the buffer that a socket has; where one is lost nevertheless, it is said. The second program is made in a folder of its
+# 200 frames of 136 bytes fit the buffer that a socket has; if one is lost nevertheless, it is said. The second program is made in a folder of its
 # own, over this repository's crates. PROGRAM may name another program. Needs python3; no part of the gate.
 set -eu
 source "$(dirname "${BASH_SOURCE[0]}")/common.sh"

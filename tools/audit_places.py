@@ -2,7 +2,7 @@
 
 The events of a session's logs stand in one order: by time, and at equal times what was sent before what was received. The first event is looked for with
 which the beginning of that order has no walk any more. Whether a beginning has one says the program itself: it audits a log file of these events alone,
-and the place is found by halving. Where the walk is told, the beginning of the walk that has as many events is told with them, and a value that nobody
+and the place is found by halving. If the walk is told, the beginning of the walk that has as many events is told with them, and a value that nobody
 with a log has written or received in it is hidden.
 """
 import os
@@ -85,7 +85,7 @@ class Auditor:
         return counts
 
     def shown(self, length, whole):
-        """Returns the walk's beginning of this length, in which what nobody with a log wrote or received is hidden. Where it isn't whole its last
+        """Returns the walk's beginning of this length, in which what nobody with a log wrote or received is hidden. If it isn't whole its last
         receipt is missing."""
         steps = self.session.walk[:length]
         current, seen = {}, set()
@@ -143,7 +143,7 @@ class Auditor:
 
 
 def cut(walk, most=160):
-    """A walk whose last steps are shown where it is long."""
+    """A walk whose last steps are shown if it is long."""
     return walk if len(walk) <= most else "... " + walk[-most:].partition(" ")[2]
 
 

@@ -44,8 +44,8 @@ def graphs_in(text):
 def where_walks_part(text, line):
     """Where the two walks of a refusal part, by the text that was refused and the refusal's line, as a `Parting`.
 
-    The text is that of a graph, of parts or of a schedule. None where the line is no such refusal, or where not exactly one graph in the text has the
-    node and all labels that it names, as where parts were composed and the names are those of the expansion."""
+    The text is that of a graph, of parts or of a schedule. None if the line is no such refusal, or if not exactly one graph in the text has the
+    node and all labels that it names, for example if parts were composed and the names are those of the expansion."""
     found = REFUSAL.fullmatch(line.strip())
     if not found:
         return None
@@ -86,7 +86,7 @@ def mends(nodes, edges, a, b, first, second):
     name, and edges their two nodes.
 
     Which of the two mends are best, as `Mend`s: those that bring no new blinding, if there are such, and of these the ones that leave fewest. And whether
-    nothing is blinded afterwards, which is None where the edges of the walks aren't known."""
+    nothing is blinded afterwards, which is None if the edges of the walks aren't known."""
     both = [Mend(a, second, b), Mend(b, first, a)]
     if any(label not in edges for label in first + second):
         return both, None

@@ -13,15 +13,15 @@ How the program is run, in a folder with these files alone:
     out full, err full      standard output, or standard error, is a device that takes nothing
     memory N                it may have N KiB of memory
     seedless                the system gives it no random bytes
-    asks LINE               the next line of standard input, which has no others; where none is given, it is empty
+    asks LINE               the next line of standard input, which has no others; if none is given, it is empty
     input folder            standard input is a folder, which can't be read
     input unready           standard input is a pipe that doesn't wait, so that it fails behind these lines
 
 What it answers:
 
-    status N                the exit status; 0 where it isn't given
-    says LINE               the one line on standard error; nothing where it isn't given
-    reports LINE            a line that must be among those on standard output; where it isn't given, with a status other than 0, there are none
+    status N                the exit status; 0 if it isn't given
+    says LINE               the one line on standard error; nothing if it isn't given
+    reports LINE            a line that must be among those on standard output; if it isn't given, with a status other than 0, there are none
     whole                   the lines that `reports` says are all of standard output, in this order
     answers LINE            the next line on standard output, which has no others, whatever the status; `<digest>` in it is 64 hexadecimal digits
     leaves FILE NAME        then the folder has this file, with the text that is called NAME
@@ -32,7 +32,7 @@ What is added at a terminal. A case without these lines says nothing of that:
     no row NAME             they don't come, since what is said of the place says all
     place LINE COLUMN TEXT  the place is in the case's file, in this line and column, where this text stands; no text is the end of the line
     told LINE COLUMN TEXT   the same, of what is told before a run (tools/check-script)
-    here WORDS..            what is said of just this place has these words; where there is no such line, nothing is said of it
+    here WORDS..            what is said of just this place has these words; if there is no such line, nothing is said of it
     step N SENTENCE         the sentence about step N, which a replay refuses
     nothing                 nothing is added
 
@@ -51,7 +51,7 @@ import subprocess
 import tempfile
 
 TOP = os.path.dirname(os.path.dirname(os.path.realpath(__file__)))
-# What stands before the program's words where the system gives it no random bytes.
+# What stands before the program's arguments if the system gives it no random bytes.
 SEEDLESS = ["strace", "-o", "/dev/null", "-e", "inject=getrandom:error=EIO"]
 REPETITION = re.compile(r"\{(\d+)(?:\.\.(\d+))?:([^{}]*)\}")
 

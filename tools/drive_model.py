@@ -4,11 +4,11 @@
   drive_model.py SEED SESSIONS GRAPH              the summary
   drive_model.py --schedule SEED SESSIONS GRAPH   the steps as a schedule that `replay` reads
   drive_model.py --replay PROGRAM SEED SESSIONS GRAPH
-      gives the schedule to PROGRAM `replay`, and compares each line's outcome, the premises and the walks with the model's
+      gives the schedule to PROGRAM `replay`, and compares each line's outcome, the assumptions and the walks with the model's
 
 In a generated run every principal is honest and frames come whole, so whether a delivery is accepted follows from the places and times of
 the roles alone: a joining frame of a role that hasn't joined, or another frame of a live role that waits, with a time above its own last
-one. It needs python3 alone. The exit status is 0, or 1 where the program's lines are others or GRAPH can't be read, or 2 where the words are others."""
+one. It needs python3 alone. The exit status is 0, or 1 if the program's lines are others or GRAPH can't be read, or 2 if the arguments are wrong."""
 import os
 import re
 import subprocess

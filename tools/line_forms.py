@@ -368,7 +368,7 @@ def step_of_schedule(words, names, before):
 
 
 def differ(found):
-    """Returns whether names are different ones. Where in logs they aren't, that is no fault of form."""
+    """Returns whether names are different ones. If in logs they aren't, that is no fault of form."""
     return len({name for name, _ in found}) == len(found)
 
 
@@ -409,7 +409,7 @@ class Place:
             self.walk = self.walk or said[0] == "walk"
 
     def lacks_walk(self, graph):
-        """Returns the roles without a log, where their steps are told nowhere."""
+        """Returns the roles without a log, if their steps are told nowhere."""
         return [it for it in graph.roles if it not in self.logs] if self.session is not None and not self.walk else []
 
 

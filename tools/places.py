@@ -16,7 +16,7 @@ from texts import (KINDS, NAME_RULE, RESERVED, STEPS, TOKEN, Graph, Names, Progr
 
 
 class Place:
-    """A place in a file: its text, the offset where it is known, sentences about it, the form that should stand there, if it is known, and whether the
+    """A place in a file: its text, the offset if it is known, sentences about it, the form that should stand there, if it is known, and whether the
     sentences say all, so that those of the rule would only mislead."""
 
     def __init__(self, file, text, at=None, here=(), form=None, whole=False):
@@ -27,7 +27,7 @@ class Place:
 
 
 def declared(found, kind, name):
-    """Returns where the statement of this kind declares the name; where there is none, the use that a name of an expansion comes from."""
+    """Returns where the statement of this kind declares the name; if there is none, the use that a name of an expansion comes from."""
     for it in found:
         if it[0][0] == kind and it[1][0] == name:
             return it
@@ -46,7 +46,7 @@ def in_graph(text, how, said):
     if statement is None:
         return None
     if how == "edge" and len(said.groups()) > 2 and statement[0][0] == "edge":
-        # (the variable, where the edge reads it, or else where it writes it)
+        # (the variable, if the edge reads it, or else if it writes it)
         named = [at for token, at in statement[2:] if token == said[3]]
         reads = [at for token, at in statement if token == "reads"]
         wanted = [at for at in named if reads and (at > reads[0]) == (said[1] != "not writer")] or named
@@ -397,7 +397,7 @@ def read(file):
 
 
 def served_files(words):
-    """Returns the files that `serve` is given behind its own word."""
+    """Returns the files that `serve` is given behind its own name."""
     at = 0
     while words[at] in ("--tcp", "--ledger"):
         at += 1 if words[at] == "--tcp" else 2
@@ -489,7 +489,7 @@ def in_graphs(program, words, file, text, line, how, said):
 
 
 def place_of(program, words, line, how, said, kind):
-    """Returns the place that a refusal speaks of, or nothing where it speaks of no file, or of one that can't be read."""
+    """Returns the place that a refusal speaks of, or nothing if it speaks of no file, or of one that can't be read."""
     named = file_of(words, line)
     text = read(named[0]) if named else None
     if text is None:

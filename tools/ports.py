@@ -4,7 +4,7 @@ import os
 import socket
 import time
 
-# What a socket's state is where it takes what comes from anybody. (UDP has two more in use: 01 is a socket with one peer)
+# What a socket's state is if it takes what comes from anybody. (UDP has two more in use: 01 is a socket with one peer)
 LISTENS = {"udp": "07", "tcp": "0A"}
 # A connection that has ended keeps its port for a minute.
 ENDED = "06"
@@ -69,7 +69,7 @@ def is_free(link, host, port):
 
 
 def taken(link, host, port):
-    """Returns who has a port, so that nobody else can listen there, as a sentence; nothing where nobody has it."""
+    """Returns who has a port, so that nobody else can listen there, as a sentence; nothing if nobody has it."""
     if is_free(link, host, port):
         return ""
     rows = [it for it in sockets(link) if it[0][1] == port and ("0.0.0.0" in (host, it[0][0]) or it[0][0] == host)]
@@ -83,7 +83,7 @@ def taken(link, host, port):
 
 
 def bound(link, port, backlog=128, options=(), host="127.0.0.1"):
-    """Returns a socket of this process at a port of the loopback, or of another host of this machine, which listens over TCP. Raises NotThere where
+    """Returns a socket of this process at a port of the loopback, or of another host of this machine, which listens over TCP. Raises NotThere if
     somebody else has the port. The options are set before."""
     made = socket.socket(socket.AF_INET, socket.SOCK_STREAM if link == "tcp" else socket.SOCK_DGRAM)
     try:
@@ -112,8 +112,8 @@ def is_below(number, above):
 
 
 def await_listener(link, port, process, seconds=120, host="127.0.0.1"):
-    """Waits until a process that was started to listen at a port of the loopback does, or one that it has started. Raises NotThere where it ends before,
-    or lasts so many seconds without. They only end a hang: where somebody else has the port, the process ends by itself."""
+    """Waits until a process that was started to listen at a port of the loopback does, or one that it has started. Raises NotThere if it ends before,
+    or lasts so many seconds without. They only end a hang: if somebody else has the port, the process ends by itself."""
     end = time.monotonic() + seconds
     while True:
         status, late = process.poll(), time.monotonic() > end

@@ -14,7 +14,7 @@ belongs to a part of these languages of which session graphs have nothing. Names
               | "do" NAME "(" NAME {"," NAME} ")" ";" | "par" block {"and" block}
     payload   = [NAME ":"] NAME {"." NAME}
 
-No word is reserved: `data` or `type` may be a label too, where `(` or `from` follows it. Comments are `//`, `/* */` and `(* *)`, and the last kind
+No word is reserved: `data` or `type` may be a label too, if `(` or `from` follows it. Comments are `//`, `/* */` and `(* *)`, and the last kind
 may have others inside. A place is an offset in the text, in characters.
 """
 import re
@@ -113,7 +113,7 @@ class Reader:
         return self.tokens[min(self.next + further, len(self.tokens) - 1)]
 
     def refuse(self, wanted):
-        """Refuses the next token, where something else is wanted."""
+        """Refuses the next token, if something else is wanted."""
         token = self.look()
         here = token.text if token.kind in ("bad", "end") else f"`{token.text}`"
         raise Refused(token.at, f"{wanted}, and here is {here}")

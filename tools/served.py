@@ -8,7 +8,7 @@ repeats and reorders. What is to be done at a turn is decided by whoever makes i
 - in a session that waits for others it sends its last frame again after a quarter of a second, or twice the time that answers take of late, if that is more,
   and then after twice as long each time, up to four seconds. It goes by its own clock, since a frame that is refused ends a wait too. A session from which
   nothing was heard for so many seconds, or twenty times as long as answers take, it abandons, since it may wait for ever;
-- where a session is over for it and its own frame was the last, nobody tells whether that came: it sends it again, at most so many times.
+- if a session is over for it and its own frame was the last, nobody tells whether that came: it sends it again, at most so many times.
 """
 import os
 import re
@@ -178,11 +178,11 @@ class Policy:
         self.wait, self.first, self.longest, self.most, self.patience = wait, first, longest, most, patience
 
     def until_again(self, agains, taken):
-        """Returns how long to wait where a frame was sent again so often, and answers take so many seconds."""
+        """Returns how long to wait if a frame was sent again so often, and answers take so many seconds."""
         return min(max(self.first, 2 * taken) * 2**agains, self.longest)
 
     def until_abandoned(self, taken):
-        """Returns how long to wait for news where answers take so many seconds."""
+        """Returns how long to wait for news if answers take so many seconds."""
         return max(self.patience, 20 * taken)
 
 
@@ -210,7 +210,7 @@ class Application:
         return self.ask("turn s1").kind == "unknown"
 
     def start(self, graph, version, cast, **values):
-        """Starts a session, acts where it is at its turn, and returns it, or nothing where it is refused. The values are for whoever decides."""
+        """Starts a session, acts if it is at its turn, and returns it, or nothing if it is refused. The values are for whoever decides."""
         answer = self.ask(f"start {graph} {version} {','.join(cast)}")
         if answer.kind != "started":
             return None
@@ -253,7 +253,7 @@ class Application:
         return answer.kind in ("received", "refused")
 
     def goes_on(self, session):
-        """Acts where the session is at its turn."""
+        """Acts if the session is at its turn."""
         while True:
             answer = self.ask(f"turn {session.name}")
             if answer.kind != "turn":

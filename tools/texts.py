@@ -18,7 +18,7 @@ def is_name(word):
 
 
 def listed(words, most=12):
-    """Returns the words as a list in a sentence, cut where they are many."""
+    """Returns the words as a list in a sentence, cut if they are many."""
     words = list(words)
     return ", ".join(words[:most]) + (f" and {len(words) - most} more" if len(words) > most else "") if words else "none"
 
@@ -190,7 +190,7 @@ def lines_outside(text):
 
 
 class Names:
-    """What the lines of a schedule or of logs before one of them declare, each with the number of its line where it is in a line of its own."""
+    """What the lines of a schedule or of logs before one of them declare, each with the number of its line if it is in a line of its own."""
 
     def __init__(self, text, upto):
         self.graphs, self.honest, self.keys, self.sessions, self.principals, edges = {}, {}, {}, {}, set(), []
@@ -217,7 +217,7 @@ class Names:
             self.graphs.setdefault("pair", Graph(pair_of(edges)))
 
     def graph_of(self, session):
-        """Returns the graph of a session, which has nothing where there is none."""
+        """Returns the graph of a session, which has nothing if there is none."""
         said = self.sessions.get(session, (0, []))[1]
         return self.graphs.get(said[0] if said else None, Graph(b""))
 

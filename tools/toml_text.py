@@ -24,7 +24,7 @@ class Moment(str):
 
 
 class Found:
-    """A value, with the offsets of its key, or of its own begin where it has none, and of itself."""
+    """A value, with the offsets of its key, or of its own begin if it has none, and of itself."""
 
     def __init__(self, value, key_at, at, closed=True):
         self.value, self.key_at, self.at = value, key_at, at
@@ -236,7 +236,7 @@ class Reader:
         self.fail(f"`{name}` stands twice in its table, first in line {self.text.count(chr(10), 0, first.key_at) + 1}", place)
 
     def within(self, table, name, place, dotted):
-        """Returns the table of this name in a table; it is made where there is none."""
+        """Returns the table of this name in a table; it is made if there is none."""
         if name not in table:
             table[name] = Found({}, place, place, closed=dotted)
         it = table[name]

@@ -4,8 +4,8 @@
     tools/why.py SCHEDULE     for each step that is refused its line in the report, `: `, and a sentence
 
 As a module: `refusals(data)` gives for the bytes of a schedule the sentences by the steps' numbers. Which frames there are, and what is refused, comes from
-tools/model.py, whose lines are the program's: `.ci/check-tools` compares them. The exit status is 0, or 1 where the file can't be read or is no schedule, or 2
-where the words are others.
+tools/model.py, whose lines are the program's: `.ci/check-tools` compares them. The exit status is 0, or 1 if the file can't be read or is no schedule, or 2
+if the arguments are wrong.
 """
 import signal
 import sys
@@ -100,7 +100,7 @@ class Watched(model.Run):
                                 self.frames[what - 1], change), why))
 
     def watched(self, place, take, sentence):
-        """Takes a step; where it is refused, keeps a sentence."""
+        """Takes a step; if it is refused, keeps a sentence."""
         try:
             return take()
         except model.Refused as refusal:

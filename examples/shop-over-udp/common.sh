@@ -53,7 +53,7 @@ starts() {
     of+=("$link $port $name")
 }
 
-# ended PLACE: waits for the end of a process that has ended or will. Where it ended badly, or must not have ended yet, the run ends.
+# ended PLACE: waits for the end of a process that has ended or will. If it ended badly, or must not have ended yet, the run ends.
 ended() {
     local link port name status
     wait "${pids[$1]}"

@@ -3,7 +3,7 @@
 The report's lines stand in the page as they are. Of each step it says besides which checks were made, with the values that they compare; the
 frame that was made or delivered; what the principal holds afterwards; and the walk so far. All of it is looked up in the model's own state. What
 is looked up must agree with the report: of the checks, that the first one whose values don't fit is the report's reason, word by word; of the
-walk, that it ends as the report's line of the session. Where something doesn't agree, `Disagreement` is raised and no page is made.
+walk, that it ends as the report's line of the session. If something doesn't agree, `Disagreement` is raised and no page is made.
 """
 import model
 
@@ -73,7 +73,7 @@ class Reader(model.ScheduleReader):
 
 
 class Row:
-    """A check that was made: its name, the values that it compares, each with whether it fits, and the reason where one doesn't."""
+    """A check that was made: its name, the values that it compares, each with whether it fits, and the reason if one doesn't."""
 
     def __init__(self, name, values=(), reason=None):
         self.name, self.values, self.reason = name, list(values), reason or name
@@ -332,17 +332,17 @@ class Watched(model.Run):
     # Names.
 
     def session_word(self, sid):
-        """A session's name, or its identifier where it has no name yet."""
+        """A session's name, or its identifier if it has no name yet."""
         if sid in self.names:
             return self.names[sid]
         return f'x{self.strangers.index(sid) + 1}' if sid in self.strangers else f'session {short(sid)}'
 
     def label_word(self, graph, label):
-        """A label's name, or its number where there is none."""
+        """A label's name, or its number if there is none."""
         return graph.edges[label].label if graph and label < len(graph.edges) else f'label {label}'
 
     def role_word(self, graph, role):
-        """A role's name, or its number where there is none."""
+        """A role's name, or its number if there is none."""
         return graph.roles[role] if graph and role < len(graph.roles) else f'role {role}'
 
     def declared(self, sid):
@@ -381,7 +381,7 @@ class Course:
         self.ends.append([place, len(self.walk)])
 
     def show(self, place, variable, value):
-        """Where the last write of a variable is hidden, it has this value."""
+        """If the last write of a variable is hidden, it has this value."""
         at = next(at for at in reversed(range(len(self.walk))) if variable in self.walk[at][1])
         if self.walk[at][1][variable] is model.HIDDEN:
             self.walk[at][1][variable] = value
@@ -418,7 +418,7 @@ class Account:
         self.people = self.people_of()
 
     def premises_of(self):
-        """Each premise with its line, and the step at which it breaks, or None."""
+        """Each assumption with its line, and the step at which it breaks, or None."""
         broken, twice = model.forged(self.run), collision_step(self.run)
         if (twice is not None) != model.collision(self.run):
             raise Disagreement('it is not clear whether two texts have one digest')
@@ -452,7 +452,7 @@ class Account:
         return min((premise['broken'] for premise in self.premises if premise['broken'] is not None), default=None)
 
     def courses_of(self):
-        """The course of each session with an event, by its name, up to where a premise breaks."""
+        """The trace of each session with an event, by its name, up to where an assumption breaks."""
         found, end = {}, self.end_of_walks()
         for place, event in zip(self.run.event_steps, self.run.events):
             name, graph = self.run.session_word(event.sid), self.run.graph_of(event.cast)
@@ -483,7 +483,7 @@ class Account:
         return self.made[what - 1][0] if kind == 'frame' and change is None and 1 <= what <= len(self.made) else NETWORK
 
     def people_of(self):
-        """Those who have a line in the chart: the casts, whoever else takes a step, and the network where it sends."""
+        """Those who have a line in the chart: the casts, whoever else takes a step, and the network if it sends."""
         found = [name for declared in self.run.schedule.sessions.values() for name in declared.cast.names]
         steps = self.run.schedule.steps
         found += [step[1] for step in steps if step[0] != 'craft'] + [name for name, _ in self.made if name == NETWORK]
@@ -527,7 +527,7 @@ class Account:
         return told
 
     def variable(self, graph, variable):
-        """A variable's name, or its number where there is none."""
+        """A variable's name, or its number if there is none."""
         return graph.variables[variable].name if graph and variable < len(graph.variables) else f'variable {variable}'
 
     def sources(self, number):

@@ -2,7 +2,7 @@
 
 A graph is drawn as `layers` places it: an edge back is dotted and its label has an arrow that turns, and the start has a double outline. A run
 is a sequence chart: a line down for each principal, a row for each line of the report. A delivery is an arrow from whoever made the frame, as
-tools/draw has it: with a cross where it was refused, dashed where a compromised principal made the frame, and from the network where its bytes are
+tools/draw has it: with a cross if it was refused, dashed if a compromised principal made the frame, and from the network if its bytes are
 no recorded frame's.
 """
 import html
@@ -97,7 +97,7 @@ class Chart:
         self.lines = told.step_lines
         self.breaks = sorted(it['broken'] for it in data['premises'] if it['broken'])
         texts = [self.texts(place) for place in range(len(data['steps']))]
-        # (a column of the page has room for so much; where there are more people, it is scrolled to who is looked at)
+        # (a column of the page has room for so much; if there are more people, it is scrolled to who is looked at)
         self.gap = max(130, min(262, COLUMN // max(len(self.people), 1)))
         self.left = GUTTER + self.gap // 2
         self.width = GUTTER + self.gap * len(self.people)
@@ -108,11 +108,11 @@ class Chart:
         self.rows = self.picture('rows', self.height, downs + rows + [self.broken(it) for it in data['premises'] if it['broken']])
 
     def top(self, place):
-        """How far down a row begins, the first one being row 0: below a step at which a premise breaks is room to say so."""
+        """How far down a row begins, the first one being row 0: below a step at which an assumption breaks is room to say so."""
         return ROW * place + BREAK * sum(step <= place for step in self.breaks)
 
     def broken(self, premise):
-        """Where a premise breaks."""
+        """Where an assumption breaks."""
         y = self.top(premise['broken'] - 1) + ROW
         return (f'<g class="breaks"><rect x="0" y="{y}" width="{self.width}" height="{BREAK}"/>'
                 f'<line x1="0" x2="{self.width}" y1="{y + 1}" y2="{y + 1}"/><text x="8" y="{y + 17}">⚡ {escaped(premise["line"])}</text></g>')

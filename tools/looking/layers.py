@@ -1,7 +1,7 @@
 """Places the nodes and edges of a graph in layers, by walks from the start.
 
 A node's layer is the length of the longest walk from the start that takes no edge back: what stands above something comes before it. An edge
-is one back where a search in depth from the start, along labels as they are numbered, meets a node that it hasn't left yet. Between two layers
+is one back if a search in depth from the start, along labels as they are numbered, meets a node that it hasn't left yet. Between two layers
 of nodes is one of labels, so that each label has room of its own. Within a layer what is connected stands near each other: first the order is
 chosen (by medians of neighbours, the order with the fewest crossings), then the places (by means of neighbours, as near as the order allows).
 

@@ -108,7 +108,7 @@ def run_page(told, name, texts):
 
 
 def run_header(told, data, name):
-    """What stands at the top: the comment of the schedule, who is who, and the premises."""
+    """What stands at the top: the comment of the schedule, who is who, and the assumptions."""
     refused, crafted = sum('refused' in step for step in data['steps']), sum(step['kind'] == 'craft' for step in data['steps'])
     counts = [f'{len(data["lines"])} steps'] + [f'{count} {word}' for count, word in ((crafted, 'crafted'), (refused, 'refused')) if count]
     plays = {}

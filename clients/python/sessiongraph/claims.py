@@ -16,7 +16,7 @@ class Claim(NamedTuple):
 
 
 def read(text: str) -> Dict[str, Claim]:
-    """Returns the claims of a text, by their names. Raises ValueError where it is no text of claims; whether its labels are the graph's, the program
+    """Returns the claims of a text, by their names. Raises ValueError if it is no text of claims; whether its labels are the graph's, the program
     says."""
     plain = " ".join(re.findall(r"\w+|[:;]|\S", re.sub(r"#[^\n]*", "", text)))
     if not re.fullmatch(rf"claims \w+ ;(?: {FORM.pattern})*", plain):
@@ -44,6 +44,6 @@ def broken(claims: Dict[str, Claim], walk: Sequence[str]) -> List[str]:
 
 
 def walk_of(line: str) -> Optional[List[str]]:
-    """Returns the labels of a line `walk SESSION: ..`, as audits and replays write it, or None where the line is another."""
+    """Returns the labels of a line `walk SESSION: ..`, as audits and replays write it, or None if the line is another."""
     found = re.fullmatch(r"walk \w+:(.*)", line.strip())
     return [re.sub(r"\(.*", "", it).lstrip("*") for it in found[1].split()] if found else None

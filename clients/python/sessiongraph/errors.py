@@ -215,7 +215,7 @@ class TimeSpent(Refusal):
 
 
 def refusal(reason: str) -> Refusal:
-    """Returns the exception for the text of a refusal. Raises Strange where there is none of this name."""
+    """Returns the exception for the text of a refusal. Raises Strange if there is none of this name."""
     found = REFUSALS.get(reason.partition(" ")[0])
     if found is None:
         raise Strange(f"refused {reason}")
@@ -226,7 +226,7 @@ def refusal(reason: str) -> Refusal:
 
 
 class Ended(Error):
-    """The process has ended. `status` is its exit status, below 0 where a signal ended it, and `said` the line that it wrote on standard error."""
+    """The process has ended. `status` is its exit status, below 0 if a signal ended it, and `said` the line that it wrote on standard error."""
 
     said_is: ClassVar[str] = ""
     row: ClassVar[str] = ""
@@ -239,7 +239,7 @@ class Ended(Error):
 
 
 class UsageRefused(Ended):
-    """The words are none that the program takes; maybe it is too old to have `serve`."""
+    """The arguments are none that the program takes; maybe it is too old to have `serve`."""
 
     row, said_is = "usage", r"usage: .*"
 

@@ -29,7 +29,7 @@ class Started(Step):
 @dataclass(frozen=True)
 class Sent(Step):
     """This principal has sent along `label`, to the principal `to`, as its frame number `frame`. `time` counts the steps of the session. `values` are
-    those that it wrote. Where the link didn't take the frame, it is `unsent`: the step is done, and `again` may send it."""
+    those that it wrote. If the link didn't take the frame, it is `unsent`: the step is done, and `again` may send it."""
 
     session: str
     label: str
@@ -67,7 +67,7 @@ class Refused(Step):
 
 @dataclass(frozen=True)
 class Again:
-    """The last frame of a session was sent once more, or is `unsent` where the link didn't take it."""
+    """The last frame of a session was sent once more, or is `unsent` if the link didn't take it."""
 
     frame: int
     to: str
@@ -142,7 +142,7 @@ ID = re.compile(rf"id {SESSION} (?P<digest>[0-9a-f]{{64}})")
 
 
 def read_step(line: str) -> Step:
-    """Returns the step of a line. Raises what else the line says: Strange where it is of no form."""
+    """Returns the step of a line. Raises what else the line says: Strange if it is of no form."""
     text, unsent = (line[7:], True) if line.startswith("unsent ") else (line, False)
     for form, make in FORMS:
         found = form.fullmatch(text)

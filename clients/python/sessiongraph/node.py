@@ -14,7 +14,7 @@ from . import errors, events
 from .values import Value, assigned, named
 
 LOG = logging.getLogger("sessiongraph.node")
-# A record for each step, which begins with the session's identifier, or `-` where a frame was refused. `logs.py` reads them again.
+# A record for each step, which begins with the session's identifier, or `-` if a frame was refused. `logs.py` reads them again.
 STEPS = logging.getLogger("sessiongraph.steps")
 
 Path = Union[str, "os.PathLike[str]"]
@@ -27,7 +27,7 @@ class Node:
     """A principal, as a process that runs `sessiongraph serve`. It is started by making the object, and ended by `with` or `close`, as a
     `subprocess.Popen`.
 
-    `keys` is its key file, and `programs` are what `sessiongraph compile` wrote for its roles. `program` is the program itself: a path, or the words
+    `keys` is its key file, and `programs` are what `sessiongraph compile` wrote for its roles. `program` is the program itself: a path, or the arguments
     before `serve`; without it, the environment's SESSIONGRAPH, or else `sessiongraph` as the PATH has it. `tcp` is for connections in place of
     datagrams, and `ledger` a file that `sessiongraph ledger` made, so that no session is joined twice, whenever this process ends. `patience` is
     after how many seconds without an answer, beyond a wait that was asked for, the process is killed; it only ends a hang.
@@ -232,11 +232,11 @@ class Node:
         return self._step(f"act {session} {named(label, 'label')}{assigned({**(values or {}), **more})}", events.Sent)
 
     def abandon(self, session: str) -> events.Abandoned:
-        """Leaves the session. Nobody is told. Raises the `Refusal` UnknownSession where it isn't live; and `UnknownHere`."""
+        """Leaves the session. Nobody is told. Raises the `Refusal` UnknownSession if it isn't live; and `UnknownHere`."""
         return self._step(f"abandon {session}", events.Abandoned)
 
     def recv(self, timeout: float) -> events.Event:
-        """Does one step with the next frame that comes within `timeout` seconds, and returns that it was received or refused. Raises `Quiet` where
+        """Does one step with the next frame that comes within `timeout` seconds, and returns that it was received or refused. Raises `Quiet` if
         none came, and `LinkFailed`. Other calls wait meanwhile."""
         with self._lock:
             if self._late:
@@ -249,7 +249,7 @@ class Node:
         return step
 
     def receive(self, timeout: Optional[float] = None) -> events.Received:
-        """Waits until a frame is accepted and returns it; those that are refused meanwhile are logged. Raises `Quiet` where none is accepted within
+        """Waits until a frame is accepted and returns it; those that are refused meanwhile are logged. Raises `Quiet` if none is accepted within
         `timeout` seconds; without that it waits for ever. Other calls come in between."""
         end = None if timeout is None else time.monotonic() + timeout
         while True:

@@ -23,7 +23,7 @@ BEGINS = 4
 
 
 class Message:
-    """A message of a graph. Its subclasses are dataclasses with a field for each variable that it writes, where the role sends it, or reads, where it
+    """A message of a graph. Its subclasses are dataclasses with a field for each variable that it writes, if the role sends it, or reads, if it
     receives it. `_label` is its label, and `_variables` has the graph's names of the fields."""
 
     _label: ClassVar[str] = ""
@@ -50,13 +50,13 @@ class Handlers:
     _graph: ClassVar[str] = ""
     _digest: ClassVar[str] = ""
     _role: ClassVar[str] = ""
-    # the nodes of the role; the start, where it is of this role; and what is received, with the node to which that leads
+    # the nodes of the role; the start, if it is of this role; and what is received, with the node to which that leads
     _nodes: ClassVar[Mapping[str, At]] = {}
     _start: ClassVar[Optional[str]] = None
     _receives: ClassVar[Mapping[str, Tuple[Type[Message], str]]] = {}
 
     def left(self, session: "Session") -> None:
-        """Is called where a session ends otherwise than at a node without messages: it was given up after a silence, or a handler left it.
+        """Is called if a session ends otherwise than at a node without messages: it was given up after a silence, or a handler left it.
         `session.fault` says why."""
 
 
@@ -65,11 +65,11 @@ class Policy:
     """How sessions are played over a network that loses frames. Times are in seconds.
 
     In a session that waits for others, the last frame is sent again after a silence: of `again`, or of twice the time that answers have taken of
-    late, where that is more. The next silence is `slower` times as long, and so on, up to `longest`. A frame goes out again only when nothing else
+    late, if that is more. The next silence is `slower` times as long, and so on, up to `longest`. A frame goes out again only when nothing else
     has come, or a silence is `longest` late, so that whoever has much to do makes no more of it for others. A session in which nothing came for
     `patience` is left, since it may wait for ever.
 
-    Where a session is over and its last frame was an own one, nobody tells whether that came. It is sent again `last` times, after silences that grow
+    If a session is over and its last frame was an own one, nobody tells whether that came. It is sent again `last` times, after silences that grow
     up to a quarter of `patience`, so that it also comes to who had much to do for a while.
 
     A wait for a frame takes at most `wait`; so long a new session may have to wait. Of the sessions that begin here, at most `most` wait for others
@@ -84,7 +84,7 @@ class Policy:
     most: int = 100
 
     def silence(self, count: int, answers: float = 0.0, over: bool = False) -> float:
-        """The silence after which a frame is sent again that was sent again `count` times, where answers take so many seconds, in a session that
+        """The silence after which a frame is sent again that was sent again `count` times, if answers take so many seconds, in a session that
         waits, or is over."""
         longest = max(self.longest, self.patience / 4) if over else self.longest
         return min(max(self.again, 2.0 * answers) * self.slower ** min(count, 32), longest)
@@ -157,7 +157,7 @@ class Client(Node):
         super().__init__(*words, **named)
 
     def begin(self, cast: Sequence[str], context: Any = None, version: int = 1, graph: Optional[str] = None) -> Session:
-        """Has `run` begin a session with the principals of `cast`, in the order of the roles, and returns it. `graph` is wanted where the handlers of
+        """Has `run` begin a session with the principals of `cast`, in the order of the roles, and returns it. `graph` is wanted if the handlers of
         several graphs begin sessions. Any thread may call it, also before `run`. What the node refuses is the `fault` of the session, which then is
         `left`."""
         session = Session(Handlers(), context)
@@ -177,7 +177,7 @@ class Client(Node):
         progress: Optional[TextIO] = None,
     ) -> Counts:
         """Plays all sessions, side by side: those that `begin` asks for, and those that others begin. It returns after `stop`, at `Ctrl-C`, or, with
-        `until_idle`, where nothing is left to be done. Raises `Ended` where the process ends, and `OtherGraph`.
+        `until_idle`, if nothing is left to be done. Raises `Ended` if the process ends, and `OtherGraph`.
 
         Handlers are called in this thread, one at a time, or with `workers` in so many others, so that one that takes long doesn't hold up the rest.
         What a handler raises leaves its session and is logged; so is a message that may not be sent at its node (`WrongMessage`).

@@ -17,7 +17,7 @@ def named(word: str, what: str) -> str:
 
 
 def spelled(value: Value) -> str:
-    """Returns a value as a line has it. Raises TypeError where it is neither an `int` nor a `str` (a `bool` is none here), and ValueError where it is
+    """Returns a value as a line has it. Raises TypeError if it is neither an `int` nor a `str` (a `bool` is none here), and ValueError if it is
     out of its range."""
     if isinstance(value, bool) or not isinstance(value, (int, str)):
         raise TypeError(f"a value is an int or a str, and not {type(value).__name__}")
@@ -32,7 +32,7 @@ def spelled(value: Value) -> str:
 
 
 def read_value(word: str) -> Value:
-    """Returns the value that is spelled so. Raises ValueError where none is."""
+    """Returns the value that is spelled so. Raises ValueError if none is."""
     if not re.fullmatch(WORD, word):
         raise ValueError(f"{word!r} is no value")
     if not word.startswith('"'):

@@ -57,7 +57,7 @@ def keys(me: str) -> str:
 
 
 def compiled(role: str) -> str:
-    """The program of a role. Where the program is missing, only what this package reads of it."""
+    """The program of a role. If the program is missing, only what this package reads of it."""
     path = pathlib.Path(FOLDER.name, f"{role}.program")
     if not path.exists():
         if PROGRAM is None:

@@ -12,7 +12,7 @@ EXAMPLES = room.TOP / "examples"
 
 
 def answered() -> Iterator[Tuple[pathlib.Path, Dict[str, claims.Claim], List[str]]]:
-    """Each claims file of the examples, with its claims and the program's lines, written anew where the program is there."""
+    """Each claims file of the examples, with its claims and the program's lines, written anew if the program is there."""
     for path in sorted(EXAMPLES.glob("**/*.claims")):
         lines = path.with_suffix(".claims-answer").read_text(encoding="ascii").splitlines()
         yield path, claims.read(path.read_text(encoding="ascii")), lines

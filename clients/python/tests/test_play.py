@@ -1,4 +1,4 @@
-"""Playing by handlers: the three of the purchase, each a client of its own, over the loopback; only where the program is there."""
+"""Playing by handlers: the three of the purchase, each a client of its own, over the loopback; only if the program is there."""
 import importlib.util
 import logging
 import os

@@ -1,10 +1,10 @@
-"""Stands for the program where that is missing, by a transcript of it; and makes such a transcript where it is there.
+"""Stands for the program if that is missing, by a transcript of it; and makes such a transcript if it is there.
 
     transcript.py play FILE WORD ..             answers as the transcript has it; the lines that come must be those that it has
-    transcript.py record FILE PROGRAM WORD ..   runs the program with these words, and writes what it is given and answers
+    transcript.py record FILE PROGRAM WORD ..   runs the program with these arguments, and writes what it is given and answers
 
 A transcript has a line `> LINE` for what the program is given, `< LINE` for its answer, `! STATUS LINE` for its end and what it says then. How long a
-`recv` waits may differ. The exit status is the program's, or 99 where a line comes that the transcript doesn't have.
+`recv` waits may differ. The exit status is the program's, or 99 if a line comes that the transcript doesn't have.
 """
 import re
 import subprocess

@@ -1,4 +1,4 @@
--- What follows for entries where a test of the index and one of the session agree.
+-- What follows for entries if a test of the index and one of the session agree.
 use Rattle.std.proofs.Common.{◌≡◌, ℕ, suc, Bool, true, false, not, sym, ap, ◌∙◌, refl, List, [], ◌∷◌, ◌++◌, map, filter, if◌then◌else◌, Option, Some, None, inl, inr}
 use Rattle.std.specs.Prelude.{⊤, length}
 use Rattle.std.specs.List.{AllByRecursion, find}
@@ -57,7 +57,7 @@ module _ (s : Kept → Bool) where
     | inr p ↦ let k = rw p at h in (p, none_indexed es k)
   ]
 
-  -- the entries, where those that pass are written over
+  -- the entries, with those that pass written over
   abbrev pub written : (Kept → Kept) → List Entry → List Entry
   written f es = map (λ (e : Entry). if s e.1 then (e.0, f e.1) else e) es
 

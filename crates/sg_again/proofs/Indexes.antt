@@ -1,4 +1,4 @@
--- What follows of the indexes, call by call.
+-- What follows of the indices, call by call.
 use Rattle.std.proofs.Common.{◌≡◌, ℕ, ◌+◌, ◌<◌, ◌≤◌, Bool, true, false, not, sym, ap, ◌∙◌, subst, refl, List, [], ◌∷◌, ◌++◌, map, filter, if◌then◌else◌, Option, Some, None, bytes_eq, nat_lt, inl, inr, arith}
 use Rattle.std.specs.Prelude.{length}
 use Rattle.std.specs.List.{AllByRecursion, find}
@@ -33,7 +33,7 @@ lookup-same sid (p ∷ ps) = rw (same-bytes_eq sid p.0, lookup-same sid ps) refl
 
 -- ---- a frame is sent
 
--- the frames after the new one was put behind the others, and the earlier one was taken out where there is one
+-- the frames after the new one was put behind the others, and the earlier one was taken out if there is one
 pub sent_entries : (es : List Entry) (sid : List ℕ) (n : ℕ) (k : Kept) (earlier : Option ℕ) (after : List Entry) → Apart es → index_by (is_of sid) es ≡ earlier
     → (earlier ≡ None → after ≡ es ++ (n, k) ∷ [])
     → ((m : ℕ) → earlier ≡ Some m → after ≡ remove_entry (at m) (es ++ (n, k) ∷ []))

@@ -53,7 +53,7 @@ indexed_above s a m (e ∷ es) h p = elim (cases_Bool (s e.1)) [
   | inr q ↦ let k = rw q at p in indexed_above s a m es h.1 k
 ]
 
--- an entry is at the index exactly where it is the session's
+-- an entry is at the index exactly if it is the session's
 pub agree : (sid : List ℕ) (m : ℕ) (es : List Entry) → Apart es → index_by (is_of sid) es ≡ Some m → Agree (is_of sid) (at m) es
 agree sid m [] h p = tt
 agree sid m (e ∷ es) h p = elim (cases_Bool (is_of sid e.1)) [
@@ -159,7 +159,7 @@ insert_first (e ∷ es) n h = elim (cases_Bool e.1.live) [
   | inr p ↦ rw (p, sym (nat_cmp_is n e.0 Less h.0)) refl
 ]
 
--- where the session is live no more, its index is among those of such sessions
+-- if the session is live no more, its index is among those of such sessions
 pub insert-written : (sid : List ℕ) (f : Kept → Kept) (m : ℕ) (es : List Entry) → ((k : Kept) → (f k).live ≡ false) → Apart es → index_by (is_of sid) es ≡ Some m → insert_key nat_cmp (over_indices es) m ≡ over_indices (written (is_of sid) f es)
 insert-written sid f m [] ends h p = absurd (let n : None ≡ Some m = p in cc)
 insert-written sid f m (e ∷ es) ends h p = elim (cases_Bool (is_of sid e.1)) [

@@ -13,7 +13,7 @@ abbrev pub index_by : (Kept → Bool) → List Entry → Option ℕ
 index_by test [] = None
 index_by test (e ∷ es) = if test e.1 then Some e.0 else index_by test es
 
--- each place is below the later ones, whose sessions are others
+-- each index is below the later ones, whose sessions are others
 abbrev pub Apart : List Entry → Type 0
 Apart [] = ⊤
 Apart (e ∷ es) = AllByRecursion (λ (x : Entry). (e.0 < x.0) × (is_of e.1.session x.1 ≡ false)) es × Apart es
@@ -24,6 +24,6 @@ pub record Indexed (frames : List Entry) (over : List ℕ) (indices : List (List
   pub over_is : over ≡ keys_of (filter (λ (e : Entry). is_over e.1) frames)
   pub found : (sid : List ℕ) → lookup (bytes_eq sid) indices ≡ index_by (is_of sid) frames
 
--- each place is below this one
+-- each index is below this one
 abbrev pub Below : ℕ → List Entry → Type 0
 Below next es = AllByRecursion (λ (e : Entry). e.0 < next) es

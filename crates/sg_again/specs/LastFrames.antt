@@ -36,7 +36,7 @@ without sid ks = filter (λ k. not (is_of sid k)) ks
 abbrev pub sent : List Kept → List ℕ → SentFrame → List Kept
 sent ks sid f = without sid ks ++ record { session = sid; frame = f; live = true } ∷ []
 
--- so, where it is known that the session is live no more
+-- so, if it is known that the session is live no more
 abbrev pub over : List ℕ → Kept → Kept
 over sid k = if is_of sid k then record { session = k.session; frame = k.frame; live = false } else k
 
@@ -45,7 +45,7 @@ abbrev pub without_first_over : List Kept → List Kept
 without_first_over [] = []
 without_first_over (k ∷ ks) = if is_over k then ks else k ∷ without_first_over ks
 
--- without the first one of a session that is live no more where these are too many
+-- without the first one of a session that is live no more if these are too many
 abbrev pub within_limit : List Kept → List Kept
 within_limit ks = if nat_lt most_over (length (filter is_over ks)) then without_first_over ks else ks
 

@@ -103,7 +103,7 @@ impl LastFrames {
     }
 }
 
-// The index after this one, or `OutOfMemory` where a `u64` holds no more.
+// The index after this one, or `OutOfMemory` if a `u64` holds no more.
 fn next_index(index: u64) -> Result<u64, OutOfMemory>
     ensures { IfOk result (λ n. n ≡ index + 1) }
 {

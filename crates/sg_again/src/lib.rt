@@ -1,7 +1,7 @@
 //! The frames that may be sent again: of each session the last one that it sent.
 //!
 //! A frame can be lost, and the principal that it was for waits for it. So the last frame of each live session is kept, and of the
-//! sessions that are live no more the 4,096 last frames that were sent last: they take a bounded index, however long a principal
+//! sessions that are live no more the 4,096 last frames that were sent last: they take bounded room, however long a principal
 //! serves. `specs/LastFrames.antt` says what is kept after each call as one list, in the order in which the frames were sent.
 //!
 //! A session's frame is found by a hash table, and the one that leaves by an ordered set, so each call takes a time that hardly grows

@@ -55,7 +55,7 @@ abbrev pub opened : Graph → List ℕ → List ℕ
 opened g [] = []
 opened g (x ∷ xs) = 40 ∷ with_commas (map (variable_text g) (x ∷ xs))
 
--- variables between brackets, where there are some
+-- variables between brackets, if there are some
 abbrev pub bracketed : Graph → List ℕ → List ℕ
 bracketed g [] = []
 bracketed g (x ∷ xs) = opened g (x ∷ xs) ++ 41 ∷ []

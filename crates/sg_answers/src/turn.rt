@@ -39,7 +39,7 @@ fn put_labels(out: &mut ByteOut, graph: &Graph, node: NodeId) -> Result<(), OutO
     Ok(())
 }
 
-// Writes a label, and the variables that its edge writes between brackets, where there are some.
+// Writes a label, and the variables that its edge writes between brackets, if there are some.
 fn put_with_variables(out: &mut ByteOut, graph: &Graph, label: Label) -> Result<(), OutOfMemory>
     requires { label < length graph.now.edges }
     ensures { OnOk result (out.new ≡ out.old ++ label_text graph.now label) }
@@ -48,7 +48,7 @@ fn put_with_variables(out: &mut ByteOut, graph: &Graph, label: Label) -> Result<
     put_bracketed(out, graph, graph.edge(label).writes)
 }
 
-// Writes variables with their types between brackets, where there are some.
+// Writes variables with their types between brackets, if there are some.
 fn put_bracketed(out: &mut ByteOut, graph: &Graph, vars: VarSet) -> Result<(), OutOfMemory>
     requires { AreNumbers (length graph.now.variables) vars }
     ensures { OnOk result (out.new ≡ out.old ++ bracketed graph.now vars) }

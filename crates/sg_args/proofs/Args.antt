@@ -1,4 +1,4 @@
--- Whether one of some words passes a test, taken one after another.
+-- Whether one of some arguments passes a test, taken one after another.
 use Rattle.std.proofs.Common.{◌≡◌, ℕ, ◌+◌, ◌<◌, Bool, true, false, List, [], ◌∷◌, map, take, length, get_or, refl, sym, ap, ◌∙◌}
 use Rattle.std.specs.List.{list_any}
 use Rattle.std.proofs.lemmas.List.{take_more, map-append}

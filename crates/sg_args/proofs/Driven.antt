@@ -145,7 +145,7 @@ plainly (name ∷ args) =
     (either (bytes_eq name (codes "keep")) (keeping args) _ (keeps args)
     (either (bytes_eq name (codes "stream")) (streaming args) (few name args) (streams args) (others name args)))))
 
--- whatever the words
+-- whatever the arguments
 pub can_be_driven : (args : List (List ℕ)) → CanBeDriven (command_of args)
 can_be_driven [] = tt
 can_be_driven (name ∷ args) = either (bytes_eq name (codes "serve")) (serving args) _ (serves args) (plainly (name ∷ args))

@@ -1,4 +1,4 @@
--- clap takes any words behind `--`, whatever their bytes are, and gives them back.
+-- clap takes any arguments behind `--`, whatever their bytes are, and gives them back.
 use Rattle.std.proofs.Common.{◌≡◌, ◌++◌, ◌&&◌, ◌∙◌, Bool, codes, true, List, Some, None, [], ◌∷◌, refl, sym, ap, subst, append_assoc, is_some, unwrap_or}
 use Rattle.std.specs.List.{fold, list_all}
 use Rattle.clap.specs.Words.{App, Rule, Text, Row, new_app, new_rule, takes, with_rule}
@@ -59,7 +59,7 @@ takes_any (w ∷ ws) =
     subst (λ p. verdict p (at e.0 e.1) ≡ true) (sym (passes [] w ws)) at_end in
     subst (λ end. verdict (walk_passes shape names (at [] w) ws) end ≡ true) (sym e.2) walked_well
 
--- the row of the words so far
+-- the row of the arguments so far
 abbrev row : List Text → List Row
 row vs = record {
   id = codes "WORD";
@@ -81,7 +81,7 @@ unfolding clap_on_literals
 gives_back w [] = refl
 gives_back w (x ∷ ws) = gathers (w ∷ []) x ws
 
--- whatever the words, and where there are none
+-- whatever the arguments, and if there are none
 pub given_back : (ws : List Text) → unwrap_or (all_of (codes "WORD") (matches_of table (codes "sessiongraph" ∷ codes "--" ∷ ws))) [] ≡ ws
 unfolding clap_on_literals
 given_back [] = refl

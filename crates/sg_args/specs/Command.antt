@@ -1,4 +1,4 @@
--- What the words of the command line ask for.
+-- What the arguments of the command line ask for.
 use Rattle.std.specs.Prelude.{ℕ, ◌==◌, ◌≤◌, Bool, true, false, if◌then◌else◌, List, [], ◌∷◌, codes, slice_index, Option, Some, None, option_map, option_and_then, bytes_eq, ⊤}
 use Rattle.std.specs.List.{list_any}
 use Rattle.sg_base.specs.Words.{number, from_one}
@@ -20,7 +20,7 @@ pub data Command : Type 0 where
   Claims : (graph claims : List ℕ) → Command
   Serve : (over_tcp : Bool) → (ledger : Option (List ℕ)) → (keys : List ℕ) → (programs : List (List ℕ)) → Command
 
--- the word begins with -
+-- the argument begins with -
 abbrev pub is_option : List ℕ → Bool
 is_option arg = slice_index arg 0 == 45
 
@@ -42,7 +42,7 @@ on_two name first second =
     else if bytes_eq name (codes "claims") then Some (Claims first second)
     else None
 
--- the command of this name that takes one word or two
+-- the command of this name that takes one argument or two
 abbrev pub few : (name : List ℕ) → List (List ℕ) → Option Command
 few name [] = None
 few name (file ∷ []) = on_file name file
@@ -57,7 +57,7 @@ running (keys ∷ script ∷ []) = None
 running (keys ∷ script ∷ n ∷ []) = None
 running (keys ∷ script ∷ n ∷ program ∷ more) = option_map (λ d. Run keys script d (program ∷ more)) (number most_deliveries n)
 
--- how many sessions a word asks for, from 1 to 2,000
+-- how many sessions an argument asks for, from 1 to 2,000
 abbrev pub sessions_of : List ℕ → Option ℕ
 sessions_of arg = option_and_then from_one (number most_driven arg)
 
@@ -99,7 +99,7 @@ abbrev pub tcp_or : (file : List ℕ) → List (List ℕ) → Option Command
 tcp_or file [] = None
 tcp_or file (arg ∷ args) = if bytes_eq arg (codes "--tcp") then serving_over true (Some file) args else serving_over false (Some file) (arg ∷ args)
 
--- FILE and these, where --tcp may stand before these if it did not stand before --ledger
+-- FILE and these, if --tcp may stand before these if it did not stand before --ledger
 abbrev pub on_ledger : (over_tcp : Bool) → List (List ℕ) → Option Command
 on_ledger over_tcp [] = None
 on_ledger over_tcp (file ∷ args) =
@@ -119,7 +119,7 @@ serving (arg ∷ args) = if bytes_eq arg (codes "--tcp") then ledger_or true arg
 
 -- ---- a command line
 
--- the command of this name, with these words after it
+-- the command of this name, with these arguments after it
 abbrev pub named : (name : List ℕ) → List (List ℕ) → Option Command
 named name args =
     if bytes_eq name (codes "run") then running args
@@ -128,17 +128,17 @@ named name args =
     else if bytes_eq name (codes "stream") then streaming args
     else few name args
 
--- the command of words of which none begins with -
+-- the command of arguments of which none begins with -
 abbrev pub plain : List (List ℕ) → Option Command
 plain [] = None
 plain (name ∷ args) = if list_any is_option (name ∷ args) then None else named name args
 
--- the command, where the words are in the table. No word but the options of serve begins with -
+-- the command, if the arguments are in the table. No argument but the options of serve begins with -
 abbrev pub command_of : List (List ℕ) → Option Command
 command_of [] = None
 command_of (name ∷ args) = if bytes_eq name (codes "serve") then serving args else plain (name ∷ args)
 
--- where sessions are driven, there are 1 to 2,000 of them
+-- if sessions are driven, there are 1 to 2,000 of them
 abbrev pub CanBeDriven : Option Command → Type 0
 CanBeDriven (Some (Drive seed sessions file)) = (1 ≤ sessions) × (sessions ≤ most_driven)
 CanBeDriven other = ⊤

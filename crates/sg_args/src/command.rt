@@ -1,4 +1,4 @@
-//! What the words of the command line ask for.
+//! What the arguments of the command line ask for.
 ghost use Rattle.std.specs.Prelude.{◌≡◌, map, option_map};
 ghost use Rattle.std.specs.List.{list_any};
 ghost use Rattle.sg_base.specs.Words.{number};
@@ -8,7 +8,7 @@ ghost use Rattle.sg_args.specs.Model.{command_held};
 
 use sg_base::read_number;
 
-/// A command, with the words that it names.
+/// A command, with the arguments that it names.
 #[derive(Debug, Clone, Copy)]
 pub enum Command<'w> {
     /// Checks a graph.
@@ -112,7 +112,7 @@ pub enum Command<'w> {
     },
 }
 
-/// The command, or `None` where the words are not in the table of commands. It takes no memory.
+/// The command, or `None` if the arguments are not in the table of commands. It takes no memory.
 pub fn read_command<'w>(args: &'w [&'w str]) -> Option<Command<'w>>
     ensures { option_map command_held result ≡ command_of (map (λ s. s.now) args.now) }
 {
@@ -125,7 +125,7 @@ pub fn read_command<'w>(args: &'w [&'w str]) -> Option<Command<'w>>
     }
 }
 
-// The command of words of which none begins with `-`.
+// The command of arguments of which none begins with `-`.
 fn plain<'w>(args: &'w [&'w str]) -> Option<Command<'w>>
     ensures { option_map command_held result ≡ plain (map (λ s. s.now) args.now) }
 {
@@ -151,7 +151,7 @@ fn serving<'w>(args: &'w [&'w str]) -> Option<Command<'w>>
     }
 }
 
-// So over connections or not, where `--ledger` and its file may come first.
+// So over connections or not, if `--ledger` and its file may come first.
 fn ledger_or<'w>(over_tcp: bool, args: &'w [&'w str]) -> Option<Command<'w>>
     ensures { option_map command_held result ≡ ledger_or over_tcp (map (λ s. s.now) args.now) }
 {
@@ -164,7 +164,7 @@ fn ledger_or<'w>(over_tcp: bool, args: &'w [&'w str]) -> Option<Command<'w>>
     }
 }
 
-// So on the ledger of the first word, behind which `--tcp` may stand.
+// So on the ledger of the first argument, behind which `--tcp` may stand.
 fn on_ledger<'w>(over_tcp: bool, args: &'w [&'w str]) -> Option<Command<'w>>
     ensures { option_map command_held result ≡ on_ledger over_tcp (map (λ s. s.now) args.now) }
 {
@@ -183,7 +183,7 @@ fn on_ledger<'w>(over_tcp: bool, args: &'w [&'w str]) -> Option<Command<'w>>
     }
 }
 
-// So on this ledger, where `--tcp` may come first.
+// So on this ledger, if `--tcp` may come first.
 fn tcp_or<'w>(file: &'w str, args: &'w [&'w str]) -> Option<Command<'w>>
     ensures { option_map command_held result ≡ tcp_or file.now (map (λ s. s.now) args.now) }
 {
@@ -218,7 +218,7 @@ fn serving_over<'w>(
     }
 }
 
-// The command of this name, with these words after it.
+// The command of this name, with these arguments after it.
 fn named<'w>(name: &str, args: &'w [&'w str]) -> Option<Command<'w>>
     ensures { option_map command_held result ≡ named name.now (map (λ s. s.now) args.now) }
 {
@@ -304,7 +304,7 @@ fn streaming<'w>(args: &'w [&'w str]) -> Option<Command<'w>>
     }
 }
 
-// How many sessions a word asks for, from 1 to 2,000.
+// How many sessions an argument asks for, from 1 to 2,000.
 fn sessions_of(arg: &str) -> Option<u32>
     ensures { result ≡ sessions_of arg.now }
 {
@@ -319,7 +319,7 @@ fn deliveries_of(arg: &str) -> Option<u32>
     Some(read_number(arg.as_bytes(), 1_000_000)? as u32)
 }
 
-// The command of this name that takes one word or two.
+// The command of this name that takes one argument or two.
 fn few<'w>(name: &str, args: &'w [&'w str]) -> Option<Command<'w>>
     ensures { option_map command_held result ≡ few name.now (map (λ s. s.now) args.now) }
 {
@@ -345,7 +345,7 @@ fn on_file<'w>(name: &str, file: &'w str) -> Option<Command<'w>>
     }
 }
 
-// The command of this name that takes two words.
+// The command of this name that takes two arguments.
 fn on_two<'w>(name: &str, first: &'w str, second: &'w str) -> Option<Command<'w>>
     ensures { option_map command_held result ≡ on_two name.now first.now second.now }
 {
@@ -362,7 +362,7 @@ fn on_two<'w>(name: &str, first: &'w str, second: &'w str) -> Option<Command<'w>
     }
 }
 
-// A word begins with `-`.
+// An argument begins with `-`.
 fn has_option(args: &[&str]) -> bool
     ensures { result ≡ list_any is_option (map (λ s. s.now) args.now) }
 {

@@ -1,4 +1,4 @@
-//! The words, as `clap` gives them back.
+//! The arguments, as `clap` gives them back.
 ghost use Rattle.std.specs.Prelude.{◌≡◌, IfErr, IfOk, drop, map, option_map, string_bytes};
 ghost use Rattle.clap.specs.Words.{kind_of};
 ghost use Rattle.sg_args.specs.Command.{command_of};
@@ -12,7 +12,7 @@ use sg_base::OutOfMemory;
 use std::alloc::{AllocError, Global};
 use std::marker::Model;
 
-/// A command line: words after the program's name and `--`. A clause sees it as the words.
+/// A command line: arguments after the program's name and `--`. A clause sees it as the arguments.
 #[derive(Drop)]
 pub struct CommandLine<'w> {
     all: Vec<&'w str>,
@@ -31,7 +31,7 @@ impl<'w> Model for CommandLine<'w> {
 }
 
 impl<'w> CommandLine<'w> {
-    /// The command line of these words.
+    /// The command line of these arguments.
     pub fn new(alloc: Global, args: &'w [String]) -> Result<CommandLine<'w>, OutOfMemory>
         ensures { IfOk result (λ l. l ≡ map string_bytes args.now) }
     {
@@ -45,7 +45,7 @@ impl<'w> CommandLine<'w> {
     }
 }
 
-/// The words of a command line, as `clap` reads them. A clause sees them as a list.
+/// The arguments of a command line, as `clap` reads them. A clause sees them as a list.
 #[derive(Drop)]
 pub struct Parsed<'w> {
     matches: ArgMatches<'w>,
@@ -62,7 +62,7 @@ impl<'w> Model for Parsed<'w> {
 }
 
 impl<'g> Parsed<'g> {
-    /// What `clap` reads of a command line, which are its words, whatever they are.
+    /// What `clap` reads of a command line, which are its arguments, whatever they are.
     pub fn read<'w>(alloc: Global, line: &'g CommandLine<'w>) -> Result<Parsed<'g>, OutOfMemory>
         ensures { IfOk result (λ g. g ≡ line.now) }
     {
@@ -70,7 +70,7 @@ impl<'g> Parsed<'g> {
         Ok(Parsed { matches })
     }
 
-    /// The command that the words ask for, or `None` where they are not in the table of commands. It takes no memory.
+    /// The command that the arguments ask for, or `None` if they are not in the table of commands. It takes no memory.
     pub fn command(&self) -> Option<Command<'_>>
         ensures { option_map command_held result ≡ command_of self.now }
     {
@@ -81,7 +81,7 @@ impl<'g> Parsed<'g> {
     }
 }
 
-// What `clap` makes of words after `--`: it refuses none.
+// What `clap` makes of arguments after `--`: it refuses none.
 fn matches<'w>(alloc: Global, args: &'w [&'w str]) -> Result<ArgMatches<'w>, Error>
     requires { IsBehindDashes (map (λ s. s.now) args.now) }
     ensures err { IfErr result (λ e. kind_of e ≡ ErrorKind.OutOfMemory) }

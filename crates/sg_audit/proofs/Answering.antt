@@ -34,7 +34,7 @@ agrees g logs told merged steps a m apart asc p = record {
   path = p;
 }
 
--- where that walk doesn't explain the merged events, the logs agree with none that is asked for
+-- if that walk doesn't explain the merged events, the logs agree with none that is asked for
 pub disagrees : (g : Graph) (logs : List Log) (told : Option (List StoredStep)) (merged : List Event) (first : List StoredStep) → IsGraph g → AreLogs g logs told → IsMerged logs merged
     → first ≡ unwrap_or told (sent_steps merged) → (OnePath g (λ r. is_in r (roles_of logs)) merged first → ⊥)
     → (steps : List StoredStep) → IsAsked told steps → Agree g logs steps → ⊥
@@ -46,7 +46,7 @@ disagrees g logs (Some t) merged first is a m e unlike steps q w =
     let p = agree_path g logs merged steps m w in
     unlike (subst (λ z. OnePath g (λ r. is_in r (roles_of logs)) merged z) (q ∙ sym e) p)
 
--- the merged events clash where all events do
+-- the merged events clash if all events do
 same_count : (logs : List Log) (merged : List Event) (m : ℕ) → IsPermutation (events_of logs) merged → count m merged ≡ count m (events_of logs)
 same_count logs merged m p = sum_by-IsPermutation _ (events_of logs) merged p
 
@@ -58,7 +58,7 @@ pub small_roles : (g : Graph) (logs : List Log) → IsGraph g → AllByRecursion
 small_roles g [] is h = tt
 small_roles g (l ∷ ls) is h = ((let a = h.0.0 in let b = is.sizes.0 in omega (arith, a, b)), small_roles g ls is h.1)
 
--- where none of the merged events clash, none of all do
+-- if none of the merged events clash, none of all do
 pub none_clashes : (logs : List Log) (merged : List Event) → IsPermutation (events_of logs) merged → ((t : ℕ) → clashes merged t ≡ false) → NoneClashes logs
 none_clashes logs merged p h t = sym (same_clashes logs merged t p) ∙ h t
 
@@ -66,6 +66,6 @@ pub first_of_all : (logs : List Log) (merged : List Event) (time : ℕ) → IsPe
     → IsTrue (clashes (events_of logs) time) × ((s : ℕ) → s < time → clashes (events_of logs) s ≡ false)
 first_of_all logs merged time p h = (subst IsTrue (same_clashes logs merged time p) h.0, λ s l. sym (same_clashes logs merged s p) ∙ h.1 s l)
 
--- where a log isn't by time, the logs agree with no walk
+-- if a log isn't by time, the logs agree with no walk
 pub unordered : (g : Graph) (logs : List Log) → (AllByRecursion (λ (l : Log). AscendFrom 0 l.1) logs → ⊥) → (steps : List StoredStep) → Agree g logs steps → ⊥
 unordered g logs h steps a = h (agree_ascends g logs steps a)

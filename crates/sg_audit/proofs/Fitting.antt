@@ -105,7 +105,7 @@ closed g d f w = by d.name refl d.walk refl
 
 -- ---- lines
 
--- where a test is false, the answer is no fault
+-- if a test is false, the answer is no fault
 split_if : {A : Type 0} {E : Type 0} (b : Bool) (e : E) (x : Result A E) (y : A) → (if b then Err e else x) ≡ Ok y → (b ≡ false) × (x ≡ Ok y)
 split_if true e x y h = absurd (cc)
 split_if false e x y h = (refl, h)

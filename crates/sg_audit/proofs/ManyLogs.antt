@@ -102,7 +102,7 @@ merged_one logs merged apart p m =
 merged_rise : (logs : List Log) (merged : List Event) → NoneClashes logs → IsMerged logs merged → RiseFrom 0 merged
 merged_rise logs merged apart m = rise 0 merged m.ascends (merged_one logs merged apart m.all)
 
--- of each role they are its log, where that is by time
+-- of each role they are its log, if that is by time
 pub restricted_by : (g : Graph) (logs : List Log) (merged : List Event) → roles_differ logs → AllByRecursion (IsLog g) logs → NoneClashes logs → IsMerged logs merged
     → AllByRecursion (λ (l : Log). AscendFrom 0 l.1) logs → AllByRecursion (λ (l : Log). filter (is_by l.0) merged ≡ l.1) logs
 restricted_by g logs merged d h apart m asc = all_from (λ (l : Log). filter (is_by l.0) merged ≡ l.1) logs one
@@ -114,13 +114,13 @@ restricted_by g logs merged d h apart m asc = all_from (λ (l : Log). filter (is
         (λ x j. let k = in_kept (is_by l.0) x merged j in of_role g logs d h l i x (in_permuted_back x (events_of logs) merged m.all k.0) (same_role l.0 x k.1))
         (λ x j. kept_in (is_by l.0) x merged (in_permuted x (events_of logs) merged m.all (in_log logs l x i j)) (all_in (λ e. IsTrue (is_by l.0 e)) l.1 ((all_in (IsLog g) logs h l i).1) x j))
 
--- where logs agree with a walk, each is by time
+-- if logs agree with a walk, each is by time
 pub agree_ascends : (g : Graph) (logs : List Log) (steps : List StoredStep) → Agree g logs steps → AllByRecursion (λ (l : Log). AscendFrom 0 l.1) logs
 agree_ascends g logs steps a =
     all_from (λ (l : Log). AscendFrom 0 l.1) logs
     (λ l i. subst (AscendFrom 0) (all_in (λ (l : Log). filter (is_by l.0) a.merged ≡ l.1) logs a.restricted l i) (ascend_kept (is_by l.0) 0 a.merged a.is_merged.ascends))
 
--- there is one merged list, where nothing clashes
+-- there is one merged list, if nothing clashes
 pub one_merged : (logs : List Log) (merged other : List Event) → NoneClashes logs → IsMerged logs merged → IsMerged logs other → other ≡ merged
 one_merged logs merged other apart m n =
     one_rising 0 0 other merged (merged_rise logs other apart n) (merged_rise logs merged apart m)

@@ -50,7 +50,7 @@ none_below a m (e ∷ es) h l = count_no m e es (λ q. absurd (let p = h.0 in om
 from_next : (a : ℕ) (e f : Event) (es : List Event) → moment e ≢ moment f → AscendFrom (moment e) (f ∷ es) → AscendFrom (suc (moment e)) (f ∷ es)
 from_next a e f es n h = ((let p = h.0 in omega (arith, n)), h.1)
 
--- where no two neighbours have one moment, no two events have
+-- if no two neighbours have one moment, no two events have
 pub one_each : (a m : ℕ) (es : List Event) → AscendFrom a es → first_twice es ≡ None → count m es ≤ 1
 one_each a m [] h n = omega arith
 one_each a m (e ∷ []) h n = elim (same_or_not (moment e) m) [ inl q ↦ (let c = count_yes m e [] q in omega (arith, c)) | inr q ↦ (let c = count_no m e [] q in omega (arith, c)) ]

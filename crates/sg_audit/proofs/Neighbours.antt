@@ -29,7 +29,7 @@ last view (x ∷ []) zero l = refl
 last view (x ∷ y ∷ ys) zero l = absurd (omega arith)
 last view (x ∷ xs) (suc i) l = last view xs i (omega arith)
 
--- from the index before n on, where n is an index
+-- from the index before n on, if n is an index
 pub twice_here : {X : Type 0} (view : X → Event) (xs : List X) (n : ℕ) (x y : X) → 1 ≤ n → n < length xs → x ≡ get_or xs (n - 1) x → y ≡ get_or xs n y → moment (view x) ≡ moment (view y)
     → first_twice (map view (drop (n - 1) xs)) ≡ Some (moment (view y))
 twice_here view xs zero x y p l e f s = absurd (omega arith)

@@ -1,4 +1,4 @@
--- After one more line the reader keeps what is told then.
+-- After one more line the reader keeps what the lines then say.
 use Rattle.std.proofs.Common.{◌≡◌, ℕ, ◌+◌, ◌==◌, Bool, true, false, not, ◌||◌, List, [], ◌∷◌, ◌++◌, map, length, flat_map, refl, sym, ap, ◌∙◌, arith, append-nil, length-append}
 use Rattle.std.specs.Prelude.{Option, Some, None, is_none, option_map, unwrap_or}
 use Rattle.std.specs.Option.{option_map_or}
@@ -18,7 +18,7 @@ use Rattle.sg_audit.specs.declared.fault.Mistake.{Mistake}
 use Rattle.sg_audit.specs.declared.fault.Mistake.TheVariants.{Form, TooManyEvents, Unknown, Twice}
 use Rattle.sg_audit.proofs.OneLine.{session_by, told_by, Kept, sessions_told, next}
 
--- ---- what is told
+-- ---- what the lines so far say
 
 last_changed : {A : Type 0} (f : A → A) (xs : List A) (x : A) → change_last f (xs ++ x ∷ []) ≡ xs ++ f x ∷ []
 last_changed f [] x = refl

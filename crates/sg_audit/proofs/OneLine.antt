@@ -1,4 +1,4 @@
--- What the reader makes of one more line is what the line tells.
+-- What the reader makes of one more line is what the line says.
 use Rattle.std.proofs.Common.{◌≡◌, ℕ, ◌==◌, nat_le, Bool, true, false, not, ◌&&◌, ◌||◌, List, [], ◌∷◌, ◌++◌, map, length, flat_map, refl, sym, ap, ◌∙◌, arith, if◌then◌else◌, length-append}
 use Rattle.std.specs.Prelude.{Option, Some, None, is_some, is_none, option_map, unwrap_or, Result, Ok, Err}
 use Rattle.std.specs.List.{list_all, list_any}
@@ -27,7 +27,7 @@ use Rattle.sg_audit.proofs.Fitting.{Fine}
 abbrev pub session_by : SoFar → Name → Session
 session_by d n = record { name = n; logs = all_logs d; walk = d.walk }
 
--- what the lines so far told
+-- what the lines so far said
 abbrev pub told_by : SoFar → LogsSoFar
 told_by d = record { over = d.done; last = option_map (session_by d) d.name }
 
@@ -46,7 +46,7 @@ sessions_told d = by d.name
 
 -- ---- tests
 
--- an answer, where nothing is wrong
+-- an answer, if nothing is wrong
 abbrev pub judged : {A : Type 0} → Option Mistake → A → Result A Mistake
 judged None x = Ok x
 judged (Some kind) x = Err kind
@@ -64,7 +64,7 @@ all_same : (p q : ℕ → Bool) (ns : List ℕ) → ((n : ℕ) → p n ≡ q n) 
 all_same p q [] h = refl
 all_same p q (n ∷ ns) h = λ i. h n i && all_same p q ns h i
 
--- ---- the tests of what the reader keeps, and of what is told
+-- ---- the tests of what the reader keeps, and of what the lines say
 
 pub same_open : (d : SoFar) → is_open_now (told_by d) ≡ is_open d
 same_open d = by d.name
@@ -138,7 +138,7 @@ kinds true t true true false x h = refl
 kinds true t true false true x h = (let bad : false ≡ true = h refl in absurd (cc))
 kinds true t true false false x h = refl
 
--- the same where the graph doesn't have the label
+-- the same if the graph doesn't have the label
 kinds_unknown : {A : Type 0} (begun t wrong known e : Bool) (x : A)
     → (if not begun then Err Form else if wrong then Err Form else if t then Err TooManyEvents else Err Unknown)
     ≡ (if not begun || false || wrong then Err Form else if t then Err TooManyEvents else if true || known then Err Unknown else if e then Err Twice else Ok x)
@@ -187,7 +187,7 @@ event_same g d sent label time v f k =
 
 -- ---- walks
 
--- where no step is strange and none falls, those that don't rise name a variable twice
+-- if no step is strange and none falls, those that don't rise name a variable twice
 same_double : (ss : List StepContent) → list_any (λ s. falls s.writes) ss ≡ false → list_any is_unknown ss ≡ false → list_any (λ s. not (rise s.writes)) ss ≡ list_any (λ s. is_double s.writes) ss
 same_double [] h u = refl
 same_double (s ∷ ss) h u = λ i. one s.writes.known (differ (keys_of s.writes.pairs)) (rise s.writes) (rising-differ 0 (keys_of s.writes.pairs)) (first_false _ _ h) (label s.label s.writes.known (first_false _ _ u)) i || same_double ss (second_false _ _ h) (second_false _ _ u) i
@@ -212,7 +212,7 @@ walk_same g d ss f = sym (in_turn (not (is_open_now (told_by d)) || all_have g (
     rest : Bool → Result SoFar Mistake
     rest twice = if twice then Err Twice else Ok (next d (SaidWalk ss))
 
-    -- the order of both, where the tests of a walk that may stand here are these
+    -- the order of both, if the tests of a walk that may stand here are these
     order : (begun have falling strange rising double : Bool) → (falling ≡ false → strange ≡ false → rising ≡ double)
         → (if not begun || have || falling then Err Form else if strange then Err Unknown else rest double) ≡ (if not begun || have then Err Form else if falling then Err Form else if strange then Err Unknown else rest rising)
     order false have falling strange rising double h = refl

@@ -55,7 +55,7 @@ walked_senders g honest is h m (s ∷ ss) w = (
   walked_senders g honest is h (target (shape g) s.label) ss w.2,
 )
 
--- where all roles are honest, the steps of a walk that explains events are those that the events send
+-- if all roles are honest, the steps of a walk that explains events are those that the events send
 pub sends_alone : (g : Graph) (honest : ℕ → Bool) (es : List Event) (ss : List StoredStep) → IsGraph g → ((r : ℕ) → r < length g.roles → honest r ≡ true) → OnePath g honest es ss → ss ≡ sent_steps es
 sends_alone g honest es ss is h p =
     sym (sent_acts g honest p.taken [] ss (walked_senders g honest is h 0 ss p.walk.walk)) ∙ sym (ap steps_sent p.explained) ∙ sent_events es

@@ -88,11 +88,11 @@ fault_first bytes f h = subst (Outcome bytes) h (outcome bytes)
 
 -- ---- what is spelled is read
 
--- what the reader keeps of lines that tell this
+-- what the reader keeps of lines that say this
 state_of : (g : Graph) (ls : List Line) (t : LogsSoFar) (a : TellAfter g ls t) → Reached g a.behind t
 state_of g ls t a = let s = a.spelled in reached g a.behind t s.is_graph a.tell
 
--- after lines that tell this, the others are read on
+-- after lines that say this, the others are read on
 after_told : (g : Graph) (ls : List Line) (t : LogsSoFar) (a : TellAfter g ls t) (rest : List Line) → let r = state_of g ls t a in read_lines 1 (ls ++ rest) ≡ read_sessions g (1 + length ls) r.state rest
 after_told g ls t a rest =
     let r = state_of g ls t a in

@@ -1,4 +1,4 @@
--- What lines tell is what the reader keeps of them.
+-- What lines say is what the reader keeps of them.
 use Rattle.std.proofs.Common.{◌≡◌, ℕ, ◌+◌, true, false, List, [], ◌∷◌, ◌++◌, length, refl, sym, ap, ◌∙◌, subst, inl, inr, arith, append_assoc, append-nil, length-append}
 use Rattle.std.specs.Prelude.{Option, Some, None, Result, Ok, Err}
 use Rattle.std.proofs.lemmas.Bool.{cases_Bool}
@@ -44,12 +44,12 @@ wrong_line g d l s kind f k n h e = said_line g d l s n h ∙ add_same g d s f k
 pub fine_next : (g : Graph) (d : SoFar) (l : Line) (s : LogContent) → IsGraph g → Fine g d → Kept d → form g (words (content l)) ≡ Some s → fault g (told_by d) s ≡ None → Fine g (next d s)
 fine_next g d l s is f k h e = adds g d (next d s) s is (form_fits g (words (content l)) s h) f (add_same g d s f k ∙ ap (λ o. judged o (next d s)) e)
 
--- ---- from what is told to what is read
+-- ---- from what lines say to what is read
 
 pub nothing_kept : Kept nothing
 nothing_kept = record { names = refl; count = refl; first = λ q. refl }
 
--- the reader keeps what the lines tell, and goes on with those behind them
+-- the reader keeps what the lines say, and goes on with those behind them
 pub record Reached (g : Graph) (ls : List Line) (t : LogsSoFar) : Type 0 where
   pub state : SoFar
   pub fine : Fine g state
@@ -92,9 +92,9 @@ reached g _ _ is (Say {ls = ls} {t = t} l s tell n says right) =
       reads = goes_on g ls l r.state (next r.state s) r.reads (right_line g r.state l s r.fine r.keeps n said none);
     }
 
--- ---- from what is read to what is told
+-- ---- from what is read to what lines say
 
--- how the lines behind a block end, where the first has this number
+-- how the lines behind a block end, if the first has this number
 pub data Ends (g : Graph) (n : ℕ) (ls : List Line) : Result Logs Fault → Type 0 where
   Well : (t : LogsSoFar) → Tell g ls t → is_over g t ≡ true → Ends g n ls (Ok (record { graph = g; sessions = sessions_of t }))
   Few : (t : LogsSoFar) → Tell g ls t → is_over g t ≡ false → Ends g n ls (Err (WrongLine (n + length ls) Form))

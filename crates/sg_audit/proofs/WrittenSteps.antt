@@ -168,7 +168,7 @@ closed_int (c ∷ cs) v h = by (c == 45) refl h
 inside : (c : ℕ) (cs : Word) → (c == 34) ≡ false → open_after true (c ∷ cs) ≡ open_after true cs
 inside c cs e = rw e refl
 
--- a byte before others, where both are there
+-- a byte before others, if both are there
 pub record Before (x : Option ℕ) (xs : Option (List ℕ)) : Type 0 where
   pub byte : is_some x ≡ true
   pub more : is_some xs ≡ true
@@ -206,7 +206,7 @@ second_digit h l e = by (l == 34) refl
     by false f = refl
     by true f = let none : hex_byte h 34 ≡ None = none_then _ in absurd (true≢false (sym e ∙ ap (λ x. is_some (hex_byte h x)) (eqb-true l 34 f) ∙ ap is_some none))
 
--- the end of a text, where the byte is a quote
+-- the end of a text, if the byte is a quote
 abbrev at_end : Bool → Option (List ℕ)
 at_end b = if b then Some [] else None
 

@@ -38,7 +38,7 @@ IsLog g l = (l.0 < length g.roles) × AllByRecursion (λ e. IsTrue (is_by l.0 e)
 abbrev pub AllHaveLogs : Graph → List Log → Type 0
 AllHaveLogs g logs = (r : ℕ) → r < length g.roles → IsTrue (is_in r (roles_of logs))
 
--- the logs of a session. A walk is told exactly where a role has no log
+-- the logs of a session. A walk is given exactly if a role has no log
 pub record AreLogs (g : Graph) (logs : List Log) (walk : Option (List StoredStep)) : Type 0 where
   pub differ : roles_differ logs
   pub each : AllByRecursion (IsLog g) logs

@@ -8,12 +8,12 @@ use Rattle.sg_audit.specs.Agree.{Agree, NoneClashes}
 use Rattle.sg_audit.specs.declared.answer.Audit.{Audit}
 use Rattle.sg_audit.specs.declared.answer.Audit.TheVariants.{Yes, Clash, No}
 
--- the walks that are asked for: the told one, or any where none is told
+-- the walks that are asked for: the given one, or any if none is given
 abbrev pub IsAsked : Option (List StoredStep) → List StoredStep → Type 0
 IsAsked None steps = ⊤
 IsAsked (Some told) steps = steps ≡ told
 
--- yes with a walk that is asked for and with which the logs agree; or the least time at which they clash; or no, where they clash at no time and agree with no walk that is asked for
+-- yes with a walk that is asked for and with which the logs agree; or the least time at which they clash; or no, if they clash at no time and agree with no walk that is asked for
 abbrev pub IsAnswer : Graph → List Log → Option (List StoredStep) → Audit → Type 0
 IsAnswer g logs told (Yes walk) = Agree g logs (steps_of walk) × IsAsked told (steps_of walk)
 IsAnswer g logs told (Clash time) = IsTrue (clashes (events_of logs) time) × ((sooner : ℕ) → sooner < time → clashes (events_of logs) sooner ≡ false)

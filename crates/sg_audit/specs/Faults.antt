@@ -1,4 +1,4 @@
--- What is wrong with a line of a form, after what the lines before it tell.
+-- What is wrong with a line of a form, after what the lines before it say.
 use Rattle.std.specs.Prelude.{ℕ, ◌==◌, nat_le, Bool, false, not, ◌||◌, if◌then◌else◌, List, [], ◌∷◌, map, flat_map, length, Option, Some, None, is_none}
 use Rattle.std.specs.List.{list_any, list_all}
 use Rattle.std.specs.Option.{option_map_or}
@@ -11,13 +11,13 @@ use Rattle.sg_audit.specs.Sessions.{LogsSoFar, sessions_of}
 use Rattle.sg_audit.specs.declared.fault.Mistake.{Mistake}
 use Rattle.sg_audit.specs.declared.fault.Mistake.TheVariants.{Form, TooManyEvents, Unknown, Twice}
 
--- ---- what is told
+-- ---- what the lines so far say
 
 -- the logs of the last session
 abbrev pub last_logs : LogsSoFar → List Log
 last_logs t = option_map_or (λ s. s.logs) t.last []
 
--- there is a session, and its walk isn't told
+-- there is a session, and its walk isn't given
 abbrev pub is_open : LogsSoFar → Bool
 is_open t = option_map_or (λ s. is_none s.walk) t.last false
 
@@ -25,7 +25,7 @@ is_open t = option_map_or (λ s. is_none s.walk) t.last false
 abbrev pub all_have_logs : Graph → LogsSoFar → Bool
 all_have_logs g t = list_all (λ r. is_in r (roles_of (last_logs t))) (below (length g.roles))
 
--- the last session may end: its walk is told, or needn't be, since each role has a log
+-- the last session may end: its walk is given, or needn't be, since each role has a log
 abbrev pub is_whole : Graph → LogsSoFar → Bool
 is_whole g t = not (is_open t) || all_have_logs g t
 
@@ -43,7 +43,7 @@ is_strange s = is_none s.label || not s.writes.known
 
 -- ---- the kinds
 
--- out of place: a session before the last one may end; a log or a walk in no session that is open, or a walk where each role has a log; an event in no log.
+-- out of place: a session before the last one may end; a log or a walk in no session that is open, or a walk if each role has a log; an event in no log.
 -- Or variables, all the graph's and none named twice, that don't rise
 abbrev pub is_wrong : Graph → LogsSoFar → LogContent → Bool
 is_wrong g t (SaidSession n) = not (is_whole g t)
@@ -70,7 +70,7 @@ is_repeated t (SaidLog role) = option_map_or (λ r. is_in r (roles_of (last_logs
 is_repeated t (SaidEvent sent label time v) = is_double v
 is_repeated t (SaidWalk steps) = list_any (λ s. is_double s.writes) steps
 
--- the kind, where the test says so
+-- the kind, if the test says so
 abbrev pub where' : Bool → Mistake → Option Mistake
 where' b kind = if b then Some kind else None
 

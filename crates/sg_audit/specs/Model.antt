@@ -14,6 +14,6 @@ log_of l = (l.0, map event_of l.1)
 abbrev pub logs_of : SessionLog → List Log
 logs_of s = map log_of s.logs
 
--- the steps of the walk that is told, if one is
+-- the steps of the walk that is given, if one is
 abbrev pub told_of : SessionLog → Option (List StoredStep)
 told_of s = option_map steps_of s.walk

@@ -19,18 +19,18 @@ pub record LinesLeft : Type 0 where
   pub lines : List Line
   pub number : ℕ
 
--- what a line adds: nothing where it is skipped
+-- what a line adds: nothing if it is skipped
 unfoldable pub add_line : Graph → SoFar → Line → Added
 add_line g d line = if is_skipped line then Ok d else option_map_or (add g d) (form g (words (content line))) (Err Form)
 
 -- ---- sessions
 
--- goes on after line n, where that is not wrong
+-- goes on after line n, if that is not wrong
 abbrev pub unless_wrong : {A : Type 0} → ℕ → Added → (SoFar → Result A Fault) → Result A Fault
 unless_wrong n (Ok d) next = next d
 unless_wrong n (Err kind) next = Err (WrongLine n kind)
 
--- the logs of what was said and of the lines from number n on. Where they end too early, the line that is missing is wrong
+-- the logs of what was said and of the lines from number n on. If they end too early, the line that is missing is wrong
 abbrev pub read_sessions : Graph → ℕ → SoFar → List Line → Result Logs Fault
 read_sessions g n d [] = if is_whole g d then Ok (record { graph = g; sessions = all_sessions d }) else Err (WrongLine n Form)
 read_sessions g n d (l ∷ ls) = unless_wrong n (add_line g d l) (λ d'. read_sessions g (n + 1) d' ls)

@@ -21,7 +21,7 @@ pub record StepContent : Type 0 where
   pub label : Option ℕ
   pub writes : Assignments (Option Value)
 
--- what a line says. A role or a label is none where the graph has none of the name
+-- what a line says. A role or a label is none if the graph has none of the name
 pub data LogContent : Type 0 where
   SaidSession : Name → LogContent
   SaidLog : (role : Option ℕ) → LogContent

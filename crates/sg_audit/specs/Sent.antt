@@ -1,4 +1,4 @@
--- The steps of which Sent events tell.
+-- The steps that Sent events give.
 use Rattle.std.specs.Prelude.{List, [], ◌∷◌}
 use Rattle.sg_protocol.specs.Calls.{Event, Started, Sent, Received}
 use Rattle.sg_protocol.specs.Walk.{StoredStep, shown}

@@ -1,4 +1,4 @@
--- The sessions of a log file, and what lines tell of them so far.
+-- The sessions of a log file, and what lines say of them so far.
 use Rattle.std.specs.Prelude.{ℕ, Bool, true, false, List, [], ◌∷◌, ◌++◌, map, Option, Some, None, option_map, unwrap_or, replicate}
 use Rattle.std.specs.Option.{option_map_or}
 use Rattle.sg_model.specs.Last.{Map}
@@ -10,7 +10,7 @@ use Rattle.sg_protocol.specs.Walk.{StoredStep}
 use Rattle.sg_audit.specs.Merged.{Log}
 use Rattle.sg_audit.specs.Said.{StepContent, LogContent, SaidSession, SaidLog, SaidEvent, SaidWalk}
 
--- a session with its logs, and its walk where one is told
+-- a session with its logs, and its walk, if one is given
 pub record Session : Type 0 where
   pub name : Name
   pub logs : List Log
@@ -21,7 +21,7 @@ pub record Logs : Type 0 where
   pub graph : Graph
   pub sessions : List Session
 
--- what lines tell: the sessions that are over, and the last one, which may go on
+-- what lines say: the sessions that are over, and the last one, which may go on
 pub record LogsSoFar : Type 0 where
   pub over : List Session
   pub last : Option Session
@@ -43,7 +43,7 @@ abbrev pub event : Bool → (role label time : ℕ) → Map Value → Event
 event true role label time values = Sent (replicate 32 0) role label time values
 event false role label time values = Received (replicate 32 0) role label time values false
 
--- the step, where its label is the graph's
+-- the step, if its label is the graph's
 abbrev pub stored_step : StepContent → StoredStep
 stored_step s = record { label = option_map_or (λ l. l) s.label 0; writes = s.writes.pairs }
 

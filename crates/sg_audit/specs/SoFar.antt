@@ -44,11 +44,11 @@ all_sessions d = option_map_or (λ n. d.done ++ record { name = n; logs = all_lo
 abbrev pub all_have_logs : Graph → SoFar → Bool
 all_have_logs g d = list_all (λ r. is_in r d.roles) (below (length g.roles))
 
--- a session may end here: there is none, or its walk is told, or each role has a log
+-- a session may end here: there is none, or its walk is given, or each role has a log
 abbrev pub is_whole : Graph → SoFar → Bool
 is_whole g d = is_none d.name || is_some d.walk || all_have_logs g d
 
--- a session is open whose walk isn't told
+-- a session is open whose walk isn't given
 abbrev pub is_open : SoFar → Bool
 is_open d = is_some d.name && is_none d.walk
 
@@ -81,7 +81,7 @@ add_log d role = if not (is_open d) then Err Form else option_map_or (open_log d
 abbrev pub with_event : SoFar → Event → SoFar
 with_event d e = record { names = d.names; count = d.count + 1; done = d.done; name = d.name; logs = d.logs; roles = d.roles; role = d.role; events = d.events ++ e ∷ []; walk = d.walk }
 
--- the event, where its label and its variables are the graph's and none is named twice
+-- the event, if its label and its variables are the graph's and none is named twice
 abbrev pub put_event : SoFar → Bool → (role : ℕ) → Option ℕ → ℕ → Assignments Value → Added
 put_event d sent role None time v = Err Unknown
 put_event d sent role (Some label) time v = if not v.known then Err Unknown else if not (rise v) then Err Twice else Ok (with_event d (event sent role label time v.pairs))

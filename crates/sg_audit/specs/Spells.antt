@@ -44,13 +44,13 @@ pub record IsBlock (ls : List Line) (text : List ℕ) : Type 0 where
 abbrev pub SaysLine : AGraph → Line → LogContent → Type 0
 SaysLine g line said = Says g (words (content line)) said
 
--- the lines after the block, from the first one on, tell this, and none of them is wrong
+-- the lines after the block, from the first one on, say this, and none of them is wrong
 pub data Tell (g : AGraph) : List Line → LogsSoFar → Type 0 where
   Nothing : Tell g [] (record { over = []; last = None })
   Skip : {ls : List Line} {t : LogsSoFar} (line : Line) → Tell g ls t → IsTrue (is_skipped line) → Tell g (ls ++ line ∷ []) t
   Say : {ls : List Line} {t : LogsSoFar} (line : Line) (said : LogContent) → Tell g ls t → IsFalse (is_skipped line) → SaysLine g line said → fault g t said ≡ None → Tell g (ls ++ line ∷ []) (added t said)
 
--- after the block of a graph, these lines tell this
+-- after the block of a graph, these lines say this
 pub record TellAfter (g : AGraph) (ls : List Line) (t : LogsSoFar) : Type 0 where
   pub block : List Line
   pub text : List ℕ
@@ -60,7 +60,7 @@ pub record TellAfter (g : AGraph) (ls : List Line) (t : LogsSoFar) : Type 0 wher
   pub spelled : SpellsGraph text g
   pub tell : Tell g behind t
 
--- the bytes are the logs: they tell the sessions, and the last one may end
+-- the bytes are the logs: they give the sessions, and the last one may end
 pub record SpellsLogs (bytes : List ℕ) (l : Logs) : Type 0 where
   pub told : LogsSoFar
   pub tell : TellAfter l.graph (lines bytes) told
@@ -74,7 +74,7 @@ pub data Fault : Type 0 where
   WrongLine : (line : ℕ) → Mistake → Fault
   NoGraph : ParseFault → Fault
 
--- the first of these lines that is wrong. Where a line is missing, the number after the last one is told, and where the block isn't closed, that of the last line
+-- the first of these lines that is wrong. If a line is missing, the number after the last one is reported, and if the block isn't closed, that of the last line
 pub data IsFirstFault (ls : List Line) : Fault → Type 0 where
   NoLine : IsTrue (list_all is_skipped ls) → IsFirstFault ls (WrongLine (length ls + 1) Form)
   NoBlock : (before rest : List Line) (line : Line) → ls ≡ before ++ line ∷ rest → IsTrue (list_all is_skipped before) → IsFalse (is_skipped line)
@@ -87,7 +87,7 @@ pub data IsFirstFault (ls : List Line) : Fault → Type 0 where
       → SaysLine g line said → fault g t said ≡ Some kind → IsFirstFault ls (WrongLine (length right + 1) kind)
   TooFew : (g : AGraph) (t : LogsSoFar) → TellAfter g ls t → IsFalse (is_whole g t) → IsFirstFault ls (WrongLine (length ls + 1) Form)
 
--- a fault as the program tells it: the event 100,001 without its line
+-- a fault as the program reports it: the event 100,001 without its line
 abbrev pub told_as : Fault → LogFault
 told_as (WrongLine n Form) = FormAt n
 told_as (WrongLine n Unknown) = UnknownAt n
@@ -95,7 +95,7 @@ told_as (WrongLine n Twice) = TwiceAt n
 told_as (WrongLine n TooManyEvents) = TooMany
 told_as (NoGraph fault) = InGraph fault
 
--- the program tells the first fault of the bytes
+-- the program reports the first fault of the bytes
 pub record IsFault (bytes : List ℕ) (e : LogFault) : Type 0 where
   pub fault : Fault
   pub first : IsFirstFault (lines bytes) fault

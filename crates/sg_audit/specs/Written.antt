@@ -13,7 +13,7 @@ use Rattle.sg_sched.specs.Format.Said.{Word, Assignment as Pair, given_word, joi
 use Rattle.sg_sched.specs.Format.Values.{is_value, value_of}
 use Rattle.sg_audit.specs.Said.{Assignments, StepContent, LogContent, SaidSession, SaidLog, SaidEvent, SaidWalk, numbered}
 
--- a step of a walk: whether * stands in front, the label, and what stands between ( and ) where they stand
+-- a step of a walk: whether * stands in front, the label, and what stands between ( and ) if they stand
 pub record WrittenStep : Type 0 where
   pub starred : Bool
   pub label : Name
@@ -44,7 +44,7 @@ line_words (ALog role) = codes "log" ∷ role ∷ []
 line_words (AnEvent sent label time values) = (if sent then codes "sent" else codes "received") ∷ label ∷ decimal time ∷ map given_word values
 line_words (AWalk steps) = codes "walk" ∷ map step_word steps
 
--- ---- what each place may hold
+-- ---- what each field may hold
 
 -- VAR=VALUE
 abbrev pub is_given : Pair → Bool
@@ -67,7 +67,7 @@ is_form (AWalk steps) = list_all is_step steps
 
 -- ---- what is said
 
--- the value, or none where it is hidden
+-- the value, or none if it is hidden
 abbrev pub shown_value : Word → Option Value
 shown_value w = if bytes_eq w (codes "?") then None else Some (value_of w)
 
@@ -86,7 +86,7 @@ said_in g (ALog role) = SaidLog (numbered g.roles role)
 said_in g (AnEvent sent label time values) = SaidEvent sent (numbered (edge_names g) label) time (given_in (variable_names g) value_of values)
 said_in g (AWalk steps) = SaidWalk (map (step_in g) steps)
 
--- the words are those of a line, each place of which holds what it may hold, and they say this of the graph
+-- the words are those of a line, each field of which holds what it may hold, and they say this of the graph
 pub record Says (g : Graph) (ws : List Word) (said : LogContent) : Type 0 where
   pub written : Written
   pub spelled : ws ≡ line_words written

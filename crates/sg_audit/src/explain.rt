@@ -18,7 +18,7 @@ use sg_graph::Graph;
 use sg_walk::{Event, StoredWalk, check_part};
 use std::alloc::Global;
 
-/// Whether the logs of a session agree with the walk that is told, or, where each role has a log, with any walk.
+/// Whether the logs of a session agree with the walk that is given, or, if each role has a log, with any walk.
 pub fn audit(alloc: Global, graph: &Graph, session: &SessionLog) -> Result<Audit, OutOfMemory>
     requires { AreLogs graph.now (logs_of session.now) (told_of session.now) }
     ensures { IfOk result (IsAnswer graph.now (logs_of session.now) (told_of session.now)) }
@@ -33,7 +33,7 @@ pub fn audit(alloc: Global, graph: &Graph, session: &SessionLog) -> Result<Audit
     explain(alloc, graph, session, merged.as_slice())
 }
 
-// What is said of logs that clash at no time, each of which is by time.
+// The answer for logs that clash at no time, each of which is by time.
 fn explain(
     alloc: Global,
     graph: &Graph,
@@ -56,7 +56,7 @@ fn explain(
     }
 }
 
-// The walk that is told, or the one that the sends make.
+// The walk that is given, or the one that the sends make.
 fn asked_walk(
     alloc: Global,
     session: &SessionLog,

@@ -5,9 +5,9 @@
 //! claim for themselves; or no.
 //!
 //! The events of all logs are put in one order, by time, and what was sent before what was received at equal times. The logs agree with a
-//! walk where no time clashes, the order keeps each log's own, and the events are what the roles with a log send and receive along the
-//! walk, except perhaps for a last receipt. Roles with a log count as honest, also with an empty one. Where each role has a log any walk
-//! will do, and the sends make the only one that can; where a role has none, the walk is told in the text, with its steps filled in.
+//! walk if no time clashes, the order keeps each log's own, and the events are what the roles with a log send and receive along the
+//! walk, except perhaps for a last receipt. Roles with a log count as honest, also with an empty one. If each role has a log any walk
+//! will do, and the sends make the only one that can; if a role has none, the walk is given in the text, with its steps filled in.
 //!
 //! A text is a block `graph {` .. `}`, and then for each session these lines; blank ones and comments are skipped:
 //!
@@ -16,10 +16,10 @@
 //! | `session NAME` | a session begins |
 //! | `log ROLE` | the log of a role begins |
 //! | `sent LABEL TIME VAR=VALUE ..` | the role sent; with `received`, it received |
-//! | `walk STEP ..` | the walk that is told, exactly where a role has no log |
+//! | `walk STEP ..` | the walk that is given, exactly if a role has no log |
 //!
 //! `specs/Spells.antt` says which logs bytes spell, and which line of others is wrong first. What is read is spelled, what is spelled is
-//! read, and a refusal tells the first wrong line and its kind, exactly. The text is read in one pass; the merged order takes a time of
+//! read, and a refusal reports the first wrong line and its kind, exactly. The text is read in one pass; the merged order takes a time of
 //! n log n in the events. `laws` says that bytes spell the logs of one run at most, or have one first fault.
 #![tactic(auto)]
 

@@ -12,7 +12,7 @@ use sg_graph::Graph;
 use sg_sched::Words;
 use std::alloc::Global;
 
-/// What a line says of a graph. A role or a label is `None` where the graph has none of the name.
+/// What a line says of a graph. A role or a label is `None` if the graph has none of the name.
 #[derive(Debug, Drop)]
 pub(crate) enum LogLine {
     Session(Name),

@@ -28,7 +28,7 @@ pub fn read_logs(alloc: Global, bytes: &[u8]) -> Result<Logs, LogFault>
     ensures spelled { IfOk result (λ l. SpellsLogs bytes.now (logs_held l)) }
     // What is spelled so is read, unless memory runs out.
     ensures read { (l : Spelled) → SpellsLogs bytes.now l → MatchResult result (λ held. logs_held held ≡ l) (λ e. e ≡ LogFault.OutOfMemory) }
-    // A refusal tells the first fault.
+    // A refusal reports the first fault.
     ensures wrong { IfErr result (λ e. (e ≡ LogFault.OutOfMemory) ⊎ IsFault bytes.now e) }
     // What has a fault is refused with the first one, unless memory runs out.
     ensures refused { (e : LogFault) → IsFault bytes.now e → MatchResult result (λ held. ⊥) (λ f. (f ≡ LogFault.OutOfMemory) ⊎ (f ≡ e)) }

@@ -106,7 +106,7 @@ impl LogsReader {
         self.name.is_none() || self.walk.is_some() || self.all_have_logs(graph)
     }
 
-    // Whether a session is open whose walk isn't told.
+    // Whether a session is open whose walk isn't given.
     fn is_open(&self) -> bool
         ensures { result ≡ is_open self.now }
     {

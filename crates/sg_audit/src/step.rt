@@ -151,7 +151,7 @@ fn split_part(bytes: &[u8]) -> (&[u8], Option<&[u8]>)
     }
 }
 
-// The index of the first comma outside double quotes, or the length.
+// The offset of the first comma outside double quotes, or the length.
 fn part_end(bytes: &[u8]) -> usize
     ensures index { result ≡ part_end false bytes.now }
     ensures within { result ≤ length bytes.now }

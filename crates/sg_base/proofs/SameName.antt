@@ -33,6 +33,6 @@ same-bytes_eq_back a b = same_from_decides _ _ (same-Decides a b) (Decides-like 
 pub same_is : (a : List ℕ) → same a ≡ bytes_eq a
 same_is a = λ i b. same-bytes_eq a b i
 
--- a name is among others, as `contains` looks for it, where the text is
+-- a name is among others, as `contains` looks for it, if the text is
 pub any_same : (a : List ℕ) (names : List (List ℕ)) → list_any (same a) names ≡ has_text a names
 any_same a names = ap (λ test. list_any test names) (same_is a)

@@ -17,7 +17,7 @@ next_four g small =
     let four : (g.word_pos + 3 + 1) % 2 ^ 68 ≡ g.word_pos + 4 = omega arith in
     rw (one, two, three, four) refl
 
--- one more word of a seed
+-- sixteen bytes more of a seed
 pub seeded_random-suc : (seed : List ℕ) (n : ℕ)
     → seeded_random seed (n + 1) ≡ seeded_random seed n ++ stream_draw (key_of seed) 0 (4 * n) ∷ []
 seeded_random-suc seed n =

@@ -2,20 +2,20 @@ use Rattle.std.specs.Prelude.{◌≡◌, ℕ, ◌-◌, ◌<◌, ◌≤◌, ◌^�
 use Rattle.std.specs.Option.{option_map}
 use Rattle.std.specs.Str.{bytes_eq}
 
--- a count of faults rose, or stood at its end, where a rise does not show
+-- a count of faults rose, or stood at its end, if a rise does not show
 abbrev pub HasRisen : ℕ → ℕ → Type 0
 HasRisen old new = (old < new) ⊎ (2 ^ 64 - 1 ≤ old)
 
--- the items were added at the end of a list, where the list is told
+-- the items were added at the end of a list, if the list is known
 abbrev pub Appends : {A : Type 0} → Option (List A) → Option (List A) → List A → Type 0
 Appends {A} old new items = (before : List A) → old ≡ Some before → new ≡ Some (before ++ items)
 
--- a prefix of the items was added at the end of a list, where the list is told
+-- a prefix of the items was added at the end of a list, if the list is known
 abbrev pub AppendsPrefix : {A : Type 0} → Option (List A) → Option (List A) → List A → Type 0
 AppendsPrefix {A} old new items =
     (count : ℕ) × (count ≤ length items) × Appends old new (take count items)
 
--- the first item was taken off a list, where the list is told
+-- the first item was taken off a list, if the list is known
 abbrev pub TakesFirst : {A : Type 0} → Option (List A) → Option (List A) → A → Type 0
 TakesFirst {A} old new first =
     (all : List A) → old ≡ Some all → (all ≡ first ∷ drop 1 all) × (new ≡ Some (drop 1 all))

@@ -13,6 +13,6 @@ stream_draw key stream position =
     stream_bytes key stream position ++ stream_bytes key stream (position + 1)
     ++ stream_bytes key stream (position + 2) ++ stream_bytes key stream (position + 3)
 
--- the first words of a seed, of sixteen bytes each, one after the other in the key stream
+-- the first bytes of a seed, sixteen at a time, one after the other in the key stream
 abbrev pub seeded_random : List ℕ → ℕ → List (List ℕ)
 seeded_random seed count = map (λ i. stream_draw (key_of seed) 0 (4 * i)) (below count)

@@ -17,7 +17,7 @@ has_needless_zero word = slice_index word 0 == 48 && nat_lt 1 (length word)
 abbrev pub value : List ℕ → ℕ
 value word = fold (λ n c. n * 10 + (c - 48)) 0 word
 
--- the number, where it is at most `most`
+-- the number, if it is at most `most`
 abbrev pub up_to : ℕ → ℕ → Option ℕ
 up_to most n = if nat_le n most then Some n else None
 

@@ -100,7 +100,7 @@ impl ByteOut {
         self.bytes.len()
     }
 
-    /// Keeps the first `count` bytes, or all where there are fewer. It takes no memory.
+    /// Keeps the first `count` bytes, or all if there are fewer. It takes no memory.
     pub fn truncate(&mut self, count: usize)
         ensures { self.new ≡ take count self.old }
     {

@@ -42,7 +42,7 @@ pub enum CharsFault {
 }
 
 impl Chars {
-    /// The text of these bytes. Refused where there are more than 1,024, where they are not UTF-8, or where memory runs out.
+    /// The text of these bytes. Refused if there are more than 1,024, if they are not UTF-8, or if memory runs out.
     pub fn new(alloc: Global, bytes: &[u8]) -> Result<Chars, CharsFault>
         ensures value { IfOk result (λ c. c ≡ bytes.now) }
         ensures text { OnOk result (IsUtf8 bytes.now × (length bytes.now ≤ most_text_bytes)) }

@@ -33,7 +33,7 @@ pub use system::{StdFiles, StdSink};
 pub use value::{Opening, Value, VarType, copy_openings};
 pub use word::{read_hex, read_number};
 
-/// The answer where memory ran out.
+/// The answer if memory ran out.
 pub type OutOfMemory = std::alloc::AllocError;
 
 #[cfg(test)]

@@ -1,4 +1,4 @@
-//! The outside in memory. Each object tells what it holds, and fails at the calls that it was told to.
+//! The outside in memory. What each object holds is known, and it fails at the calls that it is to fail at.
 mod files;
 mod fresh;
 mod link;

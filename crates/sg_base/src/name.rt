@@ -58,7 +58,7 @@ impl fmt::Display for Name {
 }
 
 impl Name {
-    /// The name of these bytes, or `None` where they are no name. It takes no memory.
+    /// The name of these bytes, or `None` if they are no name. It takes no memory.
     pub fn new(bytes: &[u8]) -> Option<Name>
         ensures found { IsSome result ↔ IsTrue (is_name bytes.now) }
         ensures value { IfSome result (λ n. n ≡ bytes.now) }

@@ -1,8 +1,8 @@
-//! The outside as traits: files, sinks of bytes, links, and random words.
+//! The outside as traits: files, sinks of bytes, links, and random bytes.
 //!
-//! Each object that can fail has a count of faults. The count never falls, and a call answers `Failed` only where it rose in that
-//! call. What an object holds is told by the objects in memory and not by those of the system, so the clauses on it speak of what is
-//! told. At which address a link waits, each link tells.
+//! Each object that can fail has a count of faults. The count never falls, and a call answers `Failed` only if it rose in that
+//! call. What an object holds is known of objects in memory and not of those of the system, so the clauses on it speak of what is
+//! known. At which address a link waits is known of each link.
 ghost use Rattle.std.specs.Prelude.{◌≡◌, ◌<◌, ◌≤◌, ℕ, List, [], ◌∷◌, Option, Some, None, take, drop, replicate, length, slice_index_or, OnOk, OnErr, IfOk, IfErr, IfSome, IfNone, IsSomeAnd};
 ghost use Rattle.sg_base.specs.Outside.{HasRisen, Appends, AppendsPrefix, TakesFirst, file_at};
 ghost use Rattle.sg_base.specs.declared.address.Addr.{Addr};
@@ -34,17 +34,17 @@ pub trait Files {
     /// How often a call failed.
     ghost faults: { Self → ℕ };
 
-    /// The files, each as the bytes of its name and its own bytes, where they are told.
+    /// The files, each as the bytes of its name and its own bytes, if they are known.
     ghost held: { Self → Option (List (List ℕ × List ℕ)) };
 
-    /// The whole file of a name, of at most `max` bytes, or `None` where there is no such file. No call changes the files.
+    /// The whole file of a name, of at most `max` bytes, or `None` if there is no such file. No call changes the files.
     fn read(&mut self, alloc: Global, name: &str, max: u32) -> Result<Option<Vec<u8>>, FileFault>
         ensures never_falls { faults self.old ≤ faults self.new }
         ensures failed { result ≡ Err FileFault.Failed → HasRisen (faults self.old) (faults self.new) }
         ensures fits { IfOk result (λ found. IfSome found (λ bytes. length bytes.items ≤ max)) }
         ensures kept { held self.new ≡ held self.old }
 
-        // What each answer says of the files, where they are told.
+        // What each answer says of the files, if they are known.
         ensures whole { IfOk result (λ found. IfSome found (λ bytes.
             (files : List (List ℕ × List ℕ)) → held self.old ≡ Some files → file_at files name.now ≡ Some bytes.items)) }
         ensures missing { IfOk result (λ found. IfNone found (
@@ -53,12 +53,12 @@ pub trait Files {
             (files : List (List ℕ × List ℕ)) → held self.old ≡ Some files → IsSomeAnd (file_at files name.now) (λ bytes. max < length bytes) };
 }
 
-/// A place where bytes go.
+/// Where bytes go.
 pub trait Sink {
     /// How often a call failed.
     ghost faults: { Self → ℕ };
 
-    /// The bytes so far, where they are told.
+    /// The bytes so far, if they are known.
     ghost written: { Self → Option (List ℕ) };
 
     /// Takes the first bytes of a piece, and gives their number. Taking none is a fault.
@@ -84,7 +84,7 @@ pub enum LinkFault {
     OutOfMemory,
 }
 
-/// A place where frames come in and go out.
+/// Where frames come in and go out.
 pub trait Link {
     /// How often a call failed.
     ghost faults: { Self → ℕ };
@@ -92,13 +92,13 @@ pub trait Link {
     /// The address at which it waits, or `None` before it is opened.
     ghost bound: { Self → Option Addr };
 
-    /// The deliveries to come, each its bytes, where they are told.
+    /// The deliveries to come, each its bytes, if they are known.
     ghost deliveries: { Self → Option (List (List ℕ)) };
 
-    /// The frames that were sent, each its address and its bytes, where they are told.
+    /// The frames that were sent, each its address and its bytes, if they are known.
     ghost sent: { Self → Option (List (Addr × List ℕ)) };
 
-    /// Waits at an address from now on. Where it fails, it waits where it did before.
+    /// Waits at an address from now on. If it fails, it waits where it did before.
     fn open(&mut self, at: Addr) -> Result<(), Failed>
         ensures never_falls { faults self.old ≤ faults self.new }
         ensures failed { OnErr result (HasRisen (faults self.old) (faults self.new)) }
@@ -132,18 +132,18 @@ pub trait Link {
         ensures kept_sent { OnErr result (sent self.new ≡ sent self.old) };
 }
 
-/// A source of random words, which cannot fail.
+/// A source of nonces and confounders, sixteen random bytes each, which cannot fail.
 pub trait Fresh {
-    /// The words to come, where they are told.
+    /// The nonces and confounders to come, if they are known.
     ghost random: { Self → Option (List (List ℕ)) };
 
-    /// The next word, or zeros where there is none.
+    /// The next nonce or confounder, or zeros if there is none.
     fn next(&mut self) -> [u8; 16]
         ensures drawn { (all : List (List ℕ)) → random self.old ≡ Some all → result ≡ slice_index_or all 0 (replicate 16 0) }
         ensures taken { (all : List (List ℕ)) → random self.old ≡ Some all → random self.new ≡ Some (drop 1 all) };
 }
 
-/// Writes all of a text, in as many calls as it takes. Where a call fails, a prefix may have been written.
+/// Writes all of a text, in as many calls as it takes. If a call fails, a prefix may have been written.
 pub fn write_all<O: Sink>(out: &mut O, text: &[u8]) -> Result<(), Failed>
     ensures never_falls { O.faults out.old ≤ O.faults out.new }
     ensures failed { OnErr result (HasRisen (O.faults out.old) (O.faults out.new)) }

@@ -77,7 +77,7 @@ impl<T> Seq<T> {
 }
 
 impl<T: Drop> Seq<T> {
-    /// Keeps the first `count` elements, or all where there are fewer.
+    /// Keeps the first `count` elements, or all if there are fewer.
     pub fn truncate(&mut self, count: usize)
         ensures { self.new ≡ take count self.old }
     {

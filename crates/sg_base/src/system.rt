@@ -1,4 +1,4 @@
-//! The files and the writers of the system. They tell nothing of what they hold: that a file is missing or too long, and which bytes
+//! The files and the writers of the system. What they hold is not known: that a file is missing or too long, and which bytes
 //! were written, is what the system says.
 ghost use Rattle.std.specs.Prelude.{◌≡◌};
 
@@ -73,7 +73,7 @@ impl<W: Write + Drop> StdSink<W> {
     }
 }
 
-// Writes the first bytes of a piece, and gives their number, which is 0 where the system failed.
+// Writes the first bytes of a piece, and gives their number, which is 0 if the system failed.
 fn write_prefix<W: Write>(writer: &mut W, piece: &[u8]) -> usize {
     for _ in 0..u64::MAX {
         match writer.write(piece) {

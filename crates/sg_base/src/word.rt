@@ -24,7 +24,7 @@ fn has_needless_zero(word: &[u8]) -> bool
     matches!(word, [b'0', _, ..])
 }
 
-// The number that digits spell, where all are digits and it is at most `most`.
+// The number that digits spell, if all are digits and it is at most `most`.
 fn read_digits(word: &[u8], most: u64) -> Option<u64>
     ensures value { result ≡ (if list_all is_digit word.now then up_to most (value word.now) else None) }
     ensures within { IfSome result (λ n. n ≤ most) }

@@ -44,6 +44,6 @@ any-parts : (xs : List Join) (sid : List ℕ) (r : ℕ) → list_any (λ (j : Jo
 any-parts [] sid r = refl
 any-parts (j ∷ js) sid r = rw (same-parts sid r j, any-parts js sid r)
 
--- a pair stands in a list exactly where a test of both its parts finds it
+-- a pair stands in a list exactly if a test of both its parts finds it
 pub any_of_parts : (xs : List Join) (sid : List ℕ) (r : ℕ) → IsTrue (list_any (λ (j : Join). bytes_eq j.0 sid && (j.1 == r)) xs) ↔ Contains xs (sid, r)
 any_of_parts xs sid r = rw (any-parts xs sid r) (any_same xs (sid, r))

@@ -66,9 +66,9 @@ impl Cache {
         self.joins.reserve(1)
     }
 
-    /// Puts a pair at the end, and gives the ticket for it. Where room was made it takes no memory. Refused where the pair is
-    /// there, where 65,536 pairs are there, or where memory runs out. After a refusal the pairs are as before, and so is the room,
-    /// except where memory ran out.
+    /// Puts a pair at the end, and gives the ticket for it. If room was made it takes no memory. Refused if the pair is
+    /// there, if 65,536 pairs are there, or if memory runs out. After a refusal the pairs are as before, and so is the room,
+    /// except if memory ran out.
     pub fn claim(&mut self, sid: Sid, role: Role) -> Result<Ticket, ClaimFault>
         ensures joined { (result ≡ Err ClaimFault.Joined) ↔ Contains self.old.pairs (sid, role) }
         ensures full { (result ≡ Err ClaimFault.CacheFull) ↔ ((¬ Contains self.old.pairs (sid, role)) × (length self.old.pairs ≡ most_joins)) }

@@ -1,4 +1,4 @@
--- Blinding among some places.
+-- Blinding among some triples.
 use Rattle.std.proofs.Common.{◌≡◌, ◌≢◌, ℕ, ◌<◌, ◌≤◌, ◌⊎◌, List, [], ◌∷◌, length, refl, subst, inl, inr, arith}
 use Rattle.std.specs.Prelude.{⊤}
 use Rattle.sg_model.specs.Shape.{Shape, Walk, end_of, Blinding, Sighted, role_at}
@@ -13,7 +13,7 @@ use Rattle.sg_check.specs.Blind.{PairAtNode, IsBefore, IsBlind, IsClear, IsLeast
 use Rattle.sg_check.specs.declared.blinding.BlindFault.{BlindFault}
 use Rattle.sg_check.specs.declared.blinding.BlindFault.TheVariants.{Blinding as Blinds, OutOfMemory}
 
--- the fault among some places is that among more, where what comes before is one of the first or has no blinding
+-- the fault among some triples is that among more, if what comes before is one of the first or has no blinding
 pub widened : (g : Shape) (some more : PairAtNode → Type 0) (f : BlindFault) → ((p : PairAtNode) → some p → more p) → ((p q : PairAtNode) → some p → more q → IsBefore q p → some q ⊎ (IsBlind g q → ⊥)) → IsFaultAmong g some f → IsFaultAmong g more f
 widened g some more (Blinds node a b walk_a walk_b) up rest x =
     let p : PairAtNode = record { node = node; a = a; b = b } in
@@ -42,7 +42,7 @@ blind_there g x m a b y =
       subst (λ r. r < length g.roles) y.leads_b.ends (role_there g x (end_of (shape g) m y.to_b) (end_there g x m y.to_b start y.leads_b.walk)),
     )
 
--- where no place has a blinding, no node blinds two roles
+-- if no triple has a blinding, no node blinds two roles
 pub clear_sighted : (g : Shape) → IsClear g (λ p. ⊤) → Sighted g
 clear_sighted g h m a b x =
     elim (less_or a b) [
@@ -62,19 +62,19 @@ fault_blind g among (Blinds node a b walk_a walk_b) x =
     below l e = omega arith
 fault_blind g among OutOfMemory x = x
 
--- where a closure past two roles has no node of the first, the two aren't blinded
+-- if a closure past two roles has no node of the first, the two aren't blinded
 pub clear_first : (g : Graph) (m a b : ℕ) → ((n : ℕ) → role_at (shape g) n ≡ a → IsWithin (record { graph = g; from = m; past = pair a b }) n → ⊥) → IsClear (shape g) (AtRoles m a b)
 clear_first g m a b h p at blind =
     let x : Blinding (shape g) m a b = subst (λ (i : ℕ). Blinding (shape g) m a i) at.2 (subst (λ (i : ℕ). Blinding (shape g) m i p.b) at.1 (subst (λ (i : ℕ). Blinding (shape g) i p.a p.b) at.0 blind.1)) in
     h (end_of (shape g) m x.to_a) x.leads_a.ends (x.to_a, first_leads (shape g) m a b x.to_a x.leads_a)
 
--- nor where it has no node of the second
+-- nor if it has no node of the second
 pub clear_second : (g : Graph) (m a b : ℕ) → ((n : ℕ) → role_at (shape g) n ≡ b → IsWithin (record { graph = g; from = m; past = pair a b }) n → ⊥) → IsClear (shape g) (AtRoles m a b)
 clear_second g m a b h p at blind =
     let x : Blinding (shape g) m a b = subst (λ (i : ℕ). Blinding (shape g) m a i) at.2 (subst (λ (i : ℕ). Blinding (shape g) m i p.b) at.1 (subst (λ (i : ℕ). Blinding (shape g) i p.a p.b) at.0 blind.1)) in
     h (end_of (shape g) m x.to_b) x.leads_b.ends (x.to_b, second_leads (shape g) m a b x.to_b x.leads_b)
 
--- where it has a node of each, they are blinded, and a walk to each shows it
+-- if it has a node of each, they are blinded, and a walk to each shows it
 pub shown : (g : Graph) (m a b n k : ℕ) (walk_a walk_b : List ℕ) → a < b → b < 16 → role_at (shape g) m ≢ a → role_at (shape g) m ≢ b → role_at (shape g) n ≡ a → role_at (shape g) k ≡ b
     → LeadsPast (shape g) m (pair a b) n walk_a → LeadsPast (shape g) m (pair a b) k walk_b → IsLeastBlinding (shape g) (AtRoles m a b) (record { node = m; a = a; b = b }) walk_a walk_b
 shown g m a b n k walk_a walk_b rising small not_a not_b role_a role_b to_a to_b = record {
@@ -97,19 +97,19 @@ blind_at g m a b n k rising small not_a not_b role_a role_b to_a to_b =
     apart : a ≢ b
     apart e = omega arith
 
--- a fault at one place is one among those of its node and first role, where the lesser second roles have none
+-- a fault at one triple is one among those of its node and first role, if the lesser second roles have none
 pub fault_of_pair : (g : Shape) (m a b : ℕ) (f : BlindFault) → ((p : PairAtNode) → p.node ≡ m → p.a ≡ a → p.b < b → IsBlind g p → ⊥) → IsFaultAmong g (AtRoles m a b) f → IsFaultAmong g (AtPair m a) f
 fault_of_pair g m a b f clear x =
     widened g (AtRoles m a b) (AtPair m a) f (λ p at. (at.0, at.1))
     (λ p q one at before. inr (clear q at.0 at.1 (elim before [ inl l ↦ absurd (omega (arith, one.0, at.0, l)) | inr r ↦ elim r.1 [ inl l ↦ absurd (omega (arith, one.1, at.1, l)) | inr s ↦ omega (arith, one.2, s.1) ] ]))) x
 
--- and that among those of its node, where the lesser first roles have none
+-- and that among those of its node, if the lesser first roles have none
 pub fault_of_node : (g : Shape) (m a : ℕ) (f : BlindFault) → ((p : PairAtNode) → p.node ≡ m → p.a < a → IsBlind g p → ⊥) → IsFaultAmong g (AtPair m a) f → IsFaultAmong g (AtNode m) f
 fault_of_node g m a f clear x =
     widened g (AtPair m a) (AtNode m) f (λ p at. at.0)
     (λ p q one at before. elim before [ inl l ↦ absurd (omega (arith, one.0, at, l)) | inr r ↦ elim r.1 [ inl l ↦ inr (clear q at (omega (arith, one.1, l))) | inr s ↦ inl (at, omega (arith, one.1, s.0)) ] ]) x
 
--- and that among all, where the lesser nodes have none
+-- and that among all, if the lesser nodes have none
 pub fault_of_graph : (g : Shape) (m : ℕ) (f : BlindFault) → ((p : PairAtNode) → p.node < m → IsBlind g p → ⊥) → IsFaultAmong g (AtNode m) f → IsFaultAmong g (λ p. ⊤) f
 fault_of_graph g m f clear x =
     widened g (AtNode m) (λ p. ⊤) f (λ p at. tt)

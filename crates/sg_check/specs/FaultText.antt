@@ -1,4 +1,4 @@
--- What is said of a graph whose shape is wrong, or that blinds two roles, by its names.
+-- The text for a graph whose shape is wrong, or that blinds two roles, by its names.
 use Rattle.std.specs.Prelude.{ℕ, List, ◌++◌, codes}
 use Rattle.sg_protocol.specs.Graph.{Graph, role_name, node_name}
 use Rattle.sg_graph.specs.Named.{walk_text}

@@ -29,7 +29,7 @@ IsUnreachable g n = (n < length g.nodes) × (Reached g n → ⊥)
 abbrev pub IsIdle : Graph → ℕ → Type 0
 IsIdle g r = (r < length g.roles) × (HasNode g r → ⊥)
 
--- the least place of the first kind of fault that the graph has
+-- the least position of the first kind of fault that the graph has
 abbrev pub IsShapeFault : Graph → ShapeFault → Type 0
 IsShapeFault g (SelfEdge e) = IsLeast (IsSelfEdge g) e
 IsShapeFault g (Unreachable n) = IsNowhere (IsSelfEdge g) × IsLeast (IsUnreachable g) n

@@ -20,7 +20,7 @@ other_bit true false d = refl
 other_bit false true d = refl
 other_bit false false d = absurd (d refl)
 
--- a bit that a test tells from another one is its opposite
+-- a bit that a test distinguishes from another one is its opposite
 pub told_apart : (a b : Bool) → beq a b ≡ false → a ≡ not b
 told_apart true true h = absurd (cc)
 told_apart true false h = refl

@@ -10,7 +10,7 @@ use Rattle.sg_claims.specs.Labels.{are_once}
 use Rattle.sg_claims.specs.Invariant.{HoldsLabels}
 use Rattle.sg_claims.proofs.Cases.{less_or}
 
--- a table of false tells of no label
+-- a table of false has no label
 pub told_none : (size l : ℕ) → get_or (replicate size false) l false ≡ false
 told_none size l =
     elim (less_or l size) [

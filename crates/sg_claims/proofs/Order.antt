@@ -3,7 +3,7 @@ use Rattle.std.proofs.Common.{◌≡◌, ℕ, ◌+◌, ◌<◌, ◌⊎◌, List,
 use Rattle.sg_model.proofs.Small.{length-more}
 use Rattle.sg_claims.specs.Breaks.{AreInOrder}
 
--- at the first place where the lists differ the first one has the smaller number
+-- at the first index where the lists differ the first one has the smaller number
 abbrev pub IsBelow : List ℕ → List ℕ → Type 0
 IsBelow [] ys = ⊥
 IsBelow (x ∷ xs) [] = ⊥

@@ -13,7 +13,7 @@ pub record Breaks (g : Shape) (c : Claim) (walk : List ℕ) : Type 0 where
   pub is_later : IsTrue (is_in label c.later)
   pub wrong : IsRight c.kind c.earlier c.since before → ⊥
 
--- the lists are the same, or the first has the smaller number at the first place where they differ
+-- the lists are the same, or the first has the smaller number at the first index where they differ
 abbrev pub AreInOrder : List ℕ → List ℕ → Type 0
 AreInOrder [] ys = ⊤
 AreInOrder (x ∷ xs) [] = ⊥

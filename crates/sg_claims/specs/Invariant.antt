@@ -3,7 +3,7 @@ use Rattle.std.specs.Prelude.{◌≡◌, ℕ, Bool, false, List, length, get_or,
 use Rattle.sg_model.specs.Lists.{is_in}
 use Rattle.sg_claims.specs.Labels.{are_once}
 
--- the labels differ, and the table tells which are there
+-- the labels differ, and the table says which are there
 pub record HoldsLabels (labels : List ℕ) (table : List Bool) : Type 0 where
   pub once : IsTrue (are_once labels)
   pub size : length table ≡ 512

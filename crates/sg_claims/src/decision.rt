@@ -41,7 +41,7 @@ pub fn decide(alloc: Global, graph: &Graph, claim: &Claim) -> Result<Answer, Out
     Ok(Answer::Holds)
 }
 
-// The least label of `later` whose edge leaves a node, where the bit is the wrong one.
+// The least label of `later` whose edge leaves a node, if the bit is the wrong one.
 fn least_wrong(graph: &Graph, claim: &Claim, node: NodeId, bit: bool) -> Option<Label>
     ensures none { result ≡ None → IsSound (shape graph.now) claim.now node bit }
     ensures some { IfSome result (λ label. IsLeastWrong (shape graph.now) claim.now node bit label) }

@@ -221,7 +221,7 @@ took-all names ps o s h =
       begins = first.begins ∙ ap (λ l. Semicolon ∷ l) (t.took.begins ∙ ap (λ l. flat_map (claim_tokens names) t.claims ++ bare l) none ∙ ap (λ l. flat_map (claim_tokens names) t.claims ++ l) end);
     })
 
--- what was read, without its index
+-- what was read, without its offset
 in_text-inv : (r : Result (List NamedClaim) ParseFault) (cs : List NamedClaim) → in_text r ≡ Ok cs → r ≡ Ok cs
 in_text-inv (Ok x) cs h = (let same : x ≡ cs = cc in ap Ok same)
 in_text-inv (Err e) cs h = absurd (cc)

@@ -1,4 +1,4 @@
--- What is said of bytes that are no claims of a graph.
+-- The text for bytes that are no claims of a graph.
 use Rattle.std.specs.Prelude.{ℕ, List, ◌++◌, codes}
 use Rattle.std.specs.Fmt.{decimal}
 use Rattle.sg_claims_text.specs.declared.fault.ClaimsFault.{ClaimsFault}

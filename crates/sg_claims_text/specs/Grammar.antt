@@ -32,7 +32,7 @@ pub record IsClaim (names : List Name) (c : Claim) : Type 0 where
   pub earlier : AreLabels names c.earlier
   pub since : (c.since ≡ []) ⊎ AreLabels names c.since
 
--- a word and the labels after it, or nothing where there are none
+-- a word and the labels after it, or nothing if there are none
 abbrev pub since_tokens : List Name → Name → List ℕ → List Token
 since_tokens names word [] = []
 since_tokens names word (l ∷ ls) = Word word ∷ named names (l ∷ ls)

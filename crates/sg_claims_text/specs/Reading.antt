@@ -33,7 +33,7 @@ more_labels names labels (p ∷ ps) =
 abbrev pub some_labels : List Name → Parser (List ℕ)
 some_labels names = branch is_label (more_labels names []) refused
 
--- the labels after this word, or none where the word isn't there
+-- the labels after this word, or none if the word isn't there
 abbrev pub read_since : Name → List Name → Parser (List ℕ)
 read_since first names = branch (is_word first) (after skip λ _. some_labels names) (give [])
 

@@ -5,7 +5,7 @@ use Rattle.sg_graph.specs.Named.{walk_text}
 use Rattle.sg_model.specs.Claims.{ClaimKind, Needs, Bars}
 use Rattle.sg_protocol.specs.Graph.{Graph, ended}
 
--- a word and the labels after it, each after a space, or nothing where there are none
+-- a word and the labels after it, each after a space, or nothing if there are none
 abbrev pub since_text : Graph → List ℕ → List ℕ → List ℕ
 since_text g word [] = []
 since_text g word (l ∷ ls) = word ++ walk_text g (l ∷ ls)

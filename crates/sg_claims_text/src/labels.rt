@@ -28,7 +28,7 @@ pub fn some_labels(
     Ok(labels)
 }
 
-// The labels after the word, or none where the word isn't there.
+// The labels after the word, or none if the word isn't there.
 pub fn read_since(
     alloc: Global,
     scanner: &mut Scanner,

@@ -76,7 +76,7 @@ fn put_said(out: &mut ByteOut, graph: &Graph, claim: &Claim) -> Result<(), OutOf
     }
 }
 
-// The labels after the word, where there are some.
+// The labels after the word, if there are some.
 fn put_since(
     out: &mut ByteOut,
     graph: &Graph,
@@ -92,7 +92,7 @@ fn put_since(
     put_walk(out, graph, labels)
 }
 
-/// The text that is written of claims spells these claims and is read as them, where there are at most 1,024, their names are names and
+/// The text that is written of claims spells these claims and is read as them, if there are at most 1,024, their names are names and
 /// differ, and the graph has their labels, none of which is spelled like a word between lists.
 pub fn written_texts_are_read()
     ensures spelled { (g : GraphValue) (cs : List Seen.NamedClaim) → IsGraph g → length cs ≤ most_claims → AreNames (claim_names cs) → All (λ (c : Seen.NamedClaim). IsClaim (edge_names g) c.claim) cs → SpellsClaims g (written g cs) cs }

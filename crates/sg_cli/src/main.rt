@@ -1,7 +1,7 @@
 //! `sessiongraph`: checks, composes and compiles session graphs, runs one principal, also over a ledger of its joins or over TCP, serves applications, replays
 //! schedules, generates runs, and audits logs of sessions.
 //!
-//! All of this is `top` of `sg_top`. Here are the objects of the system that it works on, and the end where the system doesn't give them.
+//! All of this is `top` of `sg_top`. Here are the objects of the system that it works on, and the end if the system doesn't give them.
 #![tactic(auto)]
 
 use sg_base::{StdFiles, StdSink};
@@ -26,7 +26,7 @@ fn main(rt: HostRuntime) -> ExitCode {
     ExitCode::from(status)
 }
 
-// How the program ends where it has no words: one of them is no UTF-8, so it is in no command, or memory ran out.
+// How the program ends if it has no arguments: one of them is no UTF-8, so it is in no command, or memory ran out.
 fn before_args(rt: &HostRuntime, e: &io::Error) -> u8 {
     let mut err = StdSink::new(rt.stderr());
     match e.kind() {

@@ -153,7 +153,7 @@ module _ (h g : Shape) (N : ℕ) (is : List Inset) (owner : ℕ → Inset × ℕ
             | inr d ↦ (let s = source_inside i c e le d in absurd (omega (arith, s.0, at, lt)))
           ]
 
-  -- where the edge is of the graph that is put in here
+  -- if the edge is of the graph that is put in here
   goes : (l : ℕ) (w : List ℕ) → IsSplit w → (i : Inset) (x : ℕ) → Walk h (spot i x) (l ∷ w) → (k : Inset) → k ≡ i → Contains is k → (e : ℕ) → e < length k.inner.edges → l ≡ k.edges + e
       → source (shape k.inner) e ≡ x → Within i x (l ∷ w)
   goes l w rest i x walk k k_i ck e le same at =

@@ -40,7 +40,7 @@ module _ (part : List ℕ) (graphs : List Graph) where
       refuses (extended part g (graph_at graphs u.part) u) total e
       (λ h. sym so_far ∙ ap (all_used part graphs g) split ∙ ap (λ r. followed r (λ h. all_used part graphs h (drop (i + 1) us))) h) stop
 
--- the graph at a place, whichever is taken where there is none
+-- the graph at an index, whichever is taken if there is none
 pub graph-there : (gs : List Graph) (k : ℕ) (g : Graph) → k < length gs → g ≡ get_or gs k g → graph_at gs k ≡ g
 graph-there gs k g l at = same gs k (no_parts []) g l ∙ sym at
   where

@@ -35,7 +35,7 @@ sole ns = None
 abbrev pub end_of : Graph → Option ℕ
 end_of g = if is_entered g then None else sole (finals g)
 
--- ---- what a use adds to a graph g, where the graph that is used is inner and ends at the node m
+-- ---- what a use adds to a graph g, if the graph that is used is inner and ends at the node m
 
 -- the role that plays a role of the graph that is used
 abbrev pub player : Use → ℕ → ℕ
@@ -53,7 +53,7 @@ is_inside m x = not (x == 0) && not (x == m)
 abbrev pub inside : Graph → ℕ → List ℕ
 inside inner m = filter (is_inside m) (below (length inner.nodes))
 
--- the node for a node x of the graph that is used, where count nodes are there before: start and end stand at the nodes of the use, and the others follow one another
+-- the node for a node x of the graph that is used, if count nodes are there before: start and end stand at the nodes of the use, and the others follow one another
 abbrev pub stands : (count from to m x : ℕ) → ℕ
 stands count from to m x = if x == 0 then from else if x == m then to else count + (if nat_lt x m then x - 1 else x - 2)
 
@@ -69,11 +69,11 @@ new_variable u v = record { name = inner_name u v.name; kind = v.kind; writers =
 abbrev pub new_node : Graph → Use → ℕ → Node
 new_node inner u x = record { name = inner_name u (node_name inner x); role = player u (role_at (shape inner) x) }
 
--- variables, where this many are there before
+-- variables, if this many are there before
 abbrev pub shifted : (variables : ℕ) → List ℕ → List ℕ
 shifted variables xs = set_of 32 (map (λ x. variables + x) xs)
 
--- an edge that is added, where this many variables and nodes are there before
+-- an edge that is added, if this many variables and nodes are there before
 abbrev pub new_edge : (variables nodes : ℕ) → Use → ℕ → Edge → Edge
 new_edge variables nodes u m e = record {
   name = inner_name u e.name;
@@ -148,7 +148,7 @@ extended part g inner u = with_use_to part g inner u (end_of inner)
 abbrev pub graph_at : List Graph → ℕ → Graph
 graph_at graphs k = get_or graphs k (no_parts [])
 
--- what follows, where there is no fault
+-- what follows, if there is no fault
 abbrev pub followed : {A B : Type 0} → Result A ComposeFault → (A → Result B ComposeFault) → Result B ComposeFault
 followed (Err e) next = Err e
 followed (Ok x) next = next x
@@ -158,7 +158,7 @@ abbrev pub all_used : Name → List Graph → Graph → List Use → Result Grap
 all_used part graphs g [] = Ok g
 all_used part graphs g (u ∷ us) = followed (extended part g (graph_at graphs u.part) u) (λ h. all_used part graphs h us)
 
--- the expansion of a part, where the parts before it expand to these graphs
+-- the expansion of a part, if the parts before it expand to these graphs
 abbrev pub expanded : List Graph → Part → Result Graph ComposeFault
 expanded graphs p = all_used p.graph.name graphs p.graph p.uses
 

@@ -1,4 +1,4 @@
--- What is said of parts that are not expanded.
+-- The text for parts that are not expanded.
 use Rattle.std.specs.Prelude.{ℕ, List, ◌∷◌, ◌++◌, codes}
 use Rattle.sg_model.specs.Names.{Name}
 use Rattle.sg_compose.specs.declared.fault.ComposeFault.{ComposeFault}

@@ -14,11 +14,11 @@ pub record Inset : Type 0 where
   pub nodes : ℕ
   pub edges : ℕ
 
--- the graph that is put in for a use, where this many nodes and edges are there before it
+-- the graph that is put in for a use, if this many nodes and edges are there before it
 abbrev pub inset : List Graph → (nodes edges : ℕ) → Use → Inset
 inset graphs nodes edges u = record { inner = graph_at graphs u.part; from = u.from; to = u.to; nodes = nodes; edges = edges }
 
--- the uses, where this many nodes and edges are there before; start and end of a graph that is put in are no nodes of their own
+-- the uses, if this many nodes and edges are there before; start and end of a graph that is put in are no nodes of their own
 abbrev pub insets : List Graph → (nodes edges : ℕ) → List Use → List Inset
 insets graphs nodes edges [] = []
 insets graphs nodes edges (u ∷ us) =
@@ -59,7 +59,7 @@ pub record Pending (g : Shape) (is : List Inset) (m : ℕ) (w : List ℕ) : Type
   pub unfinished : IsUnfinished put.inner inner
   pub joined : w ≡ prefix ++ renamed put inner
 
--- the initial walks of the expansion h of a part, where the parts before it expand to these graphs: the filled walks, which end at the part's own nodes, and the pending ones
+-- the initial walks of the expansion h of a part, if the parts before it expand to these graphs: the filled walks, which end at the part's own nodes, and the pending ones
 pub record HasWalks (graphs : List Graph) (p : Part) (h : Graph) : Type 0 where
   pub walks : (w : List ℕ) → Walk (shape h) 0 w ↔ (((n : ℕ) × Filled (shape p.graph) (insets_of graphs p) 0 w n) ⊎ Pending (shape p.graph) (insets_of graphs p) 0 w)
   pub ends : (w : List ℕ) (n : ℕ) → Filled (shape p.graph) (insets_of graphs p) 0 w n → (Shapes.end_of (shape h) 0 w ≡ n) × (n < length p.graph.nodes)

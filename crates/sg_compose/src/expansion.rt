@@ -48,7 +48,7 @@ fn expand_all(alloc: Global, parts: &[Part]) -> Result<Graph, ComposeFault>
     }
 }
 
-// The expansion of a part, where those before it expand to these graphs.
+// The expansion of a part, if those before it expand to these graphs.
 fn expand_part(alloc: Global, graphs: &[Graph], part: &Part) -> Result<Graph, ComposeFault>
     requires { IsPart (length graphs.now) part.now }
     ensures { MatchResult result (λ g. expanded graphs.now part.now ≡ Ok g) (Refuses (expanded graphs.now part.now)) }

@@ -4,7 +4,7 @@
 //! A role of the graph plays each of its roles. Its other nodes, its variables and its edges are added after all that is there, with
 //! the use's name and `_` in front of their own names. Parts are put in as they are expanded, so a part that is used may use parts.
 //!
-//! The walks of the expansion are those of the graph, with walks of the parts in the places of their uses.
+//! The walks of the expansion are those of the graph, with walks of the parts for their uses.
 #![tactic(auto)]
 
 mod add;

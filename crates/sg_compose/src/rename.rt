@@ -76,7 +76,7 @@ pub fn players(used: &Use, roles: RoleSet) -> RoleSet
     found
 }
 
-// The variables, where `count` are there before.
+// The variables, if `count` are there before.
 pub fn shifted(count: u8, vars: VarSet) -> VarSet
     requires { AreNumbers (32 - count) vars }
     ensures { result ≡ shifted count vars }
@@ -90,7 +90,7 @@ pub fn shifted(count: u8, vars: VarSet) -> VarSet
     found
 }
 
-// The place of a node, where `count` nodes are there before.
+// The index of a node, if `count` nodes are there before.
 pub fn stands(count: u16, used: &Use, end: NodeId, node: NodeId) -> NodeId
     requires count { count ≤ 256 }
     requires end { 0 < end }

@@ -1,4 +1,4 @@
--- The table of keys, in the words of its list.
+-- The table of keys, in terms of its list.
 use Rattle.std.proofs.Common.{◌≡◌, ◌≢◌, ℕ, zero, suc, ◌<◌, Bool, true, false, cond, ◌&&◌, ◌||◌, ◌⊎◌, List, [], ◌∷◌, ◌++◌, map, length, take, get_or, find, subst, Result, Ok, Err, OnOk, OnErr, if◌then◌else◌, bytes_eq, option_map, Option, Some, None, All, AllPairs, refl, sym, ap, ◌∙◌, inl, inr, arith}
 use Rattle.std.specs.List.{AllByRecursion}
 use Rattle.std.specs.Map.{lookup}

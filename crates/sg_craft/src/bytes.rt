@@ -8,7 +8,7 @@ use byteorder::{BigEndian, ByteOrder};
 use sg_base::{OutOfMemory, Seq, Var};
 use std::alloc::Global;
 
-/// The recorded frame of a number, counted from 1, or `None` where there is no such frame. It takes no memory.
+/// The recorded frame of a number, counted from 1, or `None` if there is no such frame. It takes no memory.
 pub fn frame_at<'f>(recorded: &'f [Seq<u8>], number: u32) -> Option<&'f [u8]>
     ensures { (w : World) → frames w ≡ recorded.now → option_copied result ≡ frame_at w number }
 {
@@ -32,7 +32,7 @@ pub fn first_bytes(bytes: &[u8], count: u32) -> &[u8]
     }
 }
 
-/// The bytes with the lowest bit of the one at an offset flipped, or as they are where there is no such byte.
+/// The bytes with the lowest bit of the one at an offset flipped, or as they are if there is no such byte.
 #[cold]
 pub fn flipped(alloc: Global, bytes: &[u8], at: u32) -> Result<Vec<u8>, OutOfMemory>
     ensures { IfOk result (λ v. v.items ≡ flipped at bytes.now) }

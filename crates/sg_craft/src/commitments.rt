@@ -34,7 +34,7 @@ pub fn committed_to(
     Ok(delta)
 }
 
-/// Puts the commitments in. Of two commitments of one variable, the first counts. A variable that has no place is left out.
+/// Puts the commitments in. Of two commitments of one variable, the first counts. A variable that has no slot is left out.
 pub fn overwrite(current: &mut [Option<[u8; 32]>], delta: &[(Var, [u8; 32])])
     ensures { current.new ≡ with_first_pairs current.old delta.now }
 {

@@ -10,7 +10,7 @@ use sg_base::{OutOfMemory, Role, Seq, Tag};
 use sg_frame::{DecodeFault, Frame, decode};
 use std::alloc::{AllocError, Global};
 
-/// The recorded frame of a number, read, or `None` where there is no such frame or its bytes are no frame.
+/// The recorded frame of a number, read, or `None` if there is no such frame or its bytes are no frame.
 pub fn frame_read(
     alloc: Global,
     frames: &[Seq<u8>],
@@ -28,7 +28,7 @@ pub fn frame_read(
     }
 }
 
-/// The tag for a role of an item, counted from 1; zeros where it isn't there.
+/// The tag for a role of an item, counted from 1; zeros if it isn't there.
 pub fn item_tag(frame: &Option<Frame>, item: u32, role: Role) -> Tag
     ensures { result ≡ unwrap_or (option_and_then (λ f. option_and_then (λ i. value_at i.tags role) (if item == 0 then None else slice_get f.items (item - 1))) frame.now) no_tag }
 {
@@ -56,7 +56,7 @@ fn tag_for(tags: &[(Role, Tag)], role: Role) -> Tag
     Tag([0; 32])
 }
 
-/// The tag of a frame; zeros where it isn't there.
+/// The tag of a frame; zeros if it isn't there.
 pub fn frame_tag(frame: &Option<Frame>) -> Tag
     ensures { result ≡ option_map_or (λ f. f.tag) frame.now no_tag }
 {

@@ -80,7 +80,7 @@ fn craft_item(
     })
 }
 
-// The role that sends along a label; that of the first node where the graph has no such label.
+// The role that sends along a label; that of the first node if the graph has no such label.
 fn sender_of(graph: &Graph, label: Label) -> Role
     ensures { result ≡ sender (shape graph.now) label }
 {

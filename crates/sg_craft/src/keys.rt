@@ -62,7 +62,7 @@ impl PairKeys {
         put_last(&mut self.table, key)
     }
 
-    /// The key of two principals, whichever stands first, or no bytes where they have none. It takes no memory.
+    /// The key of two principals, whichever stands first, or no bytes if they have none. It takes no memory.
     pub fn find(&self, one: &Name, two: &Name) -> &[u8]
         ensures { result.now ≡ pair_key self.now one.now two.now }
     {

@@ -9,7 +9,7 @@ ghost use Rattle.sg_crypt.specs.Model.{filled};
 use sg_base::{Name, Role, facts_of_bytes};
 use std::marker::Model;
 
-/// Who takes part in a session: the version of its frames, 1 or 2, the digest of its graph, sixteen bytes that tell it from other
+/// Who takes part in a session: the version of its frames, 1 or 2, the digest of its graph, sixteen bytes that distinguish it from other
 /// sessions, and the principal of each role in order, 2 to 16.
 #[derive(Debug, Clone, Copy, PartialEq, Eq)]
 pub struct Cast {
@@ -39,7 +39,7 @@ impl Model for Cast {
 }
 
 impl Cast {
-    /// The cast of these parts, or `None` where the version is neither 1 nor 2, or there are fewer than 2 or more than 16 names. It
+    /// The cast of these parts, or `None` if the version is neither 1 nor 2, or there are fewer than 2 or more than 16 names. It
     /// takes no memory.
     pub fn new(version: u8, graph: [u8; 32], nonce: [u8; 16], names: &[Name]) -> Option<Cast>
         ensures found { IsSome result ↔ (IsVersion version × (2 ≤ length names.now) × (length names.now ≤ 16)) }
@@ -76,7 +76,7 @@ impl Cast {
         self.graph
     }
 
-    /// The sixteen bytes that tell the session from others.
+    /// The sixteen bytes that distinguish the session from others.
     pub fn nonce(&self) -> [u8; 16]
         ensures { result ≡ self.now.nonce }
     {
@@ -91,7 +91,7 @@ impl Cast {
         self.count
     }
 
-    /// The principal of a role, or `None` where the role isn't below the count. It takes no memory.
+    /// The principal of a role, or `None` if the role isn't below the count. It takes no memory.
     pub fn of(&self, role: Role) -> Option<Name>
         ensures { result ≡ slice_get self.now.names role }
     {

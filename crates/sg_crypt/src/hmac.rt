@@ -17,7 +17,7 @@ pub fn tag(key: &[u8], head: &[u8], rest: &[u8]) -> Tag
     tag_from(inner, outer, head, rest)
 }
 
-// The tag of `head` followed by `rest`, where the hashers hold the key's block under each pad.
+// The tag of `head` followed by `rest`, if the hashers hold the key's block under each pad.
 pub(crate) fn tag_from(mut inner: Sha256, mut outer: Sha256, head: &[u8], rest: &[u8]) -> Tag
     ensures { (a b : List ℕ) → Holds256 inner a → Holds256 outer b → result ≡ real (b ++ real (a ++ (head.now ++ rest.now))) }
 {

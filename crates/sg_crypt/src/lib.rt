@@ -3,7 +3,7 @@
 //! Two principals share a key of 32 bytes; what one tags under it, by HMAC (RFC 2104) with SHA-256 (FIPS 180-4), the other can
 //! check. A session has a version, 1 or 2: version 2 keeps the first sixteen bytes of each tag, and zeros for the others. What is
 //! hashed is a graph, a session and an opening of a commitment; what is tagged is an item and a frame. Each of these texts begins with
-//! a word of its own kind and version, so none is taken for another. Hashes and tags are fed piece by piece and take no memory.
+//! a prefix of its own kind and version, so none is taken for another. Hashes and tags are fed piece by piece and take no memory.
 #![tactic(auto)]
 
 mod cast;

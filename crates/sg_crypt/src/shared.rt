@@ -69,7 +69,7 @@ impl SharedCast {
         self.get().version()
     }
 
-    /// The principal of a role, or `None` where the role isn't below the count. It takes no memory.
+    /// The principal of a role, or `None` if the role isn't below the count. It takes no memory.
     pub fn of(&self, role: Role) -> Option<Name>
         ensures { result ≡ slice_get self.now.names role }
     {

@@ -127,13 +127,13 @@ fn put_commitment(out: &mut ByteOut, commitment: &Option<[u8; 32]>) -> Result<()
     }
 }
 
-/// The word that the text of a graph begins with.
+/// The prefix of the text of a graph.
 pub const GRAPH: &[u8] = b"sg-graph-1";
 
-/// The word that the text of a commitment begins with.
+/// The prefix of the text of a commitment.
 pub const COMMIT: &[u8] = b"sg-commit-1";
 
-/// The word that the text of a session begins with.
+/// The prefix of the text of a session.
 pub fn session_word(version: u8) -> &'static [u8]
     ensures { result.now ≡ (if version == 2 then codes "sg-session-2" else codes "sg-session-1") }
 {
@@ -144,7 +144,7 @@ pub fn session_word(version: u8) -> &'static [u8]
     }
 }
 
-/// The word that the text of an item begins with.
+/// The prefix of the text of an item.
 pub fn item_word(version: u8) -> &'static [u8]
     ensures { result.now ≡ (if version == 2 then codes "sg-item-2" else codes "sg-item-1") }
 {
@@ -155,7 +155,7 @@ pub fn item_word(version: u8) -> &'static [u8]
     }
 }
 
-/// The word that the text of a frame begins with.
+/// The prefix of the text of a frame.
 pub fn frame_word(version: u8) -> &'static [u8]
     ensures { result.now ≡ (if version == 2 then codes "sg-frame-2" else codes "sg-frame-1") }
 {

@@ -66,7 +66,7 @@ fresh me js k is all = by (shared me k) (of_two me k)
     by None h = tt
     by (Some p) h = rw (differ p.name me (other p.name h)) (among me p.name k h js all)
 
--- the pair at a place has another principal than those before it
+-- the pair at an index has another principal than those before it
 pub fresh_at : (me : Name) (keys : List PairKey) (i : ℕ) (k : PairKey) (ring : Keyring) → ring ≡ keyring_of (take i keys) me → ArePairs keys → i < length keys → k ≡ get_or keys i k → IfSome (shared me k) (λ p. has_text p.name (names_of ring) ≡ false)
 fresh_at me keys i k ring is pairs within at = subst (λ (r : Keyring). IfSome (shared me k) (λ p. has_text p.name (names_of r) ≡ false)) (sym is)
     (fresh me (take i keys) k (subst IsPairKey (sym at) (pairs.each i k within)) (recursion_from_All (λ j. AreOfTwoPairs j k) (take i keys) earlier))
@@ -76,7 +76,7 @@ fresh_at me keys i k ring is pairs within at = subst (λ (r : Keyring). IfSome (
         let few : n < i = omega (arith, h, length-take i keys) in
         subst (λ j. AreOfTwoPairs j k) (sym (get_or-take i keys n d few)) (subst (AreOfTwoPairs (get_or keys n d)) (same_at keys i d k within ∙ sym at) (pairs.apart n i d few within))
 
--- the keyring with the key of the pair at a place, where the principal is one of it
+-- the keyring with the key of the pair at an index, if the principal is one of it
 pub ring_more : (me : Name) (keys : List PairKey) (i : ℕ) (k : PairKey) (old new : Keyring) → old ≡ keyring_of (take i keys) me → i < length keys → k ≡ get_or keys i k
     → new ≡ record old { peers = old.peers ++ filter_map (shared me) (k ∷ []) } → new ≡ keyring_of (take (i + 1) keys) me
 ring_more me keys i k old new is within at e =

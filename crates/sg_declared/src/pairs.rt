@@ -28,7 +28,7 @@ pub fn keyring(alloc: Global, me: Name, keys: &[PairKey]) -> Result<Keyring, Out
     Ok(ring)
 }
 
-// Adds the pair's key, where the principal is one of it.
+// Adds the pair's key, if the principal is one of it.
 fn add_shared(
     alloc: Global,
     ring: &mut Keyring,
@@ -48,7 +48,7 @@ fn add_shared(
     }
 }
 
-// The other one of the pair, where the principal is one of it.
+// The other one of the pair, if the principal is one of it.
 fn other_of(me: &Name, pair: &PairKey) -> Option<Name>
     ensures { option_map (λ n. peer n pair.now.key) result ≡ shared me.now pair.now }
 {

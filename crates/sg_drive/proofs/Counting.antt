@@ -1,4 +1,4 @@
--- The counts of what is told, one step more.
+-- The counts of what is reported, one step more.
 use Rattle.std.proofs.Common.{◌≡◌, ℕ, zero, suc, ◌+◌, ◌<◌, ◌≤◌, Bool, true, false, cond, ◌||◌, if◌then◌else◌, List, [], ◌∷◌, ◌++◌, length, take, filter, filter_map, slice_get, Option, Some, None, option_map, refl, sym, ap, ◌∙◌, subst, inl, inr, arith, append-nil, length-append}
 use Rattle.std.specs.List.{cons_option, list_any}
 use Rattle.std.specs.Option.{option_map_or}
@@ -50,7 +50,7 @@ complete_more g ts t = ap firsts (filter_map-append (completed g) ts (t ∷ []))
 
 -- ---- all counts
 
--- with what came of one step more
+-- with the outcome of one step more
 pub counts_more : (g : Graph) (ts : List Reported) (t : Reported) → counts g (ts ++ t ∷ []) ≡ with_reported g t (counts g ts)
 counts_more g ts t = λ i. record {
   sent = count_more is_sent ts t i;
@@ -60,7 +60,7 @@ counts_more g ts t = λ i. record {
   complete = complete_more g ts t i;
 }
 
--- where few are told, each count can rise
+-- if few are reported, each count can rise
 pub can_rise : (g : Graph) (ts : List Reported) (c : Counts) → c ≡ counts g ts → length ts < most_steps → CanRise c
 can_rise g ts c e l = subst CanRise (sym e) (record {
   sent = (let f = count_few is_sent ts in omega (arith, f, l));

@@ -95,7 +95,7 @@ nil_of (x ∷ xs) e = absurd (let z : length (x ∷ xs) ≡ 0 = eqb-true (length
 pub none_of : (m : Machine) (b : Bool) → b ≡ (length m.going.pending == 0) → b ≡ true → m.going.pending ≡ []
 none_of m b e t = nil_of m.going.pending (sym e ∙ t)
 
--- a turn that is stopped, where a frame is pending, stops the turns
+-- a turn that is stopped, if a frame is pending, stops the turns
 pub stops_turns : (m m1 : Machine) (i : ℕ) (e : GenerateFault) → m1 ≡ turned m i → 0 < length m1.going.pending → IsStopped (turn m1.seed m1.graph m1.going).replay e → IsTurnFault m e
 stops_turns m m1 i e q some stopped count over =
     turn_stopped m.seed m.graph i count m.going e
@@ -133,7 +133,7 @@ pub groups_stop : {V : Type 0} (m m1 : Machine) (first n : ℕ) (r : Result V Ge
 groups_stop m m1 first n (Ok v) q t = tt
 groups_stop m m1 first n (Err x) q t = turn_fault m m1 first n x q t
 
--- where at most sixteen sessions begin, what is left for their frames is below what the turns may use up
+-- if at most sixteen sessions begin, what is left for their frames is below what the turns may use up
 pub group_begun : (m m1 : Machine) (first n : ℕ) → HasBudget 0 first m → first + n ≤ m.sessions → n ≤ 16 → m1 ≡ begun_so_far m first n → HasBudget 1280 (first + n) m1
 group_begun m m1 first n b l few q = subst (HasBudget 1280 (first + n)) (sym q) (more_budget (0 + 80 * n) 1280 (first + n) (begun_so_far m first n) (omega (arith, few)) (begin_all_keeps m first n 0 m.going b l))
 
@@ -165,7 +165,7 @@ begun_after sessions n = min sessions (16 * n)
 begun_more : (sessions n : ℕ) → 16 * n ≤ sessions → 16 * n + size_at sessions n ≡ begun_after sessions (n + 1)
 begun_more sessions n l = omega (arith, l)
 
--- a group more, where all before it were whole
+-- a group more, if all before it were whole
 pub one_group : (m : Machine) (n : ℕ) (y z : Going) → 16 * n ≤ m.sessions → HasBudget 0 (begun_after m.sessions n) (at m y) → IsGroup m.seed m.graph (16 * n) (size_at m.sessions n) y z → HasBudget 0 (begun_after m.sessions (n + 1)) (at m z)
 one_group m n y z l b a =
     let whole : begun_after m.sessions n ≡ 16 * n = omega (arith, l) in

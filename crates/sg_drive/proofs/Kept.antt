@@ -50,7 +50,7 @@ accepted_is n bs f e rd a = by (first_some (rows real n f)) (sym (ap (verdict_on
     by None h = cc
     by (Some why) h = absurd (cc)
 
--- the sessions at a node that have this identifier were told of this time
+-- the sessions at a node that have this identifier are at this time
 abbrev pub WereTold : Graph → Replay → (session node t : ℕ) → Type 0
 WereTold g r session node t = (p : Past) → past_of (run_of r) (player_at g node) ≡ Some p → (s : Session) → session_with (node_of p).live (sid_at real r.schedule session) ≡ Some s → t ≤ time s
 
@@ -102,7 +102,7 @@ module _ (m : Machine) (begun left : ℕ) (x : Going) (ways : List OnItsWay) (h 
   after = spend_step left begun (at m x) ways h (omega (arith, enough)) step acted refl refl (let w = written_few m.graph is_graph label in omega (arith, w)) refl
       (own_next m.graph few x.replay h.run role has_role step act good is) (ways_next m.graph few x.replay h.run role has_role step act good is is_graph ways h.each)
 
-  -- what came of it
+  -- the outcome
   sent : (a : Answer) → answer real (node_of past) act ≡ a → HasBudget left begun (at m (with_frame session label (number_sent (Some (reported_answer (frame_number (run_of x.replay).log) a))) acted))
   sent (Sends e to f) q =
       let s : IsOwnSent real real_hash m.graph few role (omega (arith, has_role, few)) (node_of past) (h.run.nodes role has_role).2 sid label f = own_sent real real_hash m.graph few role (omega (arith, has_role, few)) (node_of past) (h.run.nodes role has_role).2 sid label values confounders good e to f q in

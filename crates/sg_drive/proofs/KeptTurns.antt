@@ -61,7 +61,7 @@ module _ (m : Machine) (begun : ℕ) where
       budget_of left left begun (at m (taking st x)) ways (omega arith)
       (spend_step left begun (at m x) ways h enough st (taking st x) refl refl (omega arith) refl (own_next m.graph few x.replay h.run role has st c tt is) (ways_next m.graph few x.replay h.run role has st c tt is graph ways h.each))
 
-  -- a session goes on where a frame of this time was accepted
+  -- a session goes on if a frame of this time was accepted
   on_keeps : (left : ℕ) (x : Going) (ways : List OnItsWay) → HasLeft left begun (at m x) ways → (session node t : ℕ) → session < m.sessions → sum_by steps_of ways + steps_after t ≤ left
       → WereTold m.graph x.replay session node t → HasBudget left begun (at m (goes_on_by m.seed m.graph session node t (leaving_from m.graph node) x))
   on_keeps zero x ways h session node t there enough told = absurd (omega (arith, enough))
@@ -77,7 +77,7 @@ module _ (m : Machine) (begun : ℕ) where
 
 -- ---- a delivery
 
--- what is told anew of the pending frames once the frame was accepted, and covers what may follow
+-- what holds anew of the pending frames once the frame was accepted, and covers what may follow
 abbrev pub Gains : (m : Machine) (begun left : ℕ) (ways : List OnItsWay) (o : OnItsWay) → Type 0
 Gains m begun left ways o = (y : Going) → IsOnItsWay m.graph y.replay (record o { taken = true }) → o.taken ≡ false → HasLeft left begun (at m y) ways
     → (anew : List OnItsWay) × HasLeft left begun (at m y) anew × (sum_by steps_of anew + steps_after o.time ≤ left)
@@ -119,7 +119,7 @@ module _ (m : Machine) (begun left : ℕ) (x : Going) (ways : List OnItsWay) (h 
   after = spend_step left begun (at m x) ways h covered step given refl refl (omega arith) refl (own_next m.graph few x.replay h.run role has_role step (Deliver on.bytes) own_bytes is)
       (ways_next m.graph few x.replay h.run role has_role step (Deliver on.bytes) own_bytes is is_graph ways h.each)
 
-  -- where it was accepted, it was not before, and the sessions for which it was are past it
+  -- if it was accepted, it was not before, and the sessions for which it was are past it
   spent_now : answer real (node_of past) (Deliver on.bytes) ≡ Happened (receipt on.frame) → IsSpentBy (run_of given.replay) role on.frame
   spent_now a = next_accepted real real_hash m.graph few (run_of x.replay) (run_of given.replay) h.run (next_number x.replay) role has_role (Deliver on.bytes) own_bytes (run_is m.graph few x.replay h.run role has_role step (Deliver on.bytes) own_bytes is)
       on.bytes on.frame (receipt on.frame) refl on.reads a

@@ -91,7 +91,7 @@ module _ (left begun : ℕ) (m : Machine) (ways : List OnItsWay) (h : HasLeft (s
       }
 
 module _ (left begun : ℕ) (m : Machine) (ways : List OnItsWay) (h : HasLeft left begun m ways) where
-  -- less is left, where it still covers
+  -- less is left, if it still covers
   pub fewer : (less : ℕ) → less ≤ left → sum_by steps_of ways ≤ less → HasLeft less begun m ways
   fewer less l covered =
       let a = h.steps in
@@ -273,7 +273,7 @@ some_steps g sessions o t = let c = t.count in let z = zero_or (o.taken) (steps_
     zero_or : (b : Bool) (n : ℕ) → 0 ≤ (if b then 0 else n)
     zero_or b n = omega arith
 
--- so where nothing is left, none is pending
+-- so if nothing is left, none is pending
 pub none_left : (begun : ℕ) (m : Machine) → HasBudget 0 begun m → m.going.pending ≡ []
 none_left begun m b = by b.ways b.has.pending (subst (λ (ps : List Pending). AllByRecursion (IsThere m.graph m.sessions) ps) (sym b.has.pending) b.has.there) (let c = b.has.covers in let w = b.within in omega (arith, c, w))
   where
@@ -281,7 +281,7 @@ none_left begun m b = by b.ways b.has.pending (subst (λ (ps : List Pending). Al
     by [] e a s = sym e
     by (o ∷ os) e a s = (let some = some_steps m.graph m.sessions o a.0 in let c = sum_cons o os in absurd (omega (arith, some, c, s)))
 
--- and where none is pending, nothing need be left
+-- and if none is pending, nothing need be left
 pub none_pending : (most begun : ℕ) (m : Machine) → HasBudget most begun m → m.going.pending ≡ [] → HasBudget 0 begun m
 none_pending most begun m b e = by b.ways (b.has.pending ∙ e) b.has
   where

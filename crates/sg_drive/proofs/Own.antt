@@ -102,7 +102,7 @@ module _ (sha : Hash) (hash : IsHash sha) (g : Graph) (few : length g.roles ≤ 
 
     -- ---- what an act sends
 
-    -- the session that sent, and the frame: of the session and of the label's receiver, one tick after what the session was told, recorded as bytes that are read as it
+    -- the session that sent, and the frame: of the session and of the label's receiver, one tick after the time of the session, recorded as bytes that are read as it
     pub record IsOwnSent (sid : List ℕ) (label : ℕ) (f : Frame) : Type 0 where
       pub x : Session
       pub found : session_with n.live sid ≡ Some x

@@ -33,7 +33,7 @@ other i j l u e =
 pub player_same : (i j : ℕ) → i < 1000 → j < 1000 → player i ≡ player j → i ≡ j
 player_same i j l u e = let same : decimal i ≡ decimal j = cc in decimal_injective i j (omega arith) (omega arith) same
 
--- the principal of a role stands at its place
+-- the principal of a role stands at its index
 get_or_row : (k n r : ℕ) → r < n → get_or (map player (range_from k n)) r [] ≡ player (k + r)
 get_or_row k zero r l = absurd (omega arith)
 get_or_row k (suc n) zero l = ap player (let z : k ≡ k + 0 = omega arith in z)

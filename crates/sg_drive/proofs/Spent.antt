@@ -52,7 +52,7 @@ transcript-extended s e = flat_map-append items_of s.exchanges (e ∷ []) ∙ ap
 abbrev time_in : Option Item → ℕ
 time_in o = unwrap_or (option_map (λ (i : Item). i.time) o) 0
 
--- after a frame with items a session is told of its time
+-- after a frame with items a session is at its time
 pub time_took : (q : Item → Bool) (s : Session) (f : Frame) → option_map_or q (last f.items) false ≡ true → time (extended s (Took f)) ≡ last_time f.items
 time_took q s f h = by (last f.items) refl h
   where
@@ -77,7 +77,7 @@ last_rises q k b (i ∷ is) h t = elim (cases_Bool (nat_le i.time b)) [
     more [] a h t rest = a
     more (j ∷ js) a h t rest = let r : i.time < last_time (j ∷ js) = rest h t in let s : last_time (i ∷ j ∷ js) ≡ last_time (j ∷ js) = refl in omega (arith, a, r, s)
 
--- a session is past a frame where what was read is accepted
+-- a session is past a frame if what was read is accepted
 abbrev PastIf : Hash → Node → List ℕ → Frame → Session → Type 0
 PastIf sha n bs f s = (g : Frame) → read bs ≡ Ok g → first_some (rows sha n g) ≡ None → IsPast f s
 
@@ -109,7 +109,7 @@ module _ (sha : Hash) (hash : IsHash sha) (n : Node) (o : IsOrderly sha n) where
       each [] h = tt
       each (s ∷ ss) h = let b = and_parts (has_joined n.joins s.sid s.role) (list_all (λ (s : Session). has_joined n.joins s.sid s.role) ss) h in (b.0, each ss b.1)
 
-  -- where no row holds, a pair that a frame joins is new
+  -- if no row holds, a pair that a frame joins is new
   new_pair : (f : Frame) (c : Cast) → first_some (join_rows sha n f c) ≡ None → has_joined n.joins f.sid f.receiver ≡ false
   new_pair f c h = by (program_for n.programs c.graph f.receiver) h
     where
@@ -119,7 +119,7 @@ module _ (sha : Hash) (hash : IsHash sha) (n : Node) (o : IsOrderly sha n) where
           let rs : List (Option Refusal) = rows_of_join sha n f c p in
           row_none (has_joined n.joins f.sid f.receiver) _ (fourth (head_of rs) (head_of (tail_of rs)) (head_of (tail_of (tail_of rs))) (head_of (tail_of (tail_of (tail_of rs)))) (tail_of (tail_of (tail_of (tail_of rs)))) e)
 
-  -- where a frame that continues is taken, its time is above that of the session
+  -- if a frame that continues is taken, its time is above that of the session
   later : (f : Frame) (s : Session) → NextTaken sha n f s → (time s < last_time f.items) × (time (extended s (Took f)) ≡ last_time f.items)
   later f s t =
       let rs : Rows sha n.keys t.p s f = rows_of sha n.keys t.p s f t.rows in
@@ -216,7 +216,7 @@ module _ (sha : Hash) (hash : IsHash sha) (n : Node) (o : IsOrderly sha n) (f : 
       let b = and_parts (has_joined n.joins s.sid s.role) (list_all (λ (s : Session). has_joined n.joins s.sid s.role) ss) h in
       (λ es er. absurd (let z : false ≡ true = sym new ∙ (ap (λ x. has_joined n.joins x f.receiver) (sym es) ∙ ap (λ x. has_joined n.joins s.sid x) (sym er) ∙ b.0) in cc), none_live new ss b.1)
 
-  -- where the first session that the frame is for took it, all of the pair are past it
+  -- if the first session that the frame is for took it, all of the pair are past it
   replaced : (s : Session) → time (extended s (Took f)) ≡ last_time f.items → (ss : List Session) → AllDiffer ss → find (is_for f) ss ≡ Some s → AllByRecursion (IsPast f) (replace (is_for f) (λ z. still n.programs (extended z (Took f))) ss)
   replaced s now [] d q = absurd (cc)
   replaced s now (x ∷ xs) d q = elim (cases_Bool (is_for f x)) [
@@ -238,7 +238,7 @@ module _ (sha : Hash) (hash : IsHash sha) (n : Node) (o : IsOrderly sha n) (f : 
       role_of : (z : Session) → is_for f z ≡ true → z.role ≡ f.receiver
       role_of z e = eqb-true z.role f.receiver (and_parts (bytes_eq z.sid f.sid) (z.role == f.receiver) (and_parts (bytes_eq z.sid f.sid && (z.role == f.receiver)) (z.cast.version == f.version) e).0).1
 
-  -- where no row holds for a frame that joins, it has items
+  -- if no row holds for a frame that joins, it has items
   join_has_items : (c : Cast) → first_some (join_rows sha n f c) ≡ None → option_map_or (λ (i : Item). i.role == f.sender) (last f.items) false ≡ true
   join_has_items c h = by (program_for n.programs c.graph f.receiver) h
     where

@@ -1,4 +1,4 @@
--- One step more of a replay, as a call of a principal: what is told of it, and what of the frames that are on their way.
+-- One step more of a replay, as a call of a principal: what is reported of it, and what of the frames that are on their way.
 use Rattle.std.proofs.Common.{◌≡◌, ℕ, zero, suc, ◌<◌, ◌≤◌, true, List, [], ◌∷◌, ◌++◌, length, map, get_or, Some, sym, ap, ◌∙◌, append_assoc, append-nil, arith}
 use Rattle.std.specs.List.{AllByRecursion}
 use Rattle.std.proofs.lemmas.List.Elements.{recursion_from_All}
@@ -23,7 +23,7 @@ use Rattle.sg_drive.specs.Budget.{IsOnItsWay, OnItsWay}
 use Rattle.sg_drive.specs.Own.{IsOwnCall, IsOwnRun, IsSpentBy}
 use Rattle.sg_drive.specs.Setup.{player}
 
--- ---- what is told
+-- ---- what is reported
 
 told_more : (before log : List Logged) (l : Logged) → reported_after before (log ++ l ∷ []) ≡ reported_after before log ++ reported_outcome (frame_number (before ++ log)) l.outcome ∷ []
 told_more before [] l = ap (λ (z : List Logged). reported_outcome (frame_number z) l.outcome ∷ []) (sym (append-nil before))
@@ -70,7 +70,7 @@ module _ (g : Graph) (few : length g.roles ≤ 16) (r : Replay) (own : IsOwnRun 
     taken = λ t. next_spent real real_hash g few (run_of r) (run_of (with_taken r st)) own (next_number r) role there c good run_is (receiver (shape g) o.pending.label) h w.frame (w.taken t);
   }
 
-  -- and where its receiver takes it no more, it is taken
+  -- and if its receiver takes it no more, it is taken
   pub way_spent : (o : OnItsWay) (w : IsOnItsWay g r o) → IsSpentBy (run_of (with_taken r st)) (receiver (shape g) o.pending.label) w.frame → IsOnItsWay g (with_taken r st) (record o { taken = true })
   way_spent o w spent = record {
     bytes = w.bytes;

@@ -1,4 +1,4 @@
--- Turns of a group: nothing changes where no frame is pending, so there is one end, and what stops before it stops the whole.
+-- Turns of a group: nothing changes if no frame is pending, so there is one end, and what stops before it stops the whole.
 use Rattle.std.proofs.Common.{◌≡◌, ℕ, zero, suc, ◌+◌, ◌-◌, ◌*◌, ◌%◌, ◌<◌, ◌≤◌, nat_le, inl, inr, List, [], length, min, slice_get, refl, sym, ap, ◌∙◌, subst, arith}
 use Rattle.std.proofs.lemmas.Bool.{cases_Bool}
 use Rattle.std.proofs.lemmas.Bool.Decides.{nat_tests}
@@ -12,7 +12,7 @@ use Rattle.sg_drive.specs.declared.fault.GenerateFault.{GenerateFault}
 use Rattle.sg_drive.proofs.Extends.{Goes, extends_both, extends_itself, goes_turn, stopped_more}
 
 module _ (seed : ℕ) (g : Graph) where
-  -- where no frame is pending, a turn changes nothing
+  -- if no frame is pending, a turn changes nothing
   pub turn_none : (x : Going) → x.pending ≡ [] → turn seed g x ≡ x
   turn_none x h = let index : ℕ = draw seed x.draws % length x.pending in ap (λ (ps : List Pending). take_out seed g index (slice_get ps index) x) h
 
@@ -41,7 +41,7 @@ module _ (seed : ℕ) (g : Graph) where
     | inr e ↦ (let above : m < n = grind (arith, nat_tests) in let same : n ≡ suc m = omega (arith, l, above) in subst (λ z. Goes (turns z seed g x) (turns (suc m) seed g x)) (sym same) (extends_itself (turns (suc m) seed g x).replay))
   ]
 
-  -- a turn that is stopped, where a frame is pending before it, stops the whole
+  -- a turn that is stopped, if a frame is pending before it, stops the whole
   pub turn_stopped : (i n : ℕ) (x : Going) (e : GenerateFault) → ((turns i seed g x).pending ≡ [] → ⊥) → (turns n seed g x).pending ≡ [] → IsStopped (turn seed g (turns i seed g x)).replay e → IsStopped (turns n seed g x).replay e
   turn_stopped i n x e some over stopped = elim (cases_Bool (nat_le n i)) [
     | inl q ↦ absurd (some (ap (λ (z : Going). z.pending) (later_than n i x over (grind (arith, nat_tests))) ∙ over))

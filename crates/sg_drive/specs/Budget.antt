@@ -19,7 +19,7 @@ use Rattle.sg_drive.specs.Setup.{setup}
 
 -- ---- frames on their way
 
--- the steps that may follow where a frame of this time is accepted: an act and four deliveries for each later frame up to time 16, and an abandonment
+-- the steps that may follow if a frame of this time is accepted: an act and four deliveries for each later frame up to time 16, and an abandonment
 abbrev pub steps_after : ℕ → ℕ
 steps_after time = 5 * (16 - time) + 1
 
@@ -29,11 +29,11 @@ pub record OnItsWay : Type 0 where
   pub time : ℕ
   pub taken : Bool
 
--- the steps that a pending frame may bring: its deliveries, and where it was not accepted what follows
+-- the steps that a pending frame may bring: its deliveries, and if it was not accepted what follows
 abbrev pub steps_of : OnItsWay → ℕ
 steps_of o = (4 - o.pending.count) + (if o.taken then 0 else steps_after o.time)
 
--- the frame is recorded with this time, for the session and the receiver of its label, and where it is said to be taken its receiver takes it no more
+-- the frame is recorded with this time, for the session and the receiver of its label, and if it is said to be taken its receiver takes it no more
 pub record IsOnItsWay (g : Graph) (r : Replay) (o : OnItsWay) : Type 0 where
   pub bytes : List ℕ
   pub frame : Frame
@@ -46,7 +46,7 @@ pub record IsOnItsWay (g : Graph) (r : Replay) (o : OnItsWay) : Type 0 where
 
 -- ---- what is left
 
--- The pending frames are as above and bring at most `left` steps, where `begun` sessions have begun.
+-- The pending frames are as above and bring at most `left` steps, if `begun` sessions have begun.
 -- What was taken, drawn and lost leaves so much that there are at most 82 steps for each session
 pub record HasLeft (left begun : ℕ) (m : Machine) (ways : List OnItsWay) : Type 0 where
   pub compiled : AreCompiled real (m.graph ∷ []) m.going.replay.programs

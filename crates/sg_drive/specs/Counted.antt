@@ -1,4 +1,4 @@
--- How the counts grow with what came of one more step.
+-- How the counts grow with the outcome of one more step.
 use Rattle.std.specs.Prelude.{ℕ, ◌+◌, ◌<◌, if◌then◌else◌, List, [], ◌∷◌, ◌++◌}
 use Rattle.std.specs.Option.{option_map_or}
 use Rattle.sg_model.specs.Limits.{most_steps}
@@ -12,7 +12,7 @@ use Rattle.sg_drive.specs.Summary.{Counts, completed, completed_by, is_abandoned
 abbrev pub with_session : List ℕ → List (List ℕ) → List (List ℕ)
 with_session sid sids = if has_text sid sids then sids else sids ++ sid ∷ []
 
--- the counts with what came of one more step
+-- the counts with the outcome of one more step
 abbrev pub with_reported : Graph → Reported → Counts → Counts
 with_reported g t c = record {
   sent = if is_sent t then c.sent + 1 else c.sent;

@@ -11,6 +11,6 @@ pub record Drawing : Type 0 where
   pub seed : ℕ
   pub count : ℕ
 
--- a number alone, where it is one of these
+-- a number alone, if it is one of these
 abbrev pub if_in : ℕ → List ℕ → List ℕ
 if_in x xs = if is_in x xs then x ∷ [] else []

@@ -34,12 +34,12 @@ abbrev pub values_drawn : (seed i : ℕ) → Graph → (variables : List ℕ) �
 values_drawn seed i g [] = []
 values_drawn seed i g (x ∷ xs) = (x, value_drawn (kind_of g x) (draw seed i)) ∷ values_drawn seed (i + 1) g xs
 
--- the number of the frame that was sent, where one was
+-- the number of the frame that was sent, if one was
 abbrev pub number_sent : Option Reported → Option ℕ
 number_sent (Some (Sends e to n)) = Some n
 number_sent other = None
 
--- the frame of this number, where there is one, goes to the list's end with count 0
+-- the frame of this number, if there is one, goes to the list's end with count 0
 abbrev pub with_frame : (session label : ℕ) → (frame : Option ℕ) → Going → Going
 with_frame session label None x = x
 with_frame session label (Some n) x = adding (record { frame = n; session = session; label = label; count = 0 } ∷ []) x
@@ -53,7 +53,7 @@ abbrev pub play_along : (seed : ℕ) → Graph → (session node label : ℕ) �
 play_along seed g session node label x =
     with_sent session label (taking (ActStep (player_at g node) session label (values_drawn seed x.draws g (writes g label))) (drawing (length (writes g label)) x))
 
--- where these labels leave the node, a draw chooses one; where none do, nothing is played
+-- if these labels leave the node, a draw chooses one; if none do, nothing is played
 abbrev pub play_by : (seed : ℕ) → Graph → (session node : ℕ) → (labels : List ℕ) → Going → Going
 play_by seed g session node [] x = x
 play_by seed g session node (e ∷ es) x = play_along seed g session node (chosen (e ∷ es) (draw seed x.draws)) (drawing 1 x)
@@ -69,21 +69,21 @@ abbrev pub goes_on_by : (seed : ℕ) → Graph → (session node time : ℕ) →
 goes_on_by seed g session node time [] x = x
 goes_on_by seed g session node time (e ∷ es) x = if nat_lt time 16 then play seed g session node x else taking (AbandonStep (player_at g node) session) x
 
--- the time of the frame that was accepted, where a delivery was
+-- the time of the frame that was accepted, if a delivery was
 abbrev pub accepted_time : Option Reported → Option ℕ
 accepted_time (Some (Happened (Received sid r label time values joins))) = Some time
 accepted_time other = None
 
--- where a frame of this time was accepted, its session goes on at the node to which its label leads
+-- if a frame of this time was accepted, its session goes on at the node to which its label leads
 abbrev pub goes_on : (seed : ℕ) → Graph → Pending → (time : Option ℕ) → Going → Going
 goes_on seed g p None x = x
 goes_on seed g p (Some time) x = goes_on_by seed g p.session (target (shape g) p.label) time (leaving_from g (target (shape g) p.label)) x
 
--- and so by what came of the last step
+-- and so by the outcome of the last step
 abbrev pub gone_on : (seed : ℕ) → Graph → Pending → Going → Going
 gone_on seed g p x = goes_on seed g p (accepted_time (came_last x)) x
 
--- a frame is delivered to the principal to whom its label leads, and the session goes on where it was accepted
+-- a frame is delivered to the principal to whom its label leads, and the session goes on if it was accepted
 abbrev pub deliver : (seed : ℕ) → Graph → Pending → Going → Going
 deliver seed g p x = gone_on seed g p (taking (DeliverStep (player (receiver (shape g) p.label)) (Whole p.frame)) x)
 
@@ -114,12 +114,12 @@ meet seed g p Delayed x = put_back p x
 meet seed g p Repeated x = deliver seed g p (put_back p x)
 meet seed g p Lost x = record x { lost = x.lost + 1 }
 
--- the frame at an index, where there is one, is taken out, and the next draw but one, modulo 16, decides
+-- the frame at an index, if there is one, is taken out, and the next draw but one, modulo 16, decides
 abbrev pub take_out : (seed : ℕ) → Graph → (index : ℕ) → Option Pending → Going → Going
 take_out seed g index None x = x
 take_out seed g index (Some p) x = meet seed g p (fate_of p.count (draw seed (x.draws + 1) % 16)) (without index (drawing 2 x))
 
--- a turn: a draw gives the index, modulo the length of the list. Nothing is drawn where no frame is pending
+-- a turn: a draw gives the index, modulo the length of the list. Nothing is drawn if no frame is pending
 abbrev pub turn : (seed : ℕ) → Graph → Going → Going
 turn seed g x = let index = draw seed x.draws % length x.pending in take_out seed g index (slice_get x.pending index) x
 

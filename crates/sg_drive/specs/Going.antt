@@ -42,6 +42,6 @@ adding frames x = record x { pending = x.pending ++ frames }
 abbrev pub without : (index : ℕ) → Going → Going
 without index x = record x { pending = remove x.pending index }
 
--- what came of the last step, by the run of all
+-- the outcome of the last step, by the run of all
 abbrev pub came_last : Going → Option Reported
 came_last x = last (reported_log (run_of x.replay).log)

@@ -33,7 +33,7 @@ pub record IsOrderly (sha : Hash) (n : Node) : Type 0 where
 
 -- ---- frames
 
--- a session of the frame's pair was told of the frame's time or a later one
+-- a session of the frame's pair is at the frame's time or a later one
 abbrev pub IsPast : Frame → Session → Type 0
 IsPast f s = s.sid ≡ f.sid → s.role ≡ f.receiver → last_time f.items ≤ time s
 

@@ -12,7 +12,7 @@ use Rattle.sg_world.specs.Account.{account}
 use Rattle.sg_world.specs.Replay.{Replay, run_of}
 use Rattle.sg_world.specs.Walked.{WalksAreMade}
 
--- ---- what came of a step
+-- ---- the outcome of a step
 
 -- a frame was sent
 abbrev pub is_sent : Reported → Bool
@@ -63,7 +63,7 @@ pub record Counts : Type 0 where
   pub abandoned : ℕ
   pub complete : List (List ℕ)
 
--- the counts of what is told
+-- the counts of what is reported
 abbrev pub counts : Graph → List Reported → Counts
 counts g told = record {
   sent = count is_sent told;
@@ -94,11 +94,11 @@ count_lines sessions lost c =
     ++ number_line (codes "abandoned") c.abandoned
     ++ number_line (codes "complete") (length c.complete)
 
--- the text with the number of walks, which stands there where both premises hold
+-- the text with the number of walks, which stands there if both assumptions hold
 abbrev pub summary_text : (sessions lost : ℕ) → Counts → Account → (walks : ℕ) → List ℕ
 summary_text sessions lost c a walks = count_lines sessions lost c ++ premise_lines a.forged a.collision_free ++ (if premises_hold a then number_line (codes "walks") walks else [])
 
--- the text is the summary of the replay: the counts of its run, and, where both premises hold, how many sessions have an event, each with a walk that explains what happened in it
+-- the text is the summary of the replay: the counts of its run, and, if both assumptions hold, how many sessions have an event, each with a walk that explains what happened in it
 pub record IsSummary (sessions lost : ℕ) (g : Graph) (r : Replay) (text : List ℕ) : Type 0 where
   pub walks : ℕ
   pub made : premises_hold (account r) ≡ true → WalksAreMade r walks

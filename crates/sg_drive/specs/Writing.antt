@@ -12,7 +12,7 @@ pub record HasWalks (r : Replay) (old new : List ℕ) : Type 0 where
   pub made : WalksAreMade r walks
   pub text : new ≡ old ++ number_line (codes "walks") walks
 
--- the lines of the premises are written, and that of the walks where both hold
+-- the lines of the assumptions are written, and that of the walks if both hold
 pub record IsRest (r : Replay) (old new : List ℕ) : Type 0 where
   pub walks : ℕ
   pub made : premises_hold (account r) ≡ true → WalksAreMade r walks

@@ -157,7 +157,7 @@ impl<'g, 'p> Generator<'g, 'p> {
     }
 }
 
-// Puts a step after the others where room was made.
+// Puts a step after the others if room was made.
 fn put_step(steps: &mut Vec<Step>, step: Step)
     requires { vec_len steps.old < vec_capacity steps.old }
     ensures { steps.new.items ≡ steps.old.items ++ step ∷ [] }

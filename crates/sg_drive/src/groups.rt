@@ -22,8 +22,8 @@ const GROUP: u32 = 16;
 // A session that begins brings at most 80 more steps, so a group has at most 1,280 turns. After these no frame is pending.
 const MOST_TURNS: u32 = 1_281;
 
-/// The run that a seed chooses for `sessions` sessions of a graph, from 1 to 2,000, over the graph's programs. Refused where a step
-/// would begin with a full record, or where memory runs out.
+/// The run that a seed chooses for `sessions` sessions of a graph, from 1 to 2,000, over the graph's programs. Refused if a step
+/// would begin with a full record, or if memory runs out.
 pub fn generate<'p>(
     alloc: Global,
     seed: u32,
@@ -57,7 +57,7 @@ fn groups_for(sessions: u32) -> u32
     (sessions + GROUP - 1) / GROUP
 }
 
-// How many sessions the next group has, where `left` are left.
+// How many sessions the next group has, if `left` are left.
 fn size_of_group(left: u32) -> u32
     ensures { result ≡ min 16 left }
 {
@@ -101,7 +101,7 @@ impl<'g, 'p> Generator<'g, 'p> {
         Ok(())
     }
 
-    // Turns are made until no frame is pending, where `begun` sessions have begun.
+    // Turns are made until no frame is pending, if `begun` sessions have begun.
     fn take_turns(&mut self, begun: u32) -> Result<(), GenerateFault>
         requires budget { HasBudget 1_280 begun self.old }
         ensures over { OnOk result (AreTurns self.old self.new) }

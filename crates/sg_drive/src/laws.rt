@@ -4,7 +4,7 @@ ghost use Rattle.sg_drive.specs.Laws.{GeneratedAreShort, GeneratedIsOne, Generat
 ghost use Rattle.sg_drive.specs.Spent.{FramesAreTakenOnce};
 
 /// A node whose live sessions are sound and of different pairs of session and role accepts a frame once, whatever it is asked between:
-/// after it was accepted, its pair stays joined, and each live session of it was told of the frame's time or a later one.
+/// after it was accepted, its pair stays joined, and each live session of it is at the frame's time or a later one.
 pub fn frames_are_taken_once()
     ensures { FramesAreTakenOnce real }
 {}

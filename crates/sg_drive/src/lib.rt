@@ -4,7 +4,7 @@
 //! A seed chooses the steps. Each principal is honest, and there is one for each role. Sessions run in groups of sixteen, one group after
 //! another: each session of a group starts and plays, and then frames are taken out of the list of those that are pending, one drawn after
 //! the other: it is delivered, delivered and put back, put back or lost. A principal that accepts a frame at a node with labels plays there,
-//! by a drawn label and drawn values, or abandons the session where the frame's time is 16 or more. A frame that was put back three times
+//! by a drawn label and drawn values, or abandons the session if the frame's time is 16 or more. A frame that was put back three times
 //! is delivered the fourth time.
 //!
 //! `specs/Generated.antt` is these rules, one definition for each, over what `specs/Going.antt` says of a run that is being generated:
@@ -13,7 +13,7 @@
 //! so what holds of every replay holds of it, and what each step brings about is what the core's run of all steps says.
 //!
 //! `summary` writes how many frames were sent, accepted, refused and lost, and how many sessions were abandoned and completed, by the
-//! log of the run, then whether the premises hold, and where they do how many walks there are: each session with an event has one, made
+//! log of the run, then whether the assumptions hold, and if they do how many walks there are: each session with an event has one, made
 //! and counted.
 //!
 //! A session sends at most sixteen frames, each of which is delivered at most four times, so it has at most 82 steps, and two thousand

@@ -97,7 +97,7 @@ impl<'g, 'p> Generator<'g, 'p> {
         self.deliver(frame)
     }
 
-    // A frame is delivered, and where it is accepted the session goes on.
+    // A frame is delivered, and if it is accepted the session goes on.
     fn deliver(&mut self, frame: &Pending) -> Result<(), GenerateFault>
         requires room { HasRoom 2 500000002 self.old }
         requires there { IsThere self.old.graph self.old.sessions frame.now }
@@ -113,7 +113,7 @@ impl<'g, 'p> Generator<'g, 'p> {
         self.continue_if_accepted(frame)
     }
 
-    // Where the last step accepted the frame, its session goes on.
+    // If the last step accepted the frame, its session goes on.
     fn continue_if_accepted(&mut self, frame: &Pending) -> Result<(), GenerateFault>
         requires room { HasRoom 1 500000002 self.old }
         requires there { IsThere self.old.graph self.old.sessions frame.now }
@@ -147,7 +147,7 @@ impl<'g, 'p> Generator<'g, 'p> {
     }
 }
 
-// The time of the frame that was accepted, where this came of the last step.
+// The time of the frame that was accepted, if this came of the last step.
 fn accepted_time(outcome: Option<&Outcome>) -> Option<Time>
     ensures { (told : Option Reported) → option_map (λ o. outcome_of o.now) outcome.entry ≡ option_map Some told → result ≡ accepted_time told }
 {

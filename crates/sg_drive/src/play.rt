@@ -43,7 +43,7 @@ impl<'g, 'p> Generator<'g, 'p> {
         self.play(session, node)
     }
 
-    /// The principal at a node draws a label and values, and acts; its frame goes to the list's end. Where no label leaves the node,
+    /// The principal at a node draws a label and values, and acts; its frame goes to the list's end. If no label leaves the node,
     /// nothing is played.
     pub fn play(&mut self, session: u32, node: NodeId) -> Result<(), GenerateFault>
         requires room { HasRoom 1 500000002 self.old }
@@ -96,7 +96,7 @@ impl<'g, 'p> Generator<'g, 'p> {
         Ok(values)
     }
 
-    // A value for one more variable, by the next draw, where it is one of these.
+    // A value for one more variable, by the next draw, if it is one of these.
     fn draw_value(
         &mut self,
         values: &mut Seq<(Var, Value)>,
@@ -134,7 +134,7 @@ impl<'g, 'p> Generator<'g, 'p> {
     }
 }
 
-// The number of the frame that was sent, where this came of the last step.
+// The number of the frame that was sent, if this came of the last step.
 fn number_sent(outcome: Option<&Outcome>) -> Option<u32>
     ensures { (told : Option Reported) → option_map (λ o. outcome_of o.now) outcome.entry ≡ option_map Some told → result ≡ number_sent told }
 {

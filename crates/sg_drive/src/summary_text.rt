@@ -12,7 +12,7 @@ use sg_world::World;
 use std::alloc::Global;
 
 /// The summary of a generated run over a graph: how many sessions there were, how many frames were sent, accepted, refused and lost, how
-/// many sessions were abandoned and completed, whether the premises hold, and where they do how many walks were made.
+/// many sessions were abandoned and completed, whether the assumptions hold, and if they do how many walks were made.
 pub fn summary(alloc: Global, graph: &Graph, driven: &Driven<'_>) -> Result<Vec<u8>, OutOfMemory>
     requires few { length driven.now.world.schedule.steps ≤ 200_000 }
     ensures { IfOk result (λ text. IsSummary (length driven.now.schedule.sessions) driven.now.lost graph.now driven.now.world text.items) }
@@ -29,7 +29,7 @@ pub fn summary(alloc: Global, graph: &Graph, driven: &Driven<'_>) -> Result<Vec<
     Ok(out.done())
 }
 
-// Writes what stands after the counts: whether the premises hold, and where they do how many walks there are.
+// Writes what stands after the counts: whether the assumptions hold, and if they do how many walks there are.
 fn put_rest(out: &mut ByteOut, world: &World<'_>) -> Result<(), OutOfMemory>
     ensures { OnOk result (IsRest world.now out.old out.new) }
 {

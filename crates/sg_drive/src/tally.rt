@@ -1,4 +1,4 @@
-//! What came of the steps of a run, counted.
+//! The outcomes of the steps of a run, counted.
 ghost use Rattle.std.specs.Prelude.{◌≡◌, ◌==◌, ◌+◌, ◌≤◌, [], length, IfOk, OnOk, Some};
 ghost use Rattle.sg_graph.specs.Edges.{leaving_from};
 ghost use Rattle.sg_model.specs.Shape.{target};
@@ -62,7 +62,7 @@ impl Tally {
         Ok(tally)
     }
 
-    // Counts what came of a step, of which something is told.
+    // Counts the outcome of a step, of which something is reported.
     fn add(&mut self, graph: &Graph, outcome: &Outcome) -> Result<(), OutOfMemory>
         requires few { CanRise self.old }
         ensures { (told : Reported) → outcome_of outcome.now ≡ Some told → OnOk result (self.new ≡ with_reported graph.now told self.old) }
@@ -93,7 +93,7 @@ impl Tally {
         }
     }
 
-    // Counts a frame that was sent, and its session where the frame is the last.
+    // Counts a frame that was sent, and its session if the frame is the last.
     fn add_sent(&mut self, graph: &Graph, event: &Event) -> Result<(), OutOfMemory>
         requires few { CanRise self.old }
         ensures { OnOk result (self.new ≡ with_sent graph.now (event_of event.now) self.old) }
@@ -156,7 +156,7 @@ fn is_last(graph: &Graph, label: Label) -> bool
     graph.edges_from(target(graph, label)).is_empty()
 }
 
-// The node to which a label leads, and the start node where the graph doesn't have this label.
+// The node to which a label leads, and the start node if the graph doesn't have this label.
 fn target(graph: &Graph, label: Label) -> NodeId
     ensures { result ≡ target (shape graph.now) label }
 {

@@ -39,7 +39,7 @@ origins_sent before old new sid role label time values put are r b = elim (cases
       here ∙ are r b ∙ ap last (sym (filter_map-append (label_sent r) before (e ∷ []) ∙ ap (λ ls. filter_map (label_sent r) before ++ ls) one ∙ append-nil (filter_map (label_sent r) before))))
 ]
 
--- a label that is put in its role's index
+-- a label that is put at its role's index
 pub put_at : (last : List Origin) (now : List (Option ℕ)) (i role label : ℕ) → map origin_of last ≡ now → i ≡ role → i < length last → (r : ℕ) → r < 16 → get_or (map origin_of (slice_set last i (After label))) r None ≡ (if role == r then Some label else get_or now r None)
 put_at last now i role label seen at within r b = elim (cases_Bool (role == r)) [
   | inl own ↦

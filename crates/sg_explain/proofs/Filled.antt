@@ -1,4 +1,4 @@
--- Steps that are filled in, told from their end.
+-- Steps that are filled in, given from their end.
 use Rattle.std.proofs.Common.{◌≡◌, ℕ, Bool, true, false, ◌||◌, if◌then◌else◌, List, [], ◌∷◌, ◌++◌, map, refl, ap, sym, ◌∙◌, append-nil, append_assoc}
 use Rattle.std.specs.Prelude.{Option, Some, None}
 use Rattle.std.specs.Option.{option_or}
@@ -15,7 +15,7 @@ use Rattle.sg_protocol.specs.Walk.{StoredStep, shown}
 use Rattle.sg_explain.specs.Events.{explaining_walk}
 use Rattle.sg_explain.specs.Filling.{filled_by, unless_written, given_by, added_by}
 
--- a written value, filled in where it isn't written later
+-- a written value, filled in if it isn't written later
 abbrev pub fill_one : (ℕ → Bool) → (ℕ → Option Value) → ℕ × Option Value → ℕ × Option Value
 fill_one later f w = (w.0, if later w.0 then w.1 else option_or w.1 (f w.0))
 
@@ -110,6 +110,6 @@ along g honest ((Received sid r label time values joins, walk) ∷ ps) steps =
     ∙ ap (λ ts. ts ++ added_by g honest ps) (fill-twice (value_at values) k (steps ++ a) ∙ fill-append f steps a)
     ∙ append_assoc (filled_by (unless_written a f) steps) (filled_by f a) (added_by g honest ps)
 
--- the walk that is made event by event is what the events add, told from the last one
+-- the walk that is made event by event is what the events add, given from the last one
 pub from_end : (g : Graph) (honest : ℕ → Bool) (ps : List (Event × List ℕ)) → explaining_walk g honest [] ps ≡ added_by g honest ps
 from_end g honest ps = along g honest ps []

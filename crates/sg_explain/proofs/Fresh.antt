@@ -10,7 +10,7 @@ use Rattle.sg_model.specs.Shape.{Shape, sender}
 abbrev pub is_known : Shape → (ℕ → Bool) → ℕ → ℕ → Bool
 is_known g honest r e = (sender g e == r) || honest (sender g e)
 
--- where no label is known, none is the role's own
+-- if no label is known, none is the role's own
 no_own : (g : Shape) (honest : ℕ → Bool) (r : ℕ) (es : List ℕ) → list_any (is_known g honest r) es ≡ false → has (sender g) r es ≡ false
 no_own g honest r [] h = refl
 no_own g honest r (e ∷ es) h =
@@ -47,7 +47,7 @@ some_honest g honest r (y ∷ ys) (suc n) x l e k h =
     let parts = or_parts (sender g y == r) (has (sender g) r ys) h in
     or_right (honest (sender g y)) (list_any (λ f. honest (sender g f)) ys) (some_honest g honest r ys n x (omega arith) e k parts.1)
 
--- where no label is known, all are new
+-- if no label is known, all are new
 pub all_new : (g : Shape) (honest : ℕ → Bool) (r : ℕ) (es : List ℕ) → list_any (is_known g honest r) es ≡ false → es ≡ after_honest g honest (after_last (sender g) r es)
 all_new g honest r es h = rw (all_after_own g r es (no_own g honest r es h)) (sym (all_after_honest g honest es (no_honest g honest r es h)))
 

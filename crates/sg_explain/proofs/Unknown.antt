@@ -92,7 +92,7 @@ still_shown f label values = λ i. record { label = label; writes = all values i
     all [] = refl
     all (v ∷ vs) = ap (λ ws. (v.0, Some v.1) ∷ ws) (all vs)
 
--- the steps of an event are filled in the same by what later events give, where that agrees below 32
+-- the steps of an event are filled in the same by what later events give, if that agrees below 32
 pub same_added : (g : Graph) → IsGraph g → (honest : ℕ → Bool) (f k : ℕ → Option Value) → Agree f k → (e : Event) (walk : List ℕ)
     → filled_by (given e f) (added g honest e walk) ≡ filled_by (given e k) (added g honest e walk)
 same_added g is honest f k h (Started sid r) walk = refl

@@ -1,4 +1,4 @@
--- The same walk, told from its end: what each event adds, and which values later receipts give it.
+-- The same walk, given from its end: what each event adds, and which values later receipts give it.
 use Rattle.std.specs.Prelude.{ℕ, Bool, if◌then◌else◌, List, [], ◌∷◌, ◌++◌, map, get_or, Option, None, option_map}
 use Rattle.std.specs.Option.{option_or}
 use Rattle.sg_base.specs.Model.{value_of}

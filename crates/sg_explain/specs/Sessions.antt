@@ -30,14 +30,14 @@ steps_of_session sid log = filter (is_of_session sid) log
 abbrev pub events_beside : List ℕ → List (Logged × List ℕ) → List (Event × List ℕ)
 events_beside sid part = flat_map (λ (l : Logged × List ℕ). map (λ e. (e, l.1)) (events_of sid (l.0 ∷ []))) part
 
--- Where the premises hold, the walk of a session's events is one path of them, whichever walks that show what was taken stand beside its steps
+-- If the assumptions hold, the walk of a session's events is one path of them, whichever walks that show what was taken stand beside its steps
 abbrev pub SessionsAreExplained : Hash → Type 0
 SessionsAreExplained sha = (programs : List Program) (s : Schedule) (sid : List ℕ) (cast : Cast) (g : Graph) (part : List (Logged × List ℕ)) → AreCompiled sha s.graphs programs → IsSchedule sha s →
     let w = run sha programs s in
     Premises sha s w → cast_of_session sid w.log ≡ Some cast → graph_with sha s.graphs cast.graph ≡ Some g → map (λ (l : Logged × List ℕ). l.0) part ≡ steps_of_session sid w.log → AllShown g sid [] part →
     (map (λ (p : Event × List ℕ). p.0) (events_beside sid part) ≡ events_of sid w.log) × OnePath g (honest_role s cast) (events_of sid w.log) (explaining_walk g (honest_role s cast) [] (events_beside sid part))
 
--- Where the premises hold, each frame that was taken in a session shows its receiver a view, by the session's steps alone
+-- If the assumptions hold, each frame that was taken in a session shows its receiver a view, by the session's steps alone
 abbrev pub SessionsShowViews : Hash → Type 0
 SessionsShowViews sha = (programs : List Program) (s : Schedule) (sid : List ℕ) (cast : Cast) (g : Graph) (before : List Logged) (l : Logged) (after : List Logged) (bs : List ℕ) (f : Frame) → AreCompiled sha s.graphs programs → IsSchedule sha s →
     let w = run sha programs s in

@@ -46,7 +46,7 @@ pub record GoesOn (g : Graph) (sid : List ℕ) : Type 0 where
       l.call ≡ Some (Deliver bs) → read bs ≡ Ok f → l.outcome ≡ Answered (Happened (receipt f)) → f.sid ≡ sid → f.receiver < 16 → IsExample g f.receiver (view_since (get_or old f.receiver None) f) walk →
       Notes old new (receipt f) → IsTrace g sid (steps ++ l ∷ []) (shown ++ (receipt f, walk) ∷ []) new
 
--- Where the premises hold, each frame that was taken shows a view of its receiver, by the last labels in a trace of the session's steps before it
+-- If the assumptions hold, each frame that was taken shows a view of its receiver, by the last labels in a trace of the session's steps before it
 abbrev pub TracesShowViews : Hash → Type 0
 TracesShowViews sha = (programs : List Program) (s : Schedule) (sid : List ℕ) (cast : Cast) (g : Graph) (steps : List Logged) (shown : List (Event × List ℕ)) (origins : List (Option ℕ)) (l : Logged) (after : List Logged) (bs : List ℕ) (f : Frame) →
     AreCompiled sha s.graphs programs → IsSchedule sha s →
@@ -55,7 +55,7 @@ TracesShowViews sha = (programs : List Program) (s : Schedule) (sid : List ℕ) 
     steps_of_session sid w.log ≡ steps ++ l ∷ after → IsTrace g sid steps shown origins → l.call ≡ Some (Deliver bs) → read bs ≡ Ok f → l.outcome ≡ Answered (Happened (receipt f)) → f.sid ≡ sid → f.receiver < 16 →
     IsView g f.receiver (view_since (get_or origins f.receiver None) f)
 
--- Where the premises hold, the walk of the events of a trace of all its steps is one path of the session's events
+-- If the assumptions hold, the walk of the events of a trace of all its steps is one path of the session's events
 abbrev pub TracesAreExplained : Hash → Type 0
 TracesAreExplained sha = (programs : List Program) (s : Schedule) (sid : List ℕ) (cast : Cast) (g : Graph) (shown : List (Event × List ℕ)) (origins : List (Option ℕ)) → AreCompiled sha s.graphs programs → IsSchedule sha s →
     let w = run sha programs s in

@@ -15,9 +15,9 @@ use sg_frame::{Frame, Item};
 use sg_vis::{Origin, Seen, ViewTable};
 use std::alloc::Global;
 
-/// A walk from the start that shows a role what a frame shows it, where its own last label is this: the walk that stands in the
-/// table beside this view, and `None` exactly where the table has no such view. In the role's table of a graph this is an example of
-/// the view, along edges of the graph, and there is one where some walk shows the view.
+/// A walk from the start that shows a role what a frame shows it, if its own last label is this: the walk that stands in the
+/// table beside this view, and `None` exactly if the table has no such view. In the role's table of a graph this is an example of
+/// the view, along edges of the graph, and there is one if some walk shows the view.
 pub fn view_example<'t>(
     alloc: Global,
     table: &'t ViewTable,

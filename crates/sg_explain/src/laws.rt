@@ -5,9 +5,9 @@ ghost use Rattle.sg_protocol.specs.Texts.{IsHash};
 ghost use Rattle.sg_explain.specs.Traces.{GoesOn, TracesAreExplained, TracesShowViews};
 ghost use Rattle.sg_explain.specs.Sessions.{SessionsAreExplained, SessionsShowViews};
 
-/// The walk that is made of a session's events explains them. Of a run in which the premises hold, let beside each step that has an event
-/// of the session stand a walk from the start, which shows the receiver the view of the frame, where the step took one. Then what
-/// `explain` makes of these events and walks is one path of them. And each frame that was taken shows such a view, which is told by the
+/// The walk that is made of a session's events explains them. Of a run in which the assumptions hold, let beside each step that has an event
+/// of the session stand a walk from the start, which shows the receiver the view of the frame, if the step took one. Then what
+/// `explain` makes of these events and walks is one path of them. And each frame that was taken shows such a view, which follows from the
 /// session's steps before it.
 pub fn sessions_are_explained()
     ensures explained { (sha : List ℕ → List ℕ) → IsHash sha → SessionsAreExplained sha }
@@ -15,7 +15,7 @@ pub fn sessions_are_explained()
 {}
 
 /// The same, gone through step by step: a trace of a session's steps begins without any, and goes on with a start or a sending beside
-/// any walk, and with a frame that was taken beside an example of what it shows by the last labels so far. Where the premises hold, each
+/// any walk, and with a frame that was taken beside an example of what it shows by the last labels so far. If the assumptions hold, each
 /// such frame shows a view, so there is an example; and the walk of the events of a trace of all the session's steps is one path.
 pub fn traces_are_explained()
     ensures goes_on { (g : Graph) (sid : List ℕ) → GoesOn g sid }

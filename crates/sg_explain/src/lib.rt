@@ -2,10 +2,10 @@
 //!
 //! Each event adds steps. A step that was sent is added with its values. For what was received, a walk is given that shows it: of this
 //! walk's steps since the receiver's own last one, those after the last one of an honest sender are added, and what they write is hidden.
-//! Each value that was received is filled in at the last step that writes its variable, where it is hidden there.
+//! Each value that was received is filled in at the last step that writes its variable, if it is hidden there.
 //!
 //! Such walks are in the role's table of views: `view_example` finds the one beside the view that a frame shows, which begins with the
-//! receiver's own last label, which `Origins` has. Whichever walks are given, in a run in which the premises hold the walk that is made is
+//! receiver's own last label, which `Origins` has. Whichever walks are given, in a run in which the assumptions hold the walk that is made is
 //! one path of the session's events: `sessions_are_explained` says it of all its steps, and `traces_are_explained` of a session that is gone
 //! through step by step.
 //!

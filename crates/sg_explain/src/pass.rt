@@ -26,7 +26,7 @@ pub fn explain(
     requires { All (λ s. All (λ e. e < length graph.now.edges) s.walk.now) events.now }
     ensures { IfOk result (λ w. steps_of w ≡ explaining_walk graph.now (λ r. is_in r honest) [] (map pair_of events.now)) }
 {
-    // A graph has at most 32 variables, so each has an index among what is kept.
+    // A graph has at most 32 variables, so each has a slot among what is kept.
     let _count = graph.vars();
     let mut kept = nothing();
     let mut steps = Vec::new(alloc);

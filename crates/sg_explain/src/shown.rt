@@ -2,7 +2,7 @@
 use sg_base::Label;
 use sg_walk::Event;
 
-/// An event of a session, and a walk from the start that shows its role what it received. Where the event is no receipt the walk is not
+/// An event of a session, and a walk from the start that shows its role what it received. If the event is no receipt the walk is not
 /// looked at.
 #[derive(Debug, Clone, Copy)]
 pub struct ShownEvent<'e> {

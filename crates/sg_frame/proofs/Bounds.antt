@@ -14,7 +14,7 @@ abbrev pub StaysWithin : {A : Type 0} → ℕ → Result (Reading.Read A) ℕ �
 StaysWithin end (Ok r) = r.at + length r.rest ≡ end
 StaysWithin end (Err at) = at ≤ end
 
--- so at each place
+-- so at each offset
 pub record IsBounded {A : Type 0} (r : Reading.Reader A) : Type 0 where
   pub go : (at : ℕ) (bs : List ℕ) → StaysWithin (at + length bs) (r at bs)
 

@@ -1,4 +1,4 @@
--- A field at a place.
+-- A field at an offset.
 use Rattle.std.proofs.Common.{◌≡◌, ℕ, ◌+◌, ◌≤◌, nat_le, Bool, true, false, List, [], ◌∷◌, length, Ok, Err, arith, length-drop, refl}
 use Rattle.std.specs.Str.{IsUtf8, is_utf8}
 use Rattle.std.proofs.lemmas.Str.{IsUtf8-from_is_utf8}
@@ -11,7 +11,7 @@ use Rattle.sg_base.specs.Reading as here
 use Rattle.sg_protocol.specs.Reading.{field, number, is_within, if_none_left}
 use Rattle.sg_frame.specs.Reads.{left}
 
--- n bytes are left at the place
+-- n bytes are left at the offset
 pub there : (n : ℕ) (p : Cursor) → p.at + n ≤ length p.bytes → nat_le n (length (left p)) ≡ true
 there n p h = le-leb n (length (left p)) (simp length-drop (omega arith))
 

@@ -14,7 +14,7 @@ regroup : {A : Type 0} (prefix : List A) (x : A) (read : Result (Read (List A)) 
 regroup prefix x (Ok r) = ap (λ xs. Ok (record { value = xs; at = r.at; rest = r.rest })) (simp append_assoc)
 regroup prefix x (Err at) = refl
 
--- the place behind what was read
+-- the offset behind what was read
 abbrev pub Gives : {A : Type 0} → Reader A → Cursor → A → Cursor → Type 0
 Gives reader p x q = reader p.at (left p) ≡ Ok (record { value = x; at = q.at; rest = left q })
 

@@ -7,7 +7,7 @@ use Rattle.sg_frame.specs.declared.fault.DecodeFault.TheVariants as faults
 use Rattle.sg_frame.specs.declared.fault.FrameStop.{FrameStop}
 use Rattle.sg_frame.specs.declared.fault.FrameStop.TheVariants.{Malformed, OutOfMemory}
 
--- the bytes from the place on
+-- the bytes from the offset on
 abbrev pub left : Cursor → List ℕ
 left p = drop p.at p.bytes
 
@@ -16,12 +16,12 @@ abbrev pub StopsWith : {A : Type 0} → FrameStop → Result (Read A) ℕ → Ty
 StopsWith OutOfMemory read = Unit {0}
 StopsWith (Malformed at) read = read ≡ Err at
 
--- what was read is, seen so, what the definition reads, and the place stands after it
+-- what was read is, seen so, what the definition reads, and the offset stands after it
 abbrev pub ReadsSeen : {X A : Type 0} → (X → A) → Reader A → Cursor → Cursor → Result X FrameStop → Type 0
 ReadsSeen view reader old new (Ok x) = reader old.at (left old) ≡ Ok (record { value = view x; at = new.at; rest = left new })
 ReadsSeen view reader old new (Err e) = StopsWith e (reader old.at (left old))
 
--- what was read is what the definition reads, and the place stands after it
+-- what was read is what the definition reads, and the offset stands after it
 abbrev pub Reads : {A : Type 0} → Reader A → Cursor → Cursor → Result A FrameStop → Type 0
 Reads reader old new result = ReadsSeen (λ x. x) reader old new result
 

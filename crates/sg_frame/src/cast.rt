@@ -11,7 +11,7 @@ use sg_base::{ByteIn, Name};
 use sg_crypt::{Cast, SharedCast};
 use std::alloc::Global;
 
-// The cast of a frame that joins, where the kind is 0.
+// The cast of a frame that joins, if the kind is 0.
 pub fn read_join(
     alloc: Global,
     input: &mut ByteIn,

@@ -64,7 +64,7 @@ pub fn two_bytes(input: &mut ByteIn, low: u16, high: u16) -> Result<u16, FrameSt
     Ok(value)
 }
 
-// A number of four bytes, from `low` to `high`. The place then stands within the bytes.
+// A number of four bytes, from `low` to `high`. The offset then stands within the bytes.
 pub fn four_bytes(input: &mut ByteIn, low: u32, high: u32) -> Result<u32, FrameStop>
     ensures reads { Reads (number w32 low high) input.old input.new result }
     ensures range { IfOk result (λ v. (low ≤ v) × (v ≤ high)) }

@@ -23,21 +23,21 @@ passes_there p xs i d h =
       | inr n ↦ (let e : None ≡ Some i = rw n at h in absurd (cc))
     ]
 
--- where the search from n on finds an index, one passes
+-- if the search from n on finds an index, one passes
 some_from : {X : Type 0} (p : X → Bool) (xs : List X) (n i : ℕ) → position_from p n xs ≡ Some i → list_any p xs ≡ true
 some_from p [] n i h = absurd (cc)
 some_from p (x ∷ xs) n i h = elim (cases_Bool (p x)) [ inl y ↦ rw y refl | inr z ↦ rw z (some_from p xs (n + 1) i (rw z at h)) ]
 
--- where it finds none, none passes
+-- if it finds none, none passes
 none_from : {X : Type 0} (p : X → Bool) (xs : List X) (n : ℕ) → position_from p n xs ≡ None → list_any p xs ≡ false
 none_from p [] n h = refl
 none_from p (x ∷ xs) n h = elim (cases_Bool (p x)) [ inl y ↦ (let e : Some n ≡ None = rw y at h in absurd (cc)) | inr z ↦ rw z (none_from p xs (n + 1) (rw z at h)) ]
 
--- where there is a first index, one passes
+-- if there is a first index, one passes
 pub some_passes : {X : Type 0} (p : X → Bool) (xs : List X) (i : ℕ) → position p xs ≡ Some i → list_any p xs ≡ true
 some_passes p xs i h = some_from p xs 0 i (sym (position_from-zero p xs) ∙ h)
 
--- where there is none, none passes
+-- if there is none, none passes
 pub none_passes : {X : Type 0} (p : X → Bool) (xs : List X) → position p xs ≡ None → list_any p xs ≡ false
 none_passes p xs h = none_from p xs 0 (sym (position_from-zero p xs) ∙ h)
 
@@ -62,11 +62,11 @@ name_there name_of name ys i d h =
     let there = passes_there (λ y. bytes_eq name (name_of y)) ys i d (sym h) in
     (there.0, sym ((bytes_eq-Decides name (name_of (get_or ys i d))).0 there.1))
 
--- where there is a first index of a name, it is among the names
+-- if there is a first index of a name, it is among the names
 pub name_found : {Y : Type 0} (name_of : Y → Name) (name : Name) (ys : List Y) (i : ℕ) → Some i ≡ position (λ y. bytes_eq name (name_of y)) ys → has_text name (map name_of ys) ≡ true
 name_found name_of name ys i h = list_any-map (bytes_eq name) name_of ys ∙ some_passes (λ y. bytes_eq name (name_of y)) ys i (sym h)
 
--- where there is none, it isn't
+-- if there is none, it isn't
 pub name_missed : {Y : Type 0} (name_of : Y → Name) (name : Name) (ys : List Y) → None ≡ position (λ y. bytes_eq name (name_of y)) ys → has_text name (map name_of ys) ≡ false
 name_missed name_of name ys h = list_any-map (bytes_eq name) name_of ys ∙ none_passes (λ y. bytes_eq name (name_of y)) ys (sym h)
 

@@ -152,7 +152,7 @@ kept_at g now lists k n labels holds view is same l at =
     let there : k < length now.nodes = subst (λ j. k < j) (ap length lists-are ∙ length-leaving_of now) l in
     at ∙ ap (λ (ls : List (List ℕ)). get_or ls k labels) lists-are ∙ leaving_at now k labels there ∙ ap (leaving_from now) same
 
--- where none is kept for a node, no label leaves it
+-- if none is kept for a node, no label leaves it
 pub kept_past : (g : Inside) (now : Graph) (lists : List (List ℕ)) (k n : ℕ) → HoldsGraph g → graph_of g ≡ now → lists ≡ g.leaving.items → k ≡ n
     → length lists ≤ k → [] ≡ leaving_from now n
 kept_past g now lists k n holds view is same l =

@@ -1,4 +1,4 @@
--- What is told of a graph by its names.
+-- The names of a graph, as texts have them.
 use Rattle.std.specs.Prelude.{ℕ, List, ◌∷◌, ◌++◌, flat_map}
 use Rattle.sg_protocol.specs.Graph.{Graph, variable_name}
 use Rattle.sg_graph.specs.Parts.{edge_name}

@@ -7,7 +7,7 @@ ghost use Rattle.sg_graph.specs.Parts.{edge_name};
 use crate::Graph;
 use sg_base::{ByteOut, Label, NodeId, OutOfMemory, Role, Var};
 
-/// Writes the name of a label's edge, nothing where no edge has the label.
+/// Writes the name of a label's edge, nothing if no edge has the label.
 pub fn put_label(out: &mut ByteOut, graph: &Graph, label: Label) -> Result<(), OutOfMemory>
     ensures { OnOk result (out.new ≡ out.old ++ edge_name graph.now label) }
 {
@@ -17,7 +17,7 @@ pub fn put_label(out: &mut ByteOut, graph: &Graph, label: Label) -> Result<(), O
     out.bytes(graph.edge_name(label).as_bytes())
 }
 
-/// Writes the name of a node, nothing where the graph has no such node.
+/// Writes the name of a node, nothing if the graph has no such node.
 pub fn put_node(out: &mut ByteOut, graph: &Graph, node: NodeId) -> Result<(), OutOfMemory>
     ensures { OnOk result (out.new ≡ out.old ++ node_name graph.now node) }
 {
@@ -27,7 +27,7 @@ pub fn put_node(out: &mut ByteOut, graph: &Graph, node: NodeId) -> Result<(), Ou
     out.bytes(graph.node_name(node).as_bytes())
 }
 
-/// Writes the name of a role, nothing where the graph has no such role.
+/// Writes the name of a role, nothing if the graph has no such role.
 pub fn put_role(out: &mut ByteOut, graph: &Graph, role: Role) -> Result<(), OutOfMemory>
     ensures { OnOk result (out.new ≡ out.old ++ role_name graph.now role) }
 {
@@ -37,7 +37,7 @@ pub fn put_role(out: &mut ByteOut, graph: &Graph, role: Role) -> Result<(), OutO
     out.bytes(graph.role_name(role).as_bytes())
 }
 
-/// Writes the name of a variable, nothing where the graph has no such variable.
+/// Writes the name of a variable, nothing if the graph has no such variable.
 pub fn put_var(out: &mut ByteOut, graph: &Graph, var: Var) -> Result<(), OutOfMemory>
     ensures { OnOk result (out.new ≡ out.old ++ variable_name graph.now var) }
 {

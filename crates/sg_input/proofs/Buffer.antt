@@ -27,7 +27,7 @@ feed_there bytes at is =
     let behind : drop at bytes ≡ 10 ∷ drop (at + 1) bytes = drop-cons bytes at 0 p.0 ∙ (ap (λ b. b ∷ drop (suc at) bytes) feed ∙ ap (λ n. 10 ∷ drop n bytes) (sym one)) in
     (p.0, before_feed bytes at (omega (arith, p.0)) p.2, sym (take-append-drop at bytes) ∙ ap (λ d. take at bytes ++ d) behind)
 
--- where there is none
+-- if there is none
 pub feed_none : (bytes : List ℕ) → position (λ b. b == 10) bytes ≡ None → NoFeed bytes
 feed_none bytes is =
     let all : length bytes ≤ position_or_len (λ b. b == 10) bytes = grind (arith, common_steps) in
@@ -42,7 +42,7 @@ parts buffer start seen end low high =
     ∙ (take-add (seen - start) (end - seen) (drop start buffer)
     ∙ ap (λ d. take (seen - start) (drop start buffer) ++ take (end - seen) d) (drop-drop (seen - start) start buffer ∙ ap (λ k. drop k buffer) at))
 
--- the prefix of a part, and the rest of one
+-- a prefix of a part, and the rest of one
 prefix_of_part : (buffer : List ℕ) (start end n : ℕ) → n ≤ end - start → take n (slice_range buffer start end) ≡ slice_range buffer start (start + n)
 prefix_of_part buffer start end n fits =
     let long : n ≡ (start + n) - start = omega arith in
@@ -55,7 +55,7 @@ rest_of_part buffer start end n fits =
     ∙ (drop-take n (end - (start + n)) (drop start buffer)
     ∙ ap (λ d. take (end - (start + n)) d) (drop-drop n start buffer))
 
--- a part of a buffer whose front is the same
+-- a part of buffers with the same prefix
 pub same_part : (a b : List ℕ) (start end : ℕ) → start ≤ end → take end a ≡ take end b → slice_range a start end ≡ slice_range b start end
 same_part a b start end low same =
     let long : start + (end - start) ≡ end = omega arith in
@@ -67,7 +67,7 @@ same_part a b start end low same =
 pub length_part : (buffer : List ℕ) (start end : ℕ) → start ≤ end → end ≤ length buffer → length (slice_range buffer start end) ≡ end - start
 length_part buffer start end low fits = length-take-le (end - start) (drop start buffer) (omega (arith, length-drop start buffer))
 
--- the first line feed of what was read, where there is none before a place
+-- the first line feed of what was read, if there is none before an offset
 pub record FeedAt (buffer : List ℕ) (start end at : ℕ) : Type 0 where
   pub within : at < end
   pub line : NoFeed (slice_range buffer start at)
@@ -94,12 +94,12 @@ feed_at buffer start seen end n low high fits bare is =
           ∙ ap (λ d. slice_range buffer start (seen + n) ++ 10 ∷ d) back)));
     }
 
--- where there is none at all
+-- if there is none at all
 pub feed_nowhere : (buffer : List ℕ) (start seen end : ℕ) → start ≤ seen → seen ≤ end → NoFeed (slice_range buffer start seen) → position (λ b. b == 10) (slice_range buffer seen end) ≡ None → NoFeed (slice_range buffer start end)
 feed_nowhere buffer start seen end low high bare is =
     rw (parts buffer start seen end low high) (All-append (λ c. c ≢ 10) (slice_range buffer start seen) (slice_range buffer seen end) bare (feed_none (slice_range buffer seen end) is))
 
--- a part of which a prefix was kept, maybe in another place
+-- a part of which a prefix was kept, maybe at another offset
 pub kept_part : (old : List ℕ) (start end count : ℕ) (kept : List ℕ) → start ≤ end → end ≤ length old → NoFeed (slice_range old start end) → count ≤ end - start → (count ≡ end - start) ⊎ (262144 < count) → kept ≡ slice_range old start (start + count) → NoFeed kept × ((more : List ℕ) → lines_of (kept ++ more) ≡ lines_of (slice_range old start end ++ more))
 kept_part old start end count kept low fits bare within enough is =
     let prefix : kept ≡ take count (slice_range old start end) = is ∙ sym (prefix_of_part old start end count within) in

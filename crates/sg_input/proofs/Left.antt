@@ -8,7 +8,7 @@ use Rattle.sg_input.specs.Input.{BeginsWith}
 use Rattle.sg_input.specs.Lines.{Line, Whole, TooLong, NoFeed, line_of, lines_of, lines_left}
 use Rattle.sg_input.proofs.Runs.{lines_of-line, lines_of-none}
 
--- bytes that were kept stand for those that were there, and more were read behind them
+-- bytes that were kept represent those that were there, and more were read behind them
 pub left_filled : (old kept prefix : List ℕ) (count : ℕ) (was now : Option (List ℕ)) → ((more : List ℕ) → lines_of (kept ++ more) ≡ lines_of (old ++ more)) → BeginsWith was prefix → now ≡ option_map (drop count) was → length prefix ≡ count → lines_left (kept ++ prefix) now ≡ lines_left old was
 left_filled old kept prefix count None now same first taken long = ap (λ o. lines_left (kept ++ prefix) o) taken
 left_filled old kept prefix count (Some all) now same first taken long =

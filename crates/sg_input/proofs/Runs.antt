@@ -9,7 +9,7 @@ yes_or_no : (b : Bool) → (b ≡ true) ⊎ (b ≡ false)
 yes_or_no true = inl refl
 yes_or_no false = inr refl
 
--- a run without a line feed goes behind the front
+-- a run without a line feed goes behind the prefix
 behind-run : (prefix run rest : List ℕ) → NoFeed run → lines_behind prefix (run ++ rest) ≡ lines_behind (prefix ++ run) rest
 behind-run prefix [] rest bare = ap (λ f. lines_behind f rest) (sym (append-nil prefix))
 behind-run prefix (b ∷ run) rest bare =
@@ -25,7 +25,7 @@ lines_of-line line rest more bare =
 pub lines_of-none : (run : List ℕ) → NoFeed run → lines_of run ≡ []
 lines_of-none run bare = ap (λ b. lines_behind [] b) (sym (append-nil run)) ∙ behind-run [] run [] bare
 
--- what a prefix that is too long is doesn't matter
+-- which prefix is too long doesn't matter
 behind-long : (a b bytes : List ℕ) → 262144 < length a → 262144 < length b → lines_behind a bytes ≡ lines_behind b bytes
 behind-long a b [] la lb = refl
 behind-long a b (x ∷ bytes) la lb =
@@ -34,7 +34,7 @@ behind-long a b (x ∷ bytes) la lb =
       | inr e ↦ rw e (behind-long (a ++ x ∷ []) (b ++ x ∷ []) bytes (omega (arith, length-append a (x ∷ []))) (omega (arith, length-append b (x ∷ []))))
     ]
 
--- of a run without a line feed that is too long a prefix that is too long tells the same
+-- a prefix, too long itself, of a run without a line feed that is too long gives the same lines
 lines_of-long : (a b more : List ℕ) → NoFeed a → NoFeed b → 262144 < length a → 262144 < length b → lines_of (a ++ more) ≡ lines_of (b ++ more)
 lines_of-long a b more na nb la lb = behind-run [] a more na ∙ (behind-long a b more la lb ∙ sym (behind-run [] b more nb))
 

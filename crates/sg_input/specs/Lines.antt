@@ -20,7 +20,7 @@ pub data Line : Type 0 where
 abbrev pub line_of : List ℕ → Line
 line_of bytes = if nat_le (length bytes) most_line_bytes then Whole bytes else TooLong
 
--- the lines of bytes that stand behind the prefix of the first line
+-- the lines of bytes that come after a prefix of the first line
 abbrev pub lines_behind : List ℕ → List ℕ → List Line
 lines_behind prefix [] = []
 lines_behind prefix (b ∷ bytes) =
@@ -34,6 +34,6 @@ lines_of bytes = lines_behind [] bytes
 abbrev pub ended : List (List ℕ) → List ℕ
 ended runs = flat_map (λ run. run ++ 10 ∷ []) runs
 
--- the lines that are left where some bytes were read and not given yet, and these are to come, where they are told
+-- the lines that are left if some bytes were read and not given yet, and these are to come, if they are known
 abbrev pub lines_left : List ℕ → Option (List ℕ) → Option (List Line)
 lines_left unread coming = option_map (λ bytes. lines_of (unread ++ bytes)) coming

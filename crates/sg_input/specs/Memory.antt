@@ -8,7 +8,7 @@ pub record InputHeld : Type 0 where
   pub pieces : List ℕ
   pub plan : FaultPlan
 
--- the bytes of the next piece: at least one, and all that are to come where no length is told
+-- the bytes of the next piece: at least one, and all that are to come if no length is given
 abbrev pub piece_bytes : List ℕ → ℕ → ℕ
 piece_bytes [] all = all
 piece_bytes (p ∷ ps) all = max p 1

@@ -76,7 +76,7 @@ impl Input for MemInput {
     }
 }
 
-// Takes the length of the next piece off the list, where `all` bytes are to come.
+// Takes the length of the next piece off the list, if `all` bytes are to come.
 fn next_piece(pieces: &mut VecDeque<u32>, all: usize) -> usize
     ensures piece { result ≡ piece_bytes pieces.old.items all }
     ensures taken { pieces.new.items ≡ drop 1 pieces.old.items }

@@ -41,11 +41,11 @@ pub enum InputFault {
 /// Reads the lines of an input, one at each call. A clause sees the bytes of the line that it found last, and the bytes that it read
 /// and did not give yet.
 ///
-/// It takes no memory after `new`. A line stays where it was read, unless the buffer ends within it: then its prefix is moved to the buffer's
-/// front, once.
+/// It takes no memory after `new`. A line stays where it was read, unless the buffer ends within it: then what was read of it is moved to the
+/// buffer's start, once.
 #[derive(Debug, Drop)]
 pub struct LineReader {
-    // The line that was found last is from `from` to `to`, and what was not given yet from `start` to `end`, where there is no line
+    // The line that was found last is from `from` to `to`, and what was not given yet from `start` to `end`, with no line
     // feed up to `seen`.
     buffer: Vec<u8>,
     from: usize,
@@ -96,7 +96,7 @@ impl LineReader {
         ensures fits { length self.new.line ≤ most_line_bytes }
         ensures one { NoFeed self.new.line }
 
-        // What each answer says of the lines that are left, where they are told.
+        // What each answer says of the lines that are left, if they are known.
         ensures line { result ≡ Ok (Some Found.Line) → TakesFirst (lines_left self.old.unread (I.coming input.old)) (lines_left self.new.unread (I.coming input.new)) (Whole self.new.line) }
         ensures too_long { result ≡ Ok (Some Found.TooLong) → TakesFirst (lines_left self.old.unread (I.coming input.old)) (lines_left self.new.unread (I.coming input.new)) TooLong }
         ensures at_end { result ≡ Ok None → (all : List Line) → lines_left self.old.unread (I.coming input.old) ≡ Some all → all ≡ [] }
@@ -118,7 +118,7 @@ impl LineReader {
         Err(InputFault::OutOfMemory)
     }
 
-    // Takes the first line off the bytes that were read, where it is there whole.
+    // Takes the first line off the bytes that were read, if it is there whole.
     fn take_line(&mut self) -> Option<Found>
         ensures fits { length self.new.line ≤ most_line_bytes }
         ensures one { NoFeed self.new.line }
@@ -179,7 +179,7 @@ struct Kept {
     end: usize,
 }
 
-// Makes room behind the prefix of a line, which is between two places and of which as much is kept as a line may have, and one byte more.
+// Makes room behind the prefix of a line that was read, which is between two offsets and of which as much is kept as a line may have, and one byte more.
 fn make_room(buffer: &mut Vec<u8>, start: usize, end: usize) -> Kept
     requires within { start ≤ end }
     requires fits { end ≤ length buffer.old.items }
@@ -205,7 +205,7 @@ fn make_room(buffer: &mut Vec<u8>, start: usize, end: usize) -> Kept
     }
 }
 
-// How many bytes of the prefix of a line are kept, where it has so many.
+// How many bytes of the prefix of a line are kept, if it has so many.
 fn kept_bytes(len: usize) -> usize
     ensures within { result ≤ len }
     ensures most { result ≤ 262145 }
@@ -218,7 +218,7 @@ fn kept_bytes(len: usize) -> usize
     }
 }
 
-// Moves bytes from a place on to the front.
+// Moves bytes from an offset on to the start.
 fn move_prefix(buffer: &mut Vec<u8>, start: usize, count: usize)
     requires { start + count ≤ length buffer.old.items }
     ensures whole { length buffer.new.items ≡ length buffer.old.items }
@@ -227,7 +227,7 @@ fn move_prefix(buffer: &mut Vec<u8>, start: usize, count: usize)
     buffer.copy_within(start..start + count, 0);
 }
 
-// Reads more bytes to a place of the buffer, and gives their number.
+// Reads more bytes to an offset of the buffer, and gives their number.
 fn read_behind<I: Input>(buffer: &mut Vec<u8>, at: usize, input: &mut I) -> Result<usize, Failed>
     requires { at < length buffer.old.items }
     ensures never_falls { I.faults input.old ≤ I.faults input.new }
@@ -243,7 +243,7 @@ fn read_behind<I: Input>(buffer: &mut Vec<u8>, at: usize, input: &mut I) -> Resu
     input.read(&mut buffer[at..])
 }
 
-// The place of the first line feed.
+// The offset of the first line feed.
 fn find_feed(bytes: &[u8]) -> Option<usize>
     ensures { result ≡ position (λ b. b == 10) bytes.now }
 {

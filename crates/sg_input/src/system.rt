@@ -1,4 +1,4 @@
-//! An input over a reader of the system. It tells nothing of what is to come.
+//! An input over a reader of the system. What is to come is not known.
 ghost use Rattle.std.specs.Prelude.{◌≡◌, ◌≤◌, length, IfSome};
 
 use crate::Input;
@@ -21,7 +21,7 @@ impl<R: Read + Drop> StdInput<R> {
     }
 }
 
-// Reads the first bytes to come into a room, and gives their number, or `None` where the system failed.
+// Reads the first bytes to come into a room, and gives their number, or `None` if the system failed.
 fn read_prefix<R: Read>(reader: &mut R, room: &mut [u8]) -> Option<usize>
     ensures { IfSome result (λ count. count ≤ length room.new) }
 {

@@ -1,4 +1,4 @@
--- A join that is added to a ledger, of what came of a call.
+-- A join that is added to a ledger, of the outcome of a call.
 use Rattle.std.proofs.Common.{◌≡◌, List, [], ◌∷◌, ◌++◌, Option, Some, None, IfSome, Result, Ok, Err, OnOk, OnErr, sym, ap, ◌∙◌, subst}
 use Rattle.sg_ledger.specs.Format.{Join}
 use Rattle.sg_keep.specs.Joins.{IsNew, with_join}
@@ -12,7 +12,7 @@ module _ (joins : List Join) (o r : Option Join) (e : r ≡ o) where
   pub with_one : (j : Join) → r ≡ Some j → joins ++ j ∷ [] ≡ with_join joins o
   with_one j is = ap (with_join joins) (sym is ∙ e)
 
-  -- or where there is none
+  -- or if there is none
   pub with_none : r ≡ None → joins ≡ with_join joins o
   with_none is = ap (with_join joins) (sym is ∙ e)
 

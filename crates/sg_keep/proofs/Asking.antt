@@ -63,7 +63,7 @@ is_asked k pl may_leave p c told graph h s is comes stays = record {
   ledger = ap (λ (o : OpenLedger). o.joins) h.ledger ∙ s.player.node.joins;
 }
 
--- ---- the join of what came of it
+-- ---- the join of the outcome
 
 told_join : (n : ℕ) (a : Answer) → join_reported (reported_answer n a) ≡ join_in a
 told_join n (Protocol.Happened e) = refl
@@ -112,7 +112,7 @@ module _ (k : Keeper) (may_leave : List ℕ → Type 0) (told : Option Reported)
     images = subst (AllRepresent now_leaves) (ap (λ (o : OpenLedger). o.joins) is ∙ sym (node_joins r e)) all;
   }
 
--- ---- the call is told
+-- ---- the call is reported
 
 module _ (start now : Outside) (may_leave : List ℕ → Type 0) (k : Keeper) (p : Play) (c : Call) (told : Option Reported) (graph : Option Graph) (a : IsAsked k p c told graph) where
   -- the joins of the node with the call
@@ -142,7 +142,7 @@ module _ (start now : Outside) (may_leave : List ℕ → Type 0) (k : Keeper) (p
     pub asked_then : HasAsked m.player p c told graph []
     asked_then = subst (λ (pl : Player). HasAsked pl p c told graph []) (sym same) a.asked
 
-    -- what came of it was not given
+    -- the outcome was not given
     pub untold : (f : PlayFault) → Ended start now (called p c).steps (Err f) → Kept start now may_leave (with_turn p c) (Err (Played f))
     untold f e = end_on start now may_leave (called p c) (with_turn p c) (Played f) (after_call p c).0 (played_end start now may_leave (called p c) steps_so owns.sent all f e)
 
@@ -170,7 +170,7 @@ holds_on k m may_leave h same keeps =
       images = subst (AllRepresent may_leave) (sym later.3) h.images;
     }
 
--- ---- a word less, or the outside by another name
+-- ---- sixteen random bytes less, or the outside by another name
 
 pub kept_without : (k : Keeper) (p q : Play) → q.past ≡ p.past → q.steps ≡ p.steps → RepresentsPlay k.player q → RepresentsKept k p → RepresentsKept k q
 kept_without k p q past steps s h = record {

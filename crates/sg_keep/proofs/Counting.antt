@@ -27,7 +27,7 @@ pub record NoFall (old new : Counts) : Type 0 where
 pub falls_of : {A : Type 0} (old new : Counts) (r : Result A KeepFault) → TellsFaults old new r → NoFall old new
 falls_of old new r h = record { link = h.link_falls; out = h.out_falls; disk = h.disk_falls }
 
--- what a later part of a call tells, the call tells
+-- what a later part of a call reports, the call reports
 pub later_tells : {A : Type 0} (old mid new : Counts) (r : Result A KeepFault) → NoFall old mid → TellsFaults mid new r → TellsFaults old new r
 later_tells old mid new r f h = record {
   link_falls = let a = f.link in let b = h.link_falls in omega (arith, a, b);
@@ -41,7 +41,7 @@ later_tells old mid new r f h = record {
 same_played : (f g : PlayFault) → Played f ≡ Played g → f ≡ g
 same_played f g e = cc
 
--- a fault of the play, where the disk was not touched
+-- a fault of the play, if the disk was not touched
 pub of_play : {A B : Type 0} (link link' out out' disk : ℕ) (r : Result A PlayFault) (s : Result B KeepFault) (f : PlayFault) → r ≡ Err f → s ≡ Err (Played f) → link ≤ link' → out ≤ out'
     → (r ≡ Err LinkFailed → HasRisen link link') → (r ≡ Err WriteFailed → HasRisen out out') → TellsFaults (record { link = link; out = out; disk = disk }) (record { link = link'; out = out'; disk = disk }) s
 of_play link link' out out' disk r s f e d lf ofl lr wr = record {
@@ -53,7 +53,7 @@ of_play link link' out out' disk r s f e d lf ofl lr wr = record {
   disk_failed = λ x. absurd (let z = err_same s (Played f) DiskFailed d x in cc);
 }
 
--- and where it answered
+-- and if it answered
 pub play_went : {A : Type 0} (link link' out out' disk : ℕ) (a : A) → link ≤ link' → out ≤ out' → TellsFaults (record { link = link; out = out; disk = disk }) (record { link = link'; out = out'; disk = disk }) (Ok a)
 play_went link link' out out' disk a lf ofl = record { link_falls = lf; out_falls = ofl; disk_falls = omega arith; link_failed = λ x. absurd (cc); write_failed = λ x. absurd (cc); disk_failed = λ x. absurd (cc) }
 

@@ -79,7 +79,7 @@ module _ (start now : Outside) (may_leave : List ℕ → Type 0) (p : Play) (in_
     kept = all_kept p may_leave (length w.prefix) (frames_of w.prefix) (let a = few_in_prefix p.steps w.prefix w.rest w.is in omega (arith, a, in_step)) (of_first_steps (joins_made p.past.calls) p.steps w.prefix w.rest w.is sent) all;
   }
 
-  -- a play that ended early, where all its joins are kept
+  -- a play that ended early, if all its joins are kept
   pub played_end : (f : PlayFault) → Ended start now p.steps (Err f) → Kept start now may_leave p (Err (Played f))
   played_end LinkFailed h = prefix_of h
   played_end WriteFailed h = record {
@@ -104,7 +104,7 @@ between : (start now : Outside) (may_leave : List ℕ → Type 0) (p : Play) (f 
 between start now may_leave p f (inl e) h = subst (λ (z : KeepFault). Kept start now may_leave p (Err z)) (sym e) h
 between start now may_leave p f (inr e) h = subst (λ (z : KeepFault). Kept start now may_leave p (Err z)) (sym e) h
 
--- where the join of a call was not kept: the images have it or not, and nothing of the call was told
+-- if the join of a call was not kept: the images have it or not, and nothing of the call was written or sent
 pub not_kept : (start now : Outside) (may_leave : List ℕ → Type 0) (p : Play) (c : Call) (f : KeepFault) (bare full : List Join) → IsBetween f → length p.steps ≡ length p.past.calls
     → AreOfJoins (joins_made p.past.calls) (frames_of p.steps) → bare ≡ p.past.first ++ joins_made p.past.calls → full ≡ p.past.first ++ joins_made (called p c).past.calls
     → ((image : List ℕ) → may_leave image → Represents image bare ⊎ Represents image full) → Whole start now p.steps → Kept start now may_leave (called p c) (Err f)

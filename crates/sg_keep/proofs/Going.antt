@@ -121,7 +121,7 @@ after_call p c = by_given (called p c) (sid_given (answer_in p c))
 pub with_call : (p : Play) (c : Call) → Goes p (with_turn p c)
 with_call p c = joined p (called p c) (with_turn p c) (by_call p c) (after_call p c).0
 
--- a word less
+-- sixteen random bytes less
 pub by_start : (p : Play) (s : ScriptStart) → Goes p (starts p s)
 by_start p s = let g = with_call (without 1 p) (Start (cast_of_start p.past.programs s (next_random p.random))) in
     record { steps = g.steps; calls = g.calls; is_steps = g.is_steps; is_calls = g.is_calls; as_many = g.as_many; first = g.first }

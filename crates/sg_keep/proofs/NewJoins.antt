@@ -47,7 +47,7 @@ abbrev tail_of : {F : Type 0} → List (Option F) → List (Option F)
 tail_of [] = []
 tail_of (o ∷ os) = os
 
--- where no row holds, the first doesn't, nor those behind it
+-- if no row holds, the first doesn't, nor those behind it
 first_none : {F : Type 0} (os : List (Option F)) → first_some os ≡ None → (head_of os ≡ None) × (first_some (tail_of os) ≡ None)
 first_none [] h = (refl, refl)
 first_none (o ∷ os) h = none_parts o os h

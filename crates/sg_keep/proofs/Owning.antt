@@ -269,7 +269,7 @@ pub record OwnsAll (p : Play) : Type 0 where
   pub live : Owns (joins_made p.past.calls) (node_of p.past).live
   pub sent : AreOfJoins (joins_made p.past.calls) (frames_of p.steps)
 
--- the prefix of a list for which it holds of each
+-- a prefix of a list of which it holds of each
 all_prefix : {X : Type 0} (P : X → Type 0) (xs ys : List X) → All P (xs ++ ys) → All P xs
 all_prefix P [] ys h = All-nil P
 all_prefix P (x ∷ xs) ys h = All-cons P x xs (All-head P x (xs ++ ys) h) (all_prefix P xs ys (All-tail P x (xs ++ ys) h))

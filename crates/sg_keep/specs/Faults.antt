@@ -11,7 +11,7 @@ pub record Counts : Type 0 where
   pub out : ℕ
   pub disk : ℕ
 
--- no count falls, and a fault of one of them is answered only where its count rose
+-- no count falls, and a fault of one of them is answered only if its count rose
 pub record TellsFaults {A : Type 0} (old new : Counts) (result : Result A KeepFault) : Type 0 where
   pub link_falls : old.link ≤ new.link
   pub out_falls : old.out ≤ new.out

@@ -16,7 +16,7 @@ abbrev pub join_in : Answer → Option Join
 join_in (Happened e) = join_of e
 join_in other = None
 
--- so by what is told of it
+-- so by what is reported of it
 abbrev pub join_reported : Reported → Option Join
 join_reported (Report.Happened e) = join_of e
 join_reported other = None

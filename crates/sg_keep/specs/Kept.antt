@@ -51,7 +51,7 @@ pub record KeptBegun (start now : Outside) (may_leave : List ℕ → Type 0) (p 
   pub given : Begun start now p.steps
   pub kept : KeepsFirst may_leave p (length given.prefix + 1) (frames_of given.prefix ++ (given.step).frames)
 
--- a play ended so. Where the link or the disk failed or memory ran out, whole steps were given; where a line was not written whole,
+-- a play ended so. If the link or the disk failed or memory ran out, whole steps were given; if a line was not written whole,
 -- one more step was begun
 abbrev pub Kept : (start now : Outside) → (may_leave : List ℕ → Type 0) → Play → Result (Unit {0}) KeepFault → Type 0
 Kept start now may_leave p (Ok u) = Whole start now p.steps × AllRepresent may_leave (p.past.first ++ joins_made p.past.calls) × AreOfJoins (joins_made p.past.calls) (frames_of p.steps)

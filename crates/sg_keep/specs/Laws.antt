@@ -1,4 +1,4 @@
--- What holds of the joins that are kept, in the subject's words.
+-- What holds of the joins that are kept, in the subject's terms.
 use Rattle.std.specs.Prelude.{◌≡◌, ℕ, List, ◌++◌, Contains, Ok}
 use Rattle.sg_ledger.specs.Format.{Join, Represents}
 use Rattle.sg_model.specs.Bytes.{IsBytes}
@@ -13,6 +13,6 @@ use Rattle.sg_keep.specs.Kept.{IsOfJoin}
 abbrev pub JoinsOfNode : Type 0
 JoinsOfNode = (past : Past) → IsTold past → (node_of past).joins ≡ past.first ++ joins_made past.calls
 
--- Where a file represents joins, and bytes are a frame of one of the later of these, what is read of the bytes has its session and its sender among them
+-- If a file represents joins, and bytes are a frame of one of the later of these, what is read of the bytes has its session and its sender among them
 abbrev pub FramesTellTheirJoins : Type 0
 FramesTellTheirJoins = (file bytes : List ℕ) (opened made : List Join) (f : Frame) → Represents file (opened ++ made) → IsOfJoin made bytes → IsBytes bytes → read bytes ≡ Ok f → Contains made (f.sid, f.sender)

@@ -18,7 +18,7 @@ use Rattle.sg_keep.specs.Kept.{AllRepresent, AreOfJoins, Kept}
 use Rattle.sg_keep.specs.declared.fault.KeepFault.{KeepFault}
 use Rattle.sg_keep.specs.declared.keeper.Keeper.{Keeper}
 
--- the node represents a past that was told; the ledger works and has the node's joins, and each image represents them
+-- the node represents a valid past; the ledger works and has the node's joins, and each image represents them
 pub record HoldsJoins (k : Keeper) (may_leave : List ℕ → Type 0) : Type 0 where
   pub past : Past
   pub represents : RepresentsPast k.player.node past
@@ -26,7 +26,7 @@ pub record HoldsJoins (k : Keeper) (may_leave : List ℕ → Type 0) : Type 0 wh
   pub ledger : k.ledger ≡ record { joins = k.player.node.joins; failed = false }
   pub images : AllRepresent may_leave k.player.node.joins
 
--- the node has been asked one more call, and this came of it; the ledger has the joins from before
+-- the node has been asked one more call, and this is the outcome; the ledger has the joins from before
 pub record HasAskedNode (k : Keeper) (may_leave : List ℕ → Type 0) (told : Option Reported) : Type 0 where
   pub past : Past
   pub call : Call
@@ -44,7 +44,7 @@ pub record RepresentsKept (k : Keeper) (p : Play) : Type 0 where
   pub in_step : length p.steps ≡ length p.past.calls
   pub sent : AreOfJoins (joins_made p.past.calls) (frames_of p.steps)
 
--- the player has asked a call that leaves no session, and this came of it, which is not told yet
+-- the player has asked a call that leaves no session, and this is the outcome, which is not reported yet
 pub record IsAsked (k : Keeper) (p : Play) (c : Call) (told : Option Reported) (graph : Option Graph) : Type 0 where
   pub asked : HasAsked k.player p c told graph []
   pub stays : None ≡ sid_left c
@@ -53,7 +53,7 @@ pub record IsAsked (k : Keeper) (p : Play) (c : Call) (told : Option Reported) (
   pub sent : AreOfJoins (joins_made p.past.calls) (frames_of p.steps)
   pub ledger : k.ledger.joins ≡ (node_of p.past).joins
 
--- a play came to this one, all that it gave the outside since the start being whole, and the words that are left are the source's; or it ended early on the way
+-- a play came to this one, all that it gave the outside since the start being whole, and the random bytes that are left are the source's; or it ended early on the way
 abbrev pub CameTo : (start now : Outside) → (may_leave : List ℕ → Type 0) → Keeper → (random : Option (List (List ℕ))) → Play → Result (Unit {0}) KeepFault → Type 0
 CameTo start now may_leave k random p (Ok u) = RepresentsKept k p × Whole start now p.steps × (random ≡ Some p.random)
 CameTo start now may_leave k random p (Err f) = Kept start now may_leave p (Err f)

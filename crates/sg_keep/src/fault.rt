@@ -8,7 +8,7 @@ pub enum KeepFault {
     /// The play ended early.
     #[error("{0}")]
     Played(PlayFault),
-    /// The disk failed, and a join may be kept or not. Nothing of it was told. The ledger is to be opened again.
+    /// The disk failed, and a join may be kept or not. Nothing of it was written or sent. The ledger is to be opened again.
     #[error("the disk failed")]
     DiskFailed,
 }

@@ -1,4 +1,4 @@
-//! What came of a call, as a join.
+//! The outcome of a call, as a join.
 ghost use Rattle.std.specs.Prelude.{◌≡◌, option_and_then};
 ghost use Rattle.sg_report.specs.Outcome.{outcome_of};
 ghost use Rattle.sg_walk.specs.Model.{event_of};

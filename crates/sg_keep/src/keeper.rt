@@ -29,7 +29,7 @@ impl<'p> Keeper<'p> {
     ghost use Rattle.sg_keep.specs.Faults.{TellsFaults};
     ghost use Rattle.sg_keep.specs.Representation.{CameTo, HasAskedNode, HoldsJoins, IsAsked};
 
-    /// Keeps the join of what came of a call, if it is one; gives the outside what came of it when the join is kept; and plays the turn that
+    /// Keeps the join of the outcome of a call, if it is one; gives the outside the outcome when the join is kept; and plays the turn that
     /// it gives.
     pub(crate) fn tell<L: Link, R: Fresh, O: Sink, D: Disk>(
         &mut self,
@@ -65,7 +65,7 @@ impl<'p> Keeper<'p> {
         }
     }
 
-    // Adds the join of what came of a call to the ledger, if it is one. The ledger has all joins of the node from before the call, so it
+    // Adds the join of the outcome of a call to the ledger, if it is one. The ledger has all joins of the node from before the call, so it
     // doesn't have this one, and it isn't full.
     fn keep_join<D: Disk>(&mut self, outcome: &Outcome, disk: &mut D) -> Result<(), KeepFault>
         requires asked { HasAskedNode self.old (D.may_leave disk.old) (outcome_of outcome.now) }
@@ -82,8 +82,8 @@ impl<'p> Keeper<'p> {
     }
 }
 
-/// Adds the join of what came of a call to a ledger, if it is one. The ledger works, each image of the disk represents its joins, and the join
-/// is new to it. It fails where the disk fails, after which an image may have the join or not, or where memory ran out.
+/// Adds the join of the outcome of a call to a ledger, if it is one. The ledger works, each image of the disk represents its joins, and the join
+/// is new to it. It fails if the disk fails, after which an image may have the join or not, or if memory ran out.
 pub fn add_join<D: Disk>(
     ledger: &mut Ledger,
     outcome: &Outcome,

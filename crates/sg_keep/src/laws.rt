@@ -7,7 +7,7 @@ pub fn joins_of_a_node()
 {}
 
 /// The bytes of a frame of a kept join show no other join: whatever frame is read of them, its session and its sender were joined by the
-/// calls. A kept session has 32 bytes, and each frame has these and its sender at one place.
+/// calls. A kept session has 32 bytes, and each frame has these and its sender at one offset.
 pub fn frames_tell_their_joins()
     ensures { FramesTellTheirJoins }
 {}

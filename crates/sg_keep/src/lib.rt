@@ -2,7 +2,7 @@
 //!
 //! It plays as `sg_play` says, by a node that joined before what the ledger has. For each call that joins, the pair of session and role
 //! stands in the ledger before the line of the call is written, and before any turn of the session: so before any frame of the session
-//! is given to the link. Where a ledger can't take a pair, the play ends there. That the pair is in the ledger already, or that the ledger
+//! is given to the link. If a ledger can't take a pair, the play ends there. That the pair is in the ledger already, or that the ledger
 //! is full, never happens, since the ledger has the joins of the node before each call.
 //!
 //! Who has an order of its own adds the join of a call by `add_join` before it writes or sends anything of the call.

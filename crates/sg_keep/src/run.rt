@@ -48,7 +48,7 @@ impl<'p> Keeper<'p> {
         Ok(())
     }
 
-    // Makes a start of a script, with the next word as its nonce, and plays the turn that it gives.
+    // Makes a start of a script, with the next sixteen random bytes as its nonce, and plays the turn that it gives.
     fn start_one<L: Link, R: Fresh, O: Sink, D: Disk>(
         &mut self,
         start_of: &ScriptStart,
@@ -142,9 +142,9 @@ impl<'p> Keeper<'p> {
 
 /// Plays a script over a ledger that was opened from this disk: makes its starts in order and plays the turn that each gives; then takes at
 /// most `most` deliveries, up to the link's end, gives each to the node and plays the turn, if one came. The node joined before what the
-/// ledger has. Each pair that it joins is added to the ledger before anything of it is told. The keys are given twice, since the node takes
-/// one keyring, and the other has the addresses that frames go to; the script was read beside these programs. It ends early where a play
-/// does, or where the disk fails.
+/// ledger has. Each pair that it joins is added to the ledger before anything of it is written or sent. The keys are given twice, since the node takes
+/// one keyring, and the other has the addresses that frames go to; the script was read beside these programs. It ends early if a play
+/// does, or if the disk fails.
 pub fn keep<'p, L: Link, R: Fresh, O: Sink, D: Disk>(
     alloc: Global,
     keys_of_node: Keyring,
@@ -166,7 +166,7 @@ pub fn keep<'p, L: Link, R: Fresh, O: Sink, D: Disk>(
     ensures faults { TellsFaults (record { link = L.faults link.old; out = O.faults out.old; disk = D.faults disk.old })
         (record { link = L.faults link.new; out = O.faults out.new; disk = D.faults disk.new }) result }
 
-    // Where the link tells its deliveries and the source its words: what was written and sent is what the play says, up to where it ended,
+    // If the deliveries and the random bytes to come are known: what was written and sent is what the play says, up to where it ended,
     // and what a crash leaves of the disk is the ledger with the joins of the play up to there, and so with the session and the sender of
     // each frame that was sent.
     ensures kept { (deliveries random : List (List ℕ)) → L.deliveries link.old ≡ Some deliveries → R.random fresh.old ≡ Some random

@@ -1,4 +1,4 @@
--- What the table of peers finds, in the words of the keyring.
+-- What the table of peers finds, in terms of the keyring.
 use Rattle.std.proofs.Common.{◌≡◌, ℕ, Bool, true, false, ◌||◌, sym, ap, ◌∙◌, refl, List, [], ◌∷◌, ◌++◌, map, cond, if◌then◌else◌, Option, Some, None, IfSome, is_some, option_map, bytes_eq, true≢false}
 use Rattle.std.specs.List.{AllByRecursion, find}
 use Rattle.std.specs.Map.{lookup}

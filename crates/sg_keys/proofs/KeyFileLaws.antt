@@ -1,4 +1,4 @@
--- A key file is read exactly where its bytes spell a keyring.
+-- A key file is read exactly if its bytes spell a keyring.
 use Rattle.std.proofs.Common.{◌≡◌, ℕ, ◌+◌, Bool, true, false, ◌⊎◌, inl, inr, List, [], ◌∷◌, ◌++◌, map, Option, Some, None, Result, Ok, Err, IfOk, IfErr, if◌then◌else◌, refl, sym, ap, subst, ◌∙◌, ◌≢◌}
 use Rattle.std.proofs.lemmas.List.{map-append, append-nil, append_assoc}
 use Rattle.toml.specs.Data.{Members}
@@ -74,7 +74,7 @@ spells_from_read bs k h = spells_document bs k (document bs) refl h
 pub read_from_spells : (bs : List ℕ) (k : Keyring) → SpellsKeys bs k → key_file bs ≡ Ok k
 read_from_spells bs k (table, e, s) = rw (e, s.head, s.peers) (makes (record k { peers = [] }) 1 k.peers s.differ)
 
--- an answer that is right unless memory ran out is the keyring where one is spelled
+-- an answer that is right unless memory ran out is the keyring if one is spelled
 pub answered : (r f : Result Keyring KeyFault) (k : Keyring) → IfOk r (λ k. f ≡ Ok k) → IfErr r (λ e. e ≢ OutOfMemory → f ≡ Err e) → f ≡ Ok k → (r ≡ Ok k) ⊎ (r ≡ Err OutOfMemory)
 answered (Ok k') f k ok fault h = inl (sym ok ∙ h)
 answered (Err NotToml) f k ok fault h = absurd (let e : f ≡ Err NotToml = fault (λ s. cc) in cc)

@@ -1,4 +1,4 @@
--- A map and a list of values beside the data that they stand for.
+-- A map and a list of values beside the data that they represent.
 use Rattle.std.proofs.Common.{◌≡◌, ℕ, Bool, ◌&&◌, List, [], ◌∷◌, map, String, Global, string_bytes, None, Some, is_some, if◌then◌else◌, refl, ap}
 use Rattle.std.specs.List.{list_all}
 use Rattle.std.specs.Map.{keys_of}
@@ -21,6 +21,6 @@ all_tables : (vs : List Value) → list_all (λ d. is_some (as_table d)) (map vi
 all_tables [] = refl
 all_tables (v ∷ vs) = ap (λ b. is_some (as_table (view v)) && b) (all_tables vs)
 
--- a list of values, where each is a table
+-- a list of values, if each is a table
 pub tables_in_items : (vs : List Value) → tables_in (items_view vs) ≡ (if list_all (λ v. is_some (as_table (view v))) vs then Some (map view vs) else None)
 tables_in_items vs = rw (list_of-items_of (map view vs), all_tables vs)

@@ -1,4 +1,4 @@
--- What is said of bytes that are no key file.
+-- The text for bytes that are no key file.
 use Rattle.std.specs.Prelude.{ℕ, List, ◌++◌, codes}
 use Rattle.std.specs.Fmt.{decimal}
 use Rattle.sg_keys.specs.declared.key_file.KeyFault.{KeyFault}

@@ -56,7 +56,7 @@ peer_in table =
 unfoldable pub peer_of : Data → Option Peer
 peer_of d = option_and_then peer_in (as_table d)
 
--- the items, where each is a table
+-- the items, if each is a table
 abbrev pub tables_in : Items → Option (List Data)
 tables_in items = if list_all (λ d. is_some (as_table d)) (list_of items) then Some (list_of items) else None
 

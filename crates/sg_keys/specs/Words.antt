@@ -4,7 +4,7 @@ use Rattle.std.specs.List.{slice_split}
 use Rattle.sg_base.specs.declared.address.Addr.{Addr}
 use Rattle.sg_base.specs.Words.{number, from_one}
 
--- four numbers, where all four and no more are there
+-- four numbers, if all four and no more are there
 abbrev pub four : List (Option ℕ) → Option (List ℕ)
 four (Some a ∷ Some b ∷ Some c ∷ Some d ∷ []) = Some (a ∷ b ∷ c ∷ d ∷ [])
 four _ = None

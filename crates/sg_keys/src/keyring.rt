@@ -67,7 +67,7 @@ impl Keyring {
         }
     }
 
-    /// Adds a peer as the last one. Refused where the name is the principal's own or a peer's, or where memory runs out; then the
+    /// Adds a peer as the last one. Refused if the name is the principal's own or a peer's, or if memory runs out; then the
     /// keyring is as before.
     pub fn add(
         &mut self,
@@ -116,7 +116,7 @@ impl Keyring {
         self.listen
     }
 
-    /// The key shared with a peer, or `None` where no peer has the name. It takes no memory.
+    /// The key shared with a peer, or `None` if no peer has the name. It takes no memory.
     pub fn key(&self, peer: &Name) -> Option<&[u8; 32]>
         ensures { option_copied result ≡ key_of self.now peer.now }
     {
@@ -126,7 +126,7 @@ impl Keyring {
         }
     }
 
-    /// The key shared with a peer, ready to tag, and the two that share it, or `None` where no peer has the name. It takes no memory.
+    /// The key shared with a peer, ready to tag, and the two that share it, or `None` if no peer has the name. It takes no memory.
     pub fn key_with(&self, peer: &Name) -> Option<(&Key, &Pair)>
         ensures key { option_map (λ k. k.0.now) result ≡ key_of self.now peer.now }
         ensures pair { IfSome result (λ k. k.1.now ≡ pair_of self.now.me peer.now) }
@@ -137,7 +137,7 @@ impl Keyring {
         }
     }
 
-    /// Where a peer is, or `None` where no peer has the name. It takes no memory.
+    /// Where a peer is, or `None` if no peer has the name. It takes no memory.
     pub fn addr(&self, peer: &Name) -> Option<Addr>
         ensures { result ≡ addr_of self.now peer.now }
     {

@@ -12,7 +12,7 @@ use crate::word::read_address;
 use sg_base::{Addr, Name, read_hex};
 use toml::{Table, Value};
 
-/// The text at a key, or `None` where there is none.
+/// The text at a key, or `None` if there is none.
 pub fn text_at<'a>(table: &'a Table, key: &str) -> Option<&'a str>
     ensures { option_map (λ s. s.now) result ≡ text_at key.now (table_view table.now) }
 {
@@ -22,7 +22,7 @@ pub fn text_at<'a>(table: &'a Table, key: &str) -> Option<&'a str>
     }
 }
 
-/// The name that the text at a key spells, or `None` where it spells none.
+/// The name that the text at a key spells, or `None` if it spells none.
 #[tactic(auto, unfolding(sg_base::specs::Words::name))]
 pub fn name_at(table: &Table, key: &str) -> Option<Name>
     ensures { result ≡ at name key.now (table_view table.now) }
@@ -88,7 +88,7 @@ fn are_tables(values: &[Value]) -> bool
     values.iter().all(|value| value.is_table())
 }
 
-// The values, where each is a table.
+// The values, if each is a table.
 fn tables_in(values: &[Value]) -> Option<&[Value]>
     ensures { option_map (λ vs. map view vs.now) result ≡ tables_in (items_view values.now) }
 {
@@ -109,7 +109,7 @@ fn tables_of(value: &Value) -> Option<&[Value]>
     }
 }
 
-/// The tables of the list at a key, none where the key is missing; `None` where it is no list of tables.
+/// The tables of the list at a key, none if the key is missing; `None` if it is no list of tables.
 pub fn tables_at<'a>(table: &'a Table, key: &str) -> Option<&'a [Value]>
     ensures { option_map (λ vs. map view vs.now) result ≡ tables_of (get_member key.now (table_view table.now)) }
 {

@@ -11,7 +11,7 @@ use Rattle.sg_know.specs.declared.fault.ReadFault.TheVariants.{NotWriter, ReadsO
 use Rattle.sg_know.specs.Reads.{AcceptedReads, HasBadRead, IsFirstFault, IsNotWriter, IsNowhere, IsReadsOwn}
 use Rattle.sg_know.proofs.First.{last-more, last_split}
 
--- where no index is wrong, the graph has what accepted graphs owe
+-- if no index is wrong, the graph has what accepted graphs owe
 pub accepted_reads : (g : Graph) → IsNowhere (IsNotWriter g) → IsNowhere (IsReadsOwn g) → IsNowhere (HasBadRead g) → AcceptedReads g
 accepted_reads g one two three = record {
   writers_write = λ e x w. true_from_ne_false (is_in (sender (shape g) e) (writers g x)) (λ f. one e x (w, f));
@@ -20,7 +20,7 @@ accepted_reads g one two three = record {
       (λ f. three e x (walk ++ e ∷ [], record { from_start = w; last_edge = last-more walk e; is_read = r; unknown = f }));
 }
 
--- of a graph that has it no fault is told but that memory ran out
+-- of a graph that has it no fault is reported but that memory ran out
 pub no_fault : (g : Graph) → AcceptedReads g → (fault : ReadFault) → IsFirstFault g fault → fault ≡ OutOfMemory
 no_fault g h (NotWriter e x) f = (let z : true ≡ false = sym (h.writers_write e x f.0.0) ∙ f.0.1 in absurd (cc))
 no_fault g h (ReadsOwn e x) f = absurd (h.others_read e x f.1.0.0 f.1.0.1)
@@ -32,12 +32,12 @@ no_fault g h (BadRead e x walk) f =
     absurd (cc)
 no_fault g h OutOfMemory f = refl
 
--- of such a graph the answer tells no fault but that memory ran out
+-- of such a graph the answer reports no fault but that memory ran out
 pub accepts : (g : Graph) (answer : Result (Unit {0}) ReadFault) → IfErr answer (IsFirstFault g) → AcceptedReads g → IfErr answer (λ fault. fault ≡ OutOfMemory)
 accepts g (Ok u) h a = tt
 accepts g (Err fault) h a = no_fault g a fault h
 
--- where the last kind isn't there either, the graph is such a graph
+-- if the last kind isn't there either, the graph is such a graph
 pub is_accepted : (g : Graph) (answer : Result (Unit {0}) ReadFault) → IsNowhere (IsNotWriter g) → IsNowhere (IsReadsOwn g) → OnOk answer (IsNowhere (HasBadRead g)) → OnOk answer (AcceptedReads g)
 is_accepted g (Ok u) one two three = accepted_reads g one two three
 is_accepted g (Err fault) one two three = tt

@@ -33,7 +33,7 @@ read_there g e x h =
 pub is_in_first : (x : ℕ) (xs : List ℕ) → is_in x (x ∷ xs) ≡ true
 is_in_first x xs = rw (eq-eqb x x refl) refl
 
--- rising numbers of which each is r are r alone, where r is one of them
+-- rising numbers of which each is r are r alone, if r is one of them
 pub only_one : (n r : ℕ) (xs : List ℕ) → AreNumbers n xs → ((y : ℕ) → y < n → is_in y xs ≡ true → y ≡ r) → is_in r xs ≡ true → xs ≡ r ∷ []
 only_one n r xs h each i = one xs (and_parts (rises_from 0 xs) (list_all (λ k. nat_lt k n) xs) h).0 (λ y k. each y (number_below n y xs h k) k) i
   where

@@ -70,7 +70,7 @@ unknown_bad g r x states h e i u before p =
       unknown = ap (λ q. knows g q x (before ++ e ∷ [])) u.1 ∙ knows_as g r x (before ++ e ∷ []) ∙ ap (λ (s : WalkState). is_known s.mark) (state_after-more g r x e before ∙ ap (state_along g r x e) walks.1) ∙ after.2;
     }
 
--- ---- the least place
+-- ---- the least position
 
 -- one index up to another, and that up to a third
 IsUpTo-through : (e x f y k z : ℕ) → IsUpTo e x f y → IsUpTo f y k z → IsUpTo e x k z
@@ -113,7 +113,7 @@ first_bad g r x states e i before walk h u least p is = ((((walk, bad), u.1, ref
         let le = least f v.0 v.1 in
         elim (cases_lt e f) [ inl l ↦ inl l | inr l ↦ inr (omega arith, omega (arith, b.2)) ]
 
--- the first of one kind of indices, where another kind has the same indices
+-- the first of one kind of indices, if another kind has the same indices
 pub IsFirstBad-same : (g : Graph) (P Q : ℕ → ℕ → Type 0) (found : Option Found) → ((e x : ℕ) → P e x → Q e x) → ((e x : ℕ) → Q e x → P e x) → IsFirstBad g P found → IsFirstBad g Q found
 IsFirstBad-same g P Q None to from h = λ e x q. h e x (from e x q)
 IsFirstBad-same g P Q (Some b) to from h = ((to b.label b.var h.0.0, λ f y q. h.0.1 f y (from f y q)), h.1)

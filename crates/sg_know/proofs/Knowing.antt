@@ -1,4 +1,4 @@
--- What one edge more tells of a variable and a role.
+-- What one edge more says of a variable and a role.
 use Rattle.std.proofs.Common.{◌≡◌, ℕ, Bool, true, false, ◌&&◌, ◌||◌, if◌then◌else◌, List, [], ◌∷◌, ◌++◌, refl, ap, ◌∙◌, inl, inr}
 use Rattle.std.specs.List.{list_any}
 use Rattle.std.proofs.lemmas.Bool.{cases_Bool, or_parts}
@@ -10,7 +10,7 @@ use Rattle.sg_protocol.specs.Graph.{Graph, shape, writes}
 use Rattle.sg_protocol.specs.Knowledge.{learns, knows}
 use Rattle.sg_know.specs.States.{known_if, mark_of, mark_after, is_known, state_after, state_along}
 
--- no list begins with a last one that passes where none passes
+-- no list begins with a last one that passes if none passes
 from_last-none : {A : Type 0} (p : A → Bool) (xs : List A) → list_any p xs ≡ false → from_last p xs ≡ []
 from_last-none p [] h = refl
 from_last-none p (x ∷ xs) h = let parts = or_parts (p x) (list_any p xs) h in rw (parts.1, parts.0) refl

@@ -30,7 +30,7 @@ still states t i l = get_or_append_left states (t ∷ []) begin i l
 at_end : (states : List ReachedState) (t : ReachedState) (i : ℕ) → length states ≤ i → i < length (states ++ t ∷ []) → (length states ≡ i) × (get_or (states ++ t ∷ []) i begin ≡ t)
 at_end states t i le li = let end : length states ≡ i = omega (arith, length_push states t) in (end, get_or_push states t begin i end)
 
--- what holds of each place and its element, and of the end and the new one, holds of each place with one element more
+-- what holds of each index and its element, and of the end and the new one, holds of each index with one element more
 each_more : (P : ℕ → ReachedState → Type 0) (states : List ReachedState) (t : ReachedState) → ((i : ℕ) → i < length states → P i (get_or states i begin)) → P (length states) t
     → (i : ℕ) → i < length (states ++ t ∷ []) → P i (get_or (states ++ t ∷ []) i begin)
 each_more P states t before last i li =

@@ -1,4 +1,4 @@
--- What is said of a graph whose writes or reads are wrong, by its names.
+-- The text for a graph whose writes or reads are wrong, by its names.
 use Rattle.std.specs.Prelude.{ℕ, List, ◌++◌, codes}
 use Rattle.sg_protocol.specs.Graph.{Graph}
 use Rattle.sg_graph.specs.Named.{label_and_var_text, walk_text}

@@ -13,15 +13,15 @@ IsBadOf g r x e y = HasBadRead g e y × (sender (shape g) e ≡ r) × (y ≡ x)
 abbrev pub IsBadOfVar : Graph → ℕ → ℕ → ℕ → Type 0
 IsBadOfVar g x e y = HasBadRead g e y × (y ≡ x)
 
--- the bad read at the least place where P holds, or none where P holds nowhere
+-- the bad read at the least position where P holds, or none if P holds nowhere
 abbrev pub IsFirstBad : Graph → (ℕ → ℕ → Type 0) → Option Found → Type 0
 IsFirstBad g P found = MatchOption found (IsNowhere P) (λ b. IsLeast P b.label b.var × IsBadRead g b.label b.var b.walk)
 
--- the place of the first bad read is that of the second or comes before it
+-- the position of the first bad read is that of the second or comes before it
 abbrev pub is_up_to : Found → Found → Bool
 is_up_to one other = nat_lt one.label other.label || ((one.label == other.label) && nat_le one.var other.var)
 
--- the one of the lesser place
+-- the one of the lesser position
 abbrev pub earlier : Option Found → Option Found → Option Found
 earlier None other = other
 earlier (Some one) None = Some one

@@ -27,19 +27,19 @@ pub record IsBadRead (g : Graph) (e x : ℕ) (walk : List ℕ) : Type 0 where
 abbrev pub HasBadRead : Graph → ℕ → ℕ → Type 0
 HasBadRead g e x = (walk : List ℕ) × IsBadRead g e x walk
 
--- the place (e, x) is (f, y) or comes before it: by the labels, then by the variables
+-- the position (e, x) is (f, y) or comes before it: by the labels, then by the variables
 abbrev pub IsUpTo : ℕ → ℕ → ℕ → ℕ → Type 0
 IsUpTo e x f y = (e < f) ⊎ ((e ≡ f) × (x ≤ y))
 
--- P holds at (e, x), and at no place before it
+-- P holds at (e, x), and at no position before it
 abbrev pub IsLeast : (ℕ → ℕ → Type 0) → ℕ → ℕ → Type 0
 IsLeast P e x = P e x × ((f y : ℕ) → P f y → IsUpTo e x f y)
 
--- P holds at no place
+-- P holds at no position
 abbrev pub IsNowhere : (ℕ → ℕ → Type 0) → Type 0
 IsNowhere P = (e x : ℕ) → P e x → ⊥
 
--- the fault is of the first kind that there is, and names its least place
+-- the fault is of the first kind that there is, and names its least position
 abbrev pub IsFirstFault : Graph → ReadFault → Type 0
 IsFirstFault g (NotWriter e x) = IsLeast (IsNotWriter g) e x
 IsFirstFault g (ReadsOwn e x) = IsNowhere (IsNotWriter g) × IsLeast (IsReadsOwn g) e x

@@ -1,4 +1,4 @@
--- What the walks from the start tell of one variable and one role, and the list of all that they tell.
+-- What the walks from the start say of one variable and one role, and the list of all that they say.
 use Rattle.std.specs.Prelude.{◌≡◌, ◌⊎◌, ℕ, ◌+◌, ◌*◌, ◌<◌, ◌≤◌, Bool, true, false, if◌then◌else◌, List, [], ◌∷◌, ◌++◌, length, get_or, Option, Some, None, IfSome, MatchOption, IsTrue, is_some}
 use Rattle.std.specs.List.{list_any, count_by}
 use Rattle.sg_model.specs.Lists.{is_in}
@@ -110,7 +110,7 @@ IsUnknownAfter g r x states e i = (i < length states) × ((state_at states i).no
 abbrev pub IsUnknownRead : Graph → ℕ → ℕ → List ReachedState → ℕ → ℕ → Type 0
 IsUnknownRead g r x states e i = (e < length g.edges) × (sender (shape g) e ≡ r) × IsTrue (is_in x (reads g e)) × IsUnknownAfter g r x states e i
 
--- such a read with the least label, or none where there is none
+-- such a read with the least label, or none if there is none
 abbrev pub IsFirstUnknown : Graph → ℕ → ℕ → List ReachedState → Option UnknownRead → Type 0
 IsFirstUnknown g r x states found =
     MatchOption found ((e i : ℕ) → IsUnknownRead g r x states e i → ⊥)

@@ -67,7 +67,7 @@ fn senders_of(graph: &Graph, var: Var) -> RoleSet
     senders
 }
 
-/// The one of the lesser place, the first where both have one place.
+/// The one of the lesser position, the first if both have one position.
 fn earlier(one: Option<BadRead>, other: Option<BadRead>) -> Option<BadRead>
     ensures { result ≡ earlier one other }
 {

@@ -4,7 +4,7 @@
 //! sender knows on each walk from the start that ends with this edge: the variable was written, and at or after its last write there is
 //! a step along which the sender wrote it or received it as read. The last edge counts for its own writes.
 //!
-//! Of one variable and one role a walk tells where it ends and one of three marks: the variable was not written, or the role doesn't
+//! Of one variable and one role a walk gives where it ends and one of three marks: the variable was not written, or the role doesn't
 //! know it, or the role knows it. So the states that walks lead to are few, and each is found once.
 #![tactic(auto)]
 

@@ -11,8 +11,8 @@ use sg_graph::Graph;
 use std::alloc::Global;
 
 /// Whether edges write and read as they may. A refusal is of the first kind that there is, in the order of the variants, and names the
-/// least place of that kind: the least label, and with it the least variable. The clauses on the answers are mutually exclusive, so
-/// each answer comes exactly where its clause holds, unless memory runs out.
+/// least position of that kind: the least label, and with it the least variable. The clauses on the answers are mutually exclusive, so
+/// each answer comes exactly if its clause holds, unless memory runs out.
 ///
 /// It takes memory for the edges by the nodes that they leave, for the states of one variable and one role at a time, 768 at most, and
 /// for two walks. Time is in proportion to the states and the edges that leave them, for each variable and each role that sends along an

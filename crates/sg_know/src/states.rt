@@ -1,4 +1,4 @@
-//! What walks tell of one variable and one role, and the list of all that they tell.
+//! What walks say of one variable and one role, and the list of all that they say.
 ghost use Rattle.std.specs.Prelude.{◌≡◌, ◌<◌, ◌≤◌, [], length, MatchOption, IfSome, IfOk, OnOk, OnErr};
 ghost use Rattle.sg_know.specs.States.{Enters, Has, IsPath, key_of, rank_of, state_at, step_at};
 
@@ -6,7 +6,7 @@ use sg_base::{Label, NodeId, OutOfMemory};
 use std::alloc::Global;
 use std::marker::Model;
 
-/// What a walk tells of a variable and a role.
+/// What a walk says of a variable and a role.
 #[derive(Debug, Clone, Copy)]
 pub(crate) enum Mark {
     /// The variable was not written.

@@ -1,4 +1,4 @@
--- Where a node blinds two roles, what honest roles do need not follow a walk: an example that is checked.
+-- If a node blinds two roles, what honest roles do need not follow a walk: an example that is checked.
 use Rattle.std.proofs.Common.{◌≡◌, ℕ, zero, suc, ◌≤◌, ◌==◌, Bool, not, List, [], ◌∷◌, length, refl, ap, inl, inr, arith}
 use Rattle.sg_law.specs.Graph.{Arrow, Shape, Walk}
 use Rattle.sg_law.specs.Accept.{TimedLabel, step_labels}

@@ -31,7 +31,7 @@ found os x = value_at (map (λ (o : Opening). (o.variable, o.value)) os) x
 abbrev pub fill : (ℕ → Option Value) → List (ℕ × Option Value) → List (ℕ × Option Value)
 fill found ws = map (λ (w : ℕ × Option Value). (w.0, option_or w.1 (found w.0))) ws
 
--- where nothing is written later
+-- if nothing is written later
 abbrev pub unless_later : Option (Option Value) → Option Value → Option Value
 unless_later None f = f
 unless_later (Some r) f = None

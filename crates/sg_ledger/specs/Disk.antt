@@ -39,6 +39,6 @@ pub record IsLeftAlone {D : Type 0} (seen : D → Option (List ℕ)) (may_leave 
   pub keeps : Keeps (may_leave old) (may_leave new)
   pub any_moment : LeavesOnly moment left_since old new (may_leave old)
 
--- where the file is told, it has this
+-- if the file is known, it has this
 abbrev pub WhereTold : Option (List ℕ) → (List ℕ → Type 0) → Type 0
 WhereTold seen P = (file : List ℕ) → seen ≡ Some file → P file

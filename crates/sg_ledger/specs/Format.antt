@@ -14,7 +14,7 @@ magic = 0x53 ∷ 0x47 ∷ 0x4C ∷ 0x45 ∷ 0x44 ∷ 0x47 ∷ 0x30 ∷ 0x31 ∷ 
 abbrev pub slot_of : List ℕ → ℕ → List ℕ
 slot_of file n = take 34 (drop (8 + 34 * n) file)
 
--- the gate of a slot is its first byte, and it is open exactly where it is 1
+-- the gate of a slot is its first byte, and it is open exactly if it is 1
 abbrev pub IsOpen : List ℕ → Type 0
 IsOpen slot = get_or slot 0 0 ≡ 1
 
@@ -50,7 +50,7 @@ pub record Represents (file : List ℕ) (joins : List Join) : Type 0 where
   pub ledger : IsLedger file
   pub slots : SlotsRepresent file most_joins joins
 
--- they represent the joins, or for the joins and one more
+-- they represent the joins, or the joins and one more
 abbrev pub RepresentsOneOf : List Join → Join → List ℕ → Type 0
 RepresentsOneOf joins join file = Represents file joins ⊎ Represents file (joins ++ join ∷ [])
 

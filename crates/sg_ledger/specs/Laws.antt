@@ -17,6 +17,6 @@ now_counts m t image le is = (length m.calls, le, omega arith, subst (λ (p : Pl
 pub now_only : (m : Medium) (image : List ℕ) → LeftSince m (length m.calls) image → IsImage (platter m) image
 now_only m image left = subst (λ (p : Platter). IsImage p image) (whole m left.0 left.1) left.3
 
--- what is not told is no file
+-- what is not known is no file
 pub never_told : (file : List ℕ) → None ≡ Some file → ⊥
 never_told file is = true≢false (ap is_some (sym is))

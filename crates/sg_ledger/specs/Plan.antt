@@ -17,7 +17,7 @@ abbrev pub is_past : Option ℕ → ℕ → Bool
 is_past None number = false
 is_past (Some last) number = nat_lt last number
 
--- what becomes of the next call: past the stop or past its room it never reaches the disk, and it fails where it is on the list
+-- what becomes of the next call: past the stop or past its room it never reaches the disk, and it fails if it is on the list
 abbrev pub fate_of : DiskPlan → Bool → Fate
 fate_of p has_room =
     if is_past p.stop (one_more p.calls) || not has_room then Stopped

@@ -1,9 +1,9 @@
 //! A disk, as a trait: one file, and what a crash may leave of it.
 //!
-//! Between two syncs a crash may leave any bytes in each range that was written and past the old end, also where the write failed;
+//! Between two syncs a crash may leave any bytes in each range that was written and past the old end, also if the write failed;
 //! the bytes elsewhere stay. After a sync that succeeds it leaves what a read gives. What a crash may leave are the images of the
-//! disk. A disk in memory tells its file and its images; one of the system tells neither, so the clauses on them speak of what is
-//! told. The name of the file that it is bound to, each disk tells.
+//! disk. Of a disk in memory its file and its images are known; of one of the system neither, so the clauses on them speak of what is
+//! known. The name of the file that it is bound to, each disk tells.
 ghost use Rattle.std.specs.Prelude.{◌≡◌, ℕ, ◌+◌, ◌<◌, ◌≤◌, ◌^◌, List, Option, Some, length, take, drop, IfOk, OnErr, OnOk};
 ghost use Rattle.sg_base.specs.Outside.{HasRisen};
 ghost use Rattle.sg_ledger.specs.Disk.{overlaid, Torn, Keeps, Follows, Elapses, WhereTold};
@@ -31,10 +31,10 @@ pub trait Disk {
     /// The name of the file that it is bound to, or `None` before one is opened.
     ghost bound: { Self → Option (List ℕ) };
 
-    /// The bytes of the file as a read gives them, where they are told.
+    /// The bytes of the file as a read gives them, if they are known.
     ghost seen: { Self → Option (List ℕ) };
 
-    /// The images: what a crash at this moment may leave of the file. Where nothing is told, there is no image.
+    /// The images: what a crash at this moment may leave of the file. If nothing is known, there is no image.
     ghost may_leave: { Self → List ℕ → Type 0 };
 
     /// The moment, a number that doesn't fall.
@@ -43,7 +43,7 @@ pub trait Disk {
     /// What a crash at some moment from that one on might have left, within a call or between two.
     ghost left_since: { Self → ℕ → List ℕ → Type 0 };
 
-    /// Binds the file of a name, which is made empty where it is missing. Where it fails, it is bound to the file of before.
+    /// Binds the file of a name, which is made empty if it is missing. Where it fails, it is bound to the file of before.
     fn open(&mut self, name: &str) -> Result<(), Failed>
         ensures never_falls { faults self.old ≤ faults self.new }
         ensures failed { OnErr result (HasRisen (faults self.old) (faults self.new)) }
@@ -75,7 +75,7 @@ pub trait Disk {
         ensures images { Keeps (may_leave self.old) (may_leave self.new) }
         ensures time { Elapses (moment self.old) (moment self.new) (left_since self.old) (left_since self.new) (may_leave self.new) };
 
-    /// Writes over what is there, from an offset on, and past the end. Where it fails, any part of the range may be written.
+    /// Writes over what is there, from an offset on, and past the end. If it fails, any part of the range may be written.
     fn write(&mut self, at: u32, bytes: &[u8]) -> Result<(), Failed>
         requires fits { at + length bytes.now < 2 ^ 32 }
         requires begins { WhereTold (seen self.old) (λ file. at ≤ length file) }
@@ -99,7 +99,7 @@ pub trait Disk {
     /// The bytes as read are one of the images.
     ghost read_is_image: { (disk : Self) (file : List ℕ) → seen disk ≡ Some file → may_leave disk file };
 
-    /// Where an image is told, so are the bytes as read.
+    /// If an image is known, so are the bytes as read.
     ghost told: { (disk : Self) (image : List ℕ) → may_leave disk image → (file : List ℕ) × (seen disk ≡ Some file) };
 
     /// This moment is one of those since an earlier one.

@@ -57,7 +57,7 @@ fn folder_of(name: &str) -> &str {
     }
 }
 
-// Opens a file, which is made where it is missing, takes its lock, and brings its name to the disk.
+// Opens a file, which is made if it is missing, takes its lock, and brings its name to the disk.
 fn open_file<R: rt::Files<File = File>>(rt: &R, name: &str) -> io::Result<File> {
     let file = OpenOptions::new()
         .read(true)
@@ -154,7 +154,7 @@ impl<R: rt::Files<File = File> + Drop> Disk for FileDisk<R> {
     }
 
     fn sync(&mut self) -> Result<(), Failed> {
-        // The bytes, and the length where it changed: all that a read needs.
+        // The bytes, and the length if it changed: all that a read needs.
         if let Some(file) = &self.file
             && file.sync_data().is_ok()
         {

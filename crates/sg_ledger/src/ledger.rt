@@ -90,7 +90,7 @@ impl Model for Ledger {
 
 impl Ledger {
     /// Makes a ledger of an empty file: the head and closed gates. It is made once this has answered Ok; after a crash before that
-    /// the file is to be removed. Refused where the file has bytes, where the disk fails, or where memory runs out; unless the disk
+    /// the file is to be removed. Refused if the file has bytes, if the disk fails, or if memory runs out; unless the disk
     /// failed, the file is then as before.
     pub fn create<D: Disk>(alloc: Global, disk: &mut D) -> Result<(), CreateFault>
         ensures never_falls { D.faults disk.old ≤ D.faults disk.new }
@@ -101,7 +101,7 @@ impl Ledger {
         ensures blank { OnOk result ((image : List ℕ) → D.may_leave disk.new image → IsBlank image) }
         ensures made { OnOk result ((image : List ℕ) → D.may_leave disk.new image → Represents image []) }
 
-        // A file that has bytes is left alone whatever the answer is, and any file where memory ran out.
+        // A file that has bytes is left alone whatever the answer is, and any file if memory ran out.
         ensures refused { IfErr result (λ e. e ≢ CreateFault.Failed → IsLeftAlone D.seen D.may_leave D.moment D.left_since disk.old disk.new) }
         ensures used { (file : List ℕ) → D.seen disk.old ≡ Some file → file ≢ [] → IsLeftAlone D.seen D.may_leave D.moment D.left_since disk.old disk.new }
     {
@@ -121,8 +121,8 @@ impl Ledger {
         }
     }
 
-    /// Opens a ledger: brings to the disk what a read gives, and reads the joins. It writes nothing. Refused where the bytes are no
-    /// ledger, where a slot is bad, where the disk fails, or where memory runs out. Whatever image a crash has left, it gives the
+    /// Opens a ledger: brings to the disk what a read gives, and reads the joins. It writes nothing. Refused if the bytes are no
+    /// ledger, if a slot is bad, if the disk fails, or if memory runs out. Whatever image a crash has left, it gives the
     /// joins that the image represents.
     pub fn open<D: Disk>(alloc: Global, disk: &mut D) -> Result<Ledger, OpenFault>
         ensures never_falls { D.faults disk.old ≤ D.faults disk.new }
@@ -172,7 +172,7 @@ impl Ledger {
     }
 
     /// Adds a join, as the last one: room in memory, the pair behind a closed gate, a sync, the gate, a sync. Once it has answered
-    /// Ok, every image has the pair. Refused where the pair is there, where 65,536 pairs are there, where the disk fails, or where
+    /// Ok, every image has the pair. Refused if the pair is there, if 65,536 pairs are there, if the disk fails, or if
     /// memory runs out. After `Failed` the ledger has failed, and is to be opened again; after another refusal ledger and disk are
     /// as before.
     pub fn add<D: Disk>(&mut self, disk: &mut D, sid: Sid, role: Role) -> Result<(), AddJoinFault>
@@ -188,7 +188,7 @@ impl Ledger {
         ensures broken { result ≡ Err AddJoinFault.Failed → self.new ≡ record { joins = self.old.joins; failed = true } }
         ensures same { IfErr result (λ e. e ≢ AddJoinFault.Failed → (self.new ≡ self.old) × (disk.new ≡ disk.old)) }
 
-        // From Ok on each image represents the joins with the new one; at each moment of the call, for them with or without it.
+        // From Ok on each image represents the joins with the new one; at each moment of the call, them with or without it.
         ensures acknowledged { OnOk result ((image : List ℕ) → D.may_leave disk.new image → Represents image self.new.joins) }
         ensures any_moment { LeavesOnly D.moment D.left_since disk.old disk.new (RepresentsOneOf self.old.joins (sid, role)) }
     {

@@ -1,7 +1,7 @@
 //! Joins that outlive a restart: a ledger on a disk.
 //!
 //! A principal joins each session in each role at most once, also when it was stopped in between. So each join is added to a ledger
-//! before anything of it is told. The ledger is a file of 65,536 slots. A pair is written behind a closed gate and brought to the
+//! before anything of it is written or sent. The ledger is a file of 65,536 slots. A pair is written behind a closed gate and brought to the
 //! disk, and then the gate is opened by a write of one byte: after a crash at any moment the file represents the joins with the new
 //! one or without it, and with it once [`Ledger::add`] has answered Ok. [`Ledger::open`] writes nothing, and gives the joins that the file
 //! represents.

@@ -14,7 +14,7 @@ use sg_base::{Failed, OutOfMemory};
 use std::alloc::Global;
 use std::marker::Model;
 
-/// A disk in memory with one file, which is empty at first. It tells its file and its images at each moment, by a record of its calls, and
+/// A disk in memory with one file, which is empty at first. Its file and its images are known at each moment, by a record of its calls, and
 /// the name that it was opened by; each name is that of the one file.
 ///
 /// It has room for a given number of bytes in the file and as many written in all, and for a given number of calls, and doesn't grow.

@@ -23,7 +23,7 @@ pub(crate) const FILE: usize = HEAD + SLOT * MOST_JOINS;
 /// How many joins a ledger has at most.
 pub(crate) const MOST_JOINS: usize = 65_536;
 
-// Reads a slot. It gives false where no ledger has this slot after these joins.
+// Reads a slot. It gives false if no ledger has this slot after these joins.
 fn read_slot(
     joins: &mut IndexSet<(Sid, Role)>,
     slot: &[u8],

@@ -17,7 +17,7 @@ pub record HasRoom (pieces : List (List ℕ)) : Type 0 where
   pub fewer : length pieces < 65536
   pub fits : length (concat pieces) + 16384 ≤ 4194304
 
--- the pieces behind the end of the first connection, or none where it has no end yet
+-- the pieces behind the end of the first connection, or none if it has no end yet
 abbrev pub behind_first : List (List ℕ) → List (List ℕ)
 behind_first [] = []
 behind_first (p ∷ ps) = if length p == 0 then ps else behind_first ps

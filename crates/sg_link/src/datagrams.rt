@@ -17,7 +17,7 @@ pub(crate) struct Datagrams {
 }
 
 impl Datagrams {
-    /// A socket at an address. `None` where the system has none.
+    /// A socket at an address. `None` if the system has none.
     pub(crate) fn bind<R: Net>(rt: &R, at: Addr) -> Option<Datagrams> {
         match UdpSocket::bind(rt, socket_addr(at)) {
             Ok(socket) => Some(Datagrams {
@@ -44,7 +44,7 @@ impl Datagrams {
         Err(Failed)
     }
 
-    /// The same, but `None` where no datagram came within a time, which may be no time at all. Before it is `None`, it has looked once
+    /// The same, but `None` if no datagram came within a time, which may be no time at all. Before it is `None`, it has looked once
     /// more when the time was over.
     pub(crate) fn receive_within<C: Clock>(
         &mut self,
@@ -74,7 +74,7 @@ impl Datagrams {
         Err(Failed)
     }
 
-    /// Sends a datagram, and tells whether the system took all of it.
+    /// Sends a datagram, and returns whether the system took all of it.
     pub(crate) fn send(&mut self, bytes: &[u8], to: Addr) -> bool {
         if !self.set_blocks(true) {
             return false;
@@ -89,7 +89,7 @@ impl Datagrams {
         false
     }
 
-    // Has the next read wait for so long at most, and tells whether the system took that. It takes no read that waits for no time.
+    // Has the next read wait for so long at most, and returns whether the system took that. It takes no read that waits for no time.
     fn set_most(&mut self, most: Duration) -> bool {
         if most.is_zero() {
             self.set_blocks(false)
@@ -98,7 +98,7 @@ impl Datagrams {
         }
     }
 
-    // Has reads wait for so long at most, or for as long as it takes, and tells whether the system took that.
+    // Has reads wait for so long at most, or for as long as it takes, and returns whether the system took that.
     fn set_limit(&mut self, most: Option<Duration>) -> bool
         ensures { IsTrue result → (self.new.blocks ≡ true) × (self.new.limited ≡ is_some most) }
     {
@@ -114,7 +114,7 @@ impl Datagrams {
         true
     }
 
-    // Has calls wait or not, and tells whether the system took that.
+    // Has calls wait or not, and returns whether the system took that.
     fn set_blocks(&mut self, blocks: bool) -> bool
         ensures blocks { IsTrue result → self.new.blocks ≡ blocks }
         ensures limited { self.new.limited ≡ self.old.limited }

@@ -38,7 +38,7 @@ pub(crate) fn connect<R: Net + Clock>(
     Err(Failed)
 }
 
-// One attempt to connect, or `None` where there was no answer in time.
+// One attempt to connect, or `None` if there was no answer in time.
 fn attempt<R: Net + Clock>(
     rt: &R,
     intake: &mut Intake,
@@ -66,7 +66,7 @@ fn attempt<R: Net + Clock>(
     Err(Failed)
 }
 
-// Whether a connection stands by now. It fails where the peer refused it.
+// Whether a connection stands by now. It fails if the peer refused it.
 fn stands(stream: &TcpStream) -> Result<bool, Failed> {
     match stream.take_error() {
         Ok(None) => Ok(stream.peer_addr().is_ok()),

@@ -20,8 +20,8 @@ const MOST_PIECES: usize = 65_536;
 /// Pieces in the order in which they came, an empty one where a connection ends. All room is made beforehand: 4,194,304 bytes, and
 /// 65,536 pieces.
 ///
-/// Bytes that were handed out stay in their place until they are at least half of what is held, so that the work is in proportion to the
-/// bytes, and there are twice as many places.
+/// Bytes that were handed out stay where they are until they are at least half of what is held, so that the work is in proportion to the
+/// bytes, and there is room for twice as many.
 #[derive(Drop)]
 pub(crate) struct Inbox {
     lens: VecDeque<usize>,
@@ -96,7 +96,7 @@ impl Inbox {
         }
     }
 
-    /// Removes the pieces of the first connection, with its end, and tells whether that was there.
+    /// Removes the pieces of the first connection, with its end, and returns whether that was there.
     pub(crate) fn remove_connection(&mut self) -> bool
         ensures pieces { self.new ≡ behind_first self.old }
         ensures ended { result ≡ list_any (λ p. length p == 0) self.old }
@@ -112,7 +112,7 @@ impl Inbox {
     }
 }
 
-// Moves the bytes that were not handed out to the front, where they are the lesser half of all.
+// Moves the bytes that were not handed out to the front, if they are the lesser half of all.
 fn move_to_front(bytes: &mut Vec<u8>, taken: &mut usize)
     requires { taken.old ≤ length bytes.old.items }
     ensures within { taken.new ≤ length bytes.new.items }
@@ -129,7 +129,7 @@ fn move_to_front(bytes: &mut Vec<u8>, taken: &mut usize)
     }
 }
 
-// Puts bytes at the end, where there is room.
+// Puts bytes at the end, if there is room.
 fn append(bytes: &mut Vec<u8>, piece: &[u8])
     requires { length bytes.old.items + length piece.now ≤ vec_capacity bytes.old }
     ensures items { bytes.new.items ≡ bytes.old.items ++ piece.now }
@@ -138,7 +138,7 @@ fn append(bytes: &mut Vec<u8>, piece: &[u8])
     let _ = bytes.extend_from_slice(piece);
 }
 
-// Puts a length at the end, where there is room.
+// Puts a length at the end, if there is room.
 fn put_last(lens: &mut VecDeque<usize>, len: usize)
     requires { length lens.old.items < deque_capacity lens.old }
     ensures items { lens.new.items ≡ lens.old.items ++ len ∷ [] }

@@ -40,7 +40,7 @@ pub(crate) struct Intake {
 }
 
 impl Intake {
-    /// Takes in what comes to a listener, which doesn't block. All room is made here. `None` where there is none, or the system failed.
+    /// Takes in what comes to a listener, which doesn't block. All room is made here. `None` if there is none, or the system failed.
     pub(crate) fn new<R: Net>(
         rt: &R,
         alloc: Global,
@@ -67,7 +67,7 @@ impl Intake {
         })
     }
 
-    /// Takes another listener in the place of the one before, and keeps what came in. It tells whether the system could.
+    /// Takes another listener in the place of the one before, and keeps what came in. It returns whether the system could.
     pub(crate) fn listen(&mut self, mut listener: TcpListener) -> bool {
         if !self.watch.add(&mut listener, Interest::READABLE) {
             return false;
@@ -76,7 +76,7 @@ impl Intake {
         true
     }
 
-    /// The next piece, an empty one where a connection has ended. It waits for as long as that takes.
+    /// The next piece, an empty one if a connection has ended. It waits for as long as that takes.
     pub(crate) fn next<C: Clock>(
         &mut self,
         clock: &C,
@@ -136,7 +136,7 @@ impl Intake {
     }
 
     /// Takes in what is offered, and then waits for a change of it or of a connection for writing, for so long at most. It takes no
-    /// memory. It tells whether the system could.
+    /// memory. It returns whether the system could.
     pub(crate) fn wait<C: Clock>(&mut self, clock: &C, most: Duration) -> bool {
         self.take_in(clock);
         match patience(clock, self.limit, &self.reading) {
@@ -145,7 +145,7 @@ impl Intake {
         }
     }
 
-    /// Waits from now on for changes of a connection for writing too. It tells whether the system could.
+    /// Waits from now on for changes of a connection for writing too. It returns whether the system could.
     pub(crate) fn waits_for(&self, stream: &mut TcpStream) -> bool {
         self.watch.add(stream, Interest::WRITABLE)
     }
@@ -166,7 +166,7 @@ fn patience<C: Clock>(clock: &C, limit: Duration, reading: &Option<Reading>) -> 
     }
 }
 
-// Accepts the next connection, where none is read and one is offered. It tells whether the system could.
+// Accepts the next connection, if none is read and one is offered. It returns whether the system could.
 fn accept<C: Clock>(
     clock: &C,
     watch: &Watch,
@@ -224,7 +224,7 @@ fn read_on<C: Clock>(
     Came::End
 }
 
-// Reads some bytes, and gives their number, which is 0 where the connection has ended or its peer broke it off, or `None` where there are
+// Reads some bytes, and gives their number, which is 0 if the connection has ended or its peer broke it off, or `None` if there are
 // none yet.
 fn read_some<S: Read>(stream: &mut S, bytes: &mut [u8]) -> Option<usize> {
     for _ in 0..u64::MAX {

@@ -1,7 +1,7 @@
 //! The edge to the network: frames as UDP datagrams, and connections over TCP, over which a `StreamLink` carries frames.
 //!
 //! A frame has at most 60,000 bytes, and a datagram over IPv4 carries up to 65,507 (RFC 768, RFC 791), so each frame is one datagram.
-//! What comes is handed on as it is: whether it is a frame, and whose, is for the node to say. A link tells nothing of its content,
+//! What comes is handed on as it is: whether it is a frame, and whose, is for the node to say. The content of a link is not known,
 //! and that the system sends and receives what it is given is trusted; a test over the loopback shows it once.
 #![tactic(auto)]
 

@@ -24,7 +24,7 @@ const MOST_SECONDS: u64 = 10;
 /// other: the next one is taken when the present one has ended or was closed, or gave no byte for 10 seconds, after which it is closed and
 /// has ended. A connection that its peer breaks off has ended too. One connection at a time is open for writing.
 ///
-/// `take` waits for a connection and for its bytes, for as long as that takes, and never gives `None`. `connect` and `give` fail where the
+/// `take` waits for a connection and for its bytes, for as long as that takes, and never gives `None`. `connect` and `give` fail if the
 /// peer's system answers nothing, or takes no byte, for 10 seconds. While they wait they take in what is offered: they read a connection
 /// whole, close it, and go on to the next. `take` hands all of that out first, in the order in which it was accepted. For that there is room
 /// for 4,194,304 bytes and 65,536 pieces, an end being one, which is made when they are opened; what finds no room waits in the system. So
@@ -61,7 +61,7 @@ impl<
     }
 }
 
-// A listener at an address, which doesn't block. `None` where the system has none.
+// A listener at an address, which doesn't block. `None` if the system has none.
 fn listener_at<R: Net<Listener = std::net::TcpListener, Stream = std::net::TcpStream>>(
     rt: &R,
     at: Addr,
@@ -75,7 +75,7 @@ fn listener_at<R: Net<Listener = std::net::TcpListener, Stream = std::net::TcpSt
     Some(TcpListener::from_std(listener))
 }
 
-// Listens at an address from now on, and tells whether the system could, and there was memory for what comes in.
+// Listens at an address from now on, and returns whether the system could, and there was memory for what comes in.
 fn listen<
     R: Net<Listener = std::net::TcpListener, Stream = std::net::TcpStream> + Alloc<A = Global>,
 >(rt: &R, intake: &mut Option<Intake>, at: Addr, limit: Duration) -> bool {
@@ -125,7 +125,7 @@ impl<
 
     ghost held = { λ _. None };
 
-    /// It fails too where there is no memory for what comes in.
+    /// It fails too if there is no memory for what comes in.
     fn open(&mut self, at: Addr) -> Result<(), Failed> {
         if listen(&self.rt, &mut self.intake, at, self.limit) {
             self.bound = Some(at);
@@ -221,7 +221,7 @@ mod tests {
         whole
     }
 
-    // Takes a connection whole, and tells whether it brought these bytes.
+    // Takes a connection whole, and returns whether it brought these bytes.
     fn takes<C: Conns>(alloc: Global, conns: &mut C, bytes: &[u8]) -> bool {
         let mut rest = bytes;
         for _ in 0..u32::MAX {
@@ -239,7 +239,7 @@ mod tests {
         false
     }
 
-    // Connects and gives bytes until that fails, so many times at most, and tells whether it failed.
+    // Connects and gives bytes until that fails, so many times at most, and returns whether it failed.
     fn is_left<C: Conns>(conns: &mut C, port: u16, bytes: &[u8], times: u32) -> bool {
         let Ok(conn) = conns.connect(at(port)) else {
             return true;

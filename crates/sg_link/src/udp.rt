@@ -9,7 +9,7 @@ use std::net::Net;
 use std::time::{Clock, Duration};
 
 /// A link over a UDP socket. It has no socket until it is opened. `recv` waits for a datagram, for as long as that takes, and never
-/// gives `None`; neither does `recv_within` where it has no limit. A call that is interrupted is made again, and a wait with a limit goes
+/// gives `None`; neither does `recv_within` if it has no limit. A call that is interrupted is made again, and a wait with a limit goes
 /// on with what is left of the time.
 #[derive(Drop)]
 pub struct UdpLink<R: Net> {
@@ -42,7 +42,7 @@ fn longest_datagram(alloc: Global) -> Option<Vec<u8>> {
     }
 }
 
-// The next datagram, in the room that is given. It fails where there is no socket.
+// The next datagram, in the room that is given. It fails if there is no socket.
 fn receive(socket: &mut Option<Datagrams>, mut bytes: Vec<u8>) -> Result<Vec<u8>, Failed> {
     let Some(socket) = socket else {
         return Err(Failed);
@@ -52,7 +52,7 @@ fn receive(socket: &mut Option<Datagrams>, mut bytes: Vec<u8>) -> Result<Vec<u8>
     Ok(bytes)
 }
 
-// The same, or `None` where no datagram came within a time.
+// The same, or `None` if no datagram came within a time.
 fn receive_within<C: Clock>(
     clock: &C,
     socket: &mut Option<Datagrams>,
@@ -69,7 +69,7 @@ fn receive_within<C: Clock>(
     Ok(Some(bytes))
 }
 
-// Sends a datagram, and tells whether the system took all of it. There is no socket before the link is opened.
+// Sends a datagram, and returns whether the system took all of it. There is no socket before the link is opened.
 fn send(socket: &mut Option<Datagrams>, bytes: &[u8], to: Addr) -> bool {
     match socket {
         Some(socket) => socket.send(bytes, to),
@@ -135,7 +135,7 @@ impl<R: Net + Clock + Drop> TimedLink for UdpLink<R> {
         self.open(at)
     }
 
-    /// With a limit it fails too where the clock can't be read.
+    /// With a limit it fails too if the clock can't be read.
     fn recv_within(
         &mut self,
         alloc: Global,

@@ -14,7 +14,7 @@ pub(crate) struct Watch {
 }
 
 impl Watch {
-    /// It watches nothing yet. `None` where the system has no place for it, or memory is wanting.
+    /// It watches nothing yet. `None` if the system has no room for it, or memory is wanting.
     pub(crate) fn new<R: Net>(rt: &R, alloc: Global) -> Option<Watch> {
         let Ok(poll) = Poll::new(rt) else {
             return None;
@@ -25,7 +25,7 @@ impl Watch {
         }
     }
 
-    /// Watches a socket from now on, and tells whether the system took it.
+    /// Watches a socket from now on, and returns whether the system took it.
     pub(crate) fn add<S: Source>(&self, source: &mut S, interest: Interest) -> bool {
         self.poll
             .registry()
@@ -33,13 +33,13 @@ impl Watch {
             .is_ok()
     }
 
-    /// Waits for a change, for so long at most, or as long as it takes. It tells whether the system could.
+    /// Waits for a change, for so long at most, or as long as it takes. It returns whether the system could.
     pub(crate) fn wait(&mut self, most: Option<Duration>) -> bool {
         self.poll.poll(&mut self.events, most).is_ok()
     }
 }
 
-/// What is left of a time that began then. It is none where the clock can't be read.
+/// What is left of a time that began then. It is none if the clock can't be read.
 pub(crate) fn left<C: Clock>(clock: &C, begun: Instant, most: Duration) -> Duration {
     match begun.elapsed(clock) {
         Ok(gone) => most.saturating_sub(gone),

@@ -20,13 +20,13 @@ range_from-suc a (suc k) =
 pub below-suc : (n : ℕ) → below (n + 1) ≡ below n ++ n ∷ []
 below-suc n = rw (add-one, range_from-suc 0 n, zero-add)
 
--- the number at a place of a range
+-- the number at an index of a range
 pub range_from-at : (a k i d : ℕ) → i < k → get_or (range_from a k) i d ≡ a + i
 range_from-at a zero i d h = absurd (omega arith)
 range_from-at a (suc k) zero d h = sym (add-zero a)
 range_from-at a (suc k) (suc i) d h = range_from-at (suc a) k i d (omega arith) ∙ omega arith
 
--- the number at a place below n
+-- the number at an index below n
 pub below-at : (n i d : ℕ) → i < n → get_or (below n) i d ≡ i
 below-at n i d h = range_from-at 0 n i d h ∙ zero-add i
 
@@ -35,7 +35,7 @@ pub length-range_from : (a k : ℕ) → length (range_from a k) ≡ k
 length-range_from a zero = refl
 length-range_from a (suc k) = ap suc (length-range_from (suc a) k)
 
--- what is told of each number below one more
+-- what is given for each number below one more
 pub map_below_more : {A : Type 0} (f : ℕ → A) (i : ℕ) → map f (below (i + 1)) ≡ map f (below i) ++ f i ∷ []
 map_below_more f i = ap (map f) (below-suc i) ∙ map-append f (below i) (i ∷ [])
 

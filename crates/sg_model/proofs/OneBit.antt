@@ -49,7 +49,7 @@ module _ (c : Claim) where
   pub stands_from : (ls : List ℕ) → bit_after_all c false ls ≡ true → StandsSince c.earlier c.since ls
   stands_from ls e = elim (bit_or false ls e) [ inl s ↦ s | inr p ↦ absurd (let z : false ≡ true = p.0 in cc) ]
 
--- what is right is told by the bit
+-- what is right is what the bit says
 pub right_from : (kind : ClaimKind) (later earlier since before : List ℕ) → bit_after_all (record { kind = kind; later = later; earlier = earlier; since = since }) false before ≡ right_bit kind → IsRight kind earlier since before
 right_from Needs later earlier since before e = stands_from (record { kind = Needs; later = later; earlier = earlier; since = since }) before e
 right_from Bars later earlier since before e = λ s. clash (bit_after_all (record { kind = Bars; later = later; earlier = earlier; since = since }) false before) (bit_from (record { kind = Bars; later = later; earlier = earlier; since = since }) false before s) e

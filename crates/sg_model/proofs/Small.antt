@@ -128,7 +128,7 @@ pub right_empty : {A : Type 0} (xs : List A) (y : A) → xs ++ y ∷ [] ≡ [] �
 right_empty [] y e = cc
 right_empty (x ∷ xs) y e = cc
 
--- what stands behind a place, and behind the end
+-- what stands behind an index, and behind the end
 pub drop_from : {A : Type 0} (xs : List A) (i : ℕ) (x : A) → i < length xs → x ≡ get_or xs i x → drop i xs ≡ x ∷ drop (suc i) xs
 drop_from [] i x h e = absurd (omega arith)
 drop_from (y ∷ ys) zero x h e = ap (λ z. z ∷ ys) (sym e)

@@ -81,10 +81,10 @@ pub record Confined (g : Shape) (c : Claim) : Type 0 where
 abbrev pub ClaimsAreConfinedOrBroken : Type 0
 ClaimsAreConfinedOrBroken = (g : Shape) (c : Claim) → Confined g c ⊎ IsBroken g c
 
--- A claim holds of a graph exactly where no edge with a label of `later` leaves a node that is reached with the wrong bit
+-- A claim holds of a graph exactly if no edge with a label of `later` leaves a node that is reached with the wrong bit
 abbrev pub BitsDecideClaims : Type 0
 BitsDecideClaims = (g : Shape) (c : Claim) → HoldsOnWalks g c ↔ (IsBroken g c → ⊥)
 
--- Where a claim that needs holds of labels, between one of `since` and a later one of `later` stands one of `earlier`, or the one of `since` is one. So where `later` is part of `since`, each label of `later` has one of `earlier` of its own
+-- If a claim that needs holds of labels, between one of `since` and a later one of `later` stands one of `earlier`, or the one of `since` is one. So if `later` is part of `since`, each label of `later` has one of `earlier` of its own
 abbrev pub EachHasItsOwn : Type 0
 EachHasItsOwn = (c : Claim) (before : List ℕ) (k : ℕ) (between : List ℕ) (l : ℕ) (after : List ℕ) → c.kind ≡ Needs → HoldsOn c (before ++ k ∷ between ++ l ∷ after) → IsTrue (is_in k c.since) → IsTrue (is_in l c.later) → StandsSince c.earlier c.since (k ∷ between)

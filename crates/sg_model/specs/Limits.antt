@@ -73,7 +73,7 @@ most_steps = 200000
 abbrev pub most_declared : ℕ
 most_declared = 100000
 
--- events that the logs of an audit tell
+-- events of the logs of an audit
 abbrev pub most_events : ℕ
 most_events = 100000
 

@@ -41,7 +41,7 @@ turned : (v a b : Bool) → (v && a && b) ≡ (a && b && v)
 turned true a b = sym (and_true (a && b))
 turned false a b = sym (and_false (a && b))
 
--- a place passes where what is held there is held for the frame
+-- a slot passes if what is held there is held for the frame
 module _ (f : Frame) (ps : List Program) (js : List (List ℕ × ℕ)) where
   test_for : (s : Slot) → IsSlot ps js s → Tests (is_held_for f) (is_for f) s
   test_for (k, None) h = refl
@@ -80,7 +80,7 @@ module _ (n : Inside) (h : HoldsNode n) (f : Frame) where
         let r = no_session m f j (none_here n h (is_held_for f) (is_for f) tests e m.programs (session_for m.live f) (represents_if m st)) in
         (ap (decided (receipt f)) r, early m f UnknownSession r refl refl refl ∙ ap (λ h. record { made = []; found = []; hashed = h }) (no_text m f j 9))
 
-  -- the place of the session for the frame
+  -- the slot of the session for the frame
   pub first_for : (i : ℕ) → first_index (is_for f) n.sessions.slots ≡ Some i → First (is_held_for f) (is_for f) n.sessions.slots i
   first_for i e = held_first (is_held_for f) (is_for f) n.sessions.slots i tests e
 

@@ -12,12 +12,12 @@ at_most_one : (o : Option Live) → length (held_at o) ≤ 1
 at_most_one None = omega arith
 at_most_one (Some l) = omega arith
 
--- no more than there are places
+-- no more than there are slots
 pub few_held : (ss : List Slot) → length (held_in ss) ≤ length ss
 few_held [] = omega arith
 few_held (s ∷ ss) = let a = length-append (held_at s.1) (held_in ss) in let b = at_most_one s.1 in let c = few_held ss in omega (arith, a, b, c)
 
--- a place that is written
+-- a slot that is written
 pub held_set : (ss : List Slot) (i : ℕ) (w : Option Live) → i < length ss → length (held_in ss) + length (held_at w) ≡ length (held_in (set_value_at ss i w)) + length (held_at (live_at ss i))
 held_set [] i w l = absurd (omega (arith, l))
 held_set (s ∷ ss) zero w l = let a = length-append (held_at s.1) (held_in ss) in let b = length-append (held_at w) (held_in ss) in omega (arith, a, b)

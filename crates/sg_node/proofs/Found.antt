@@ -1,4 +1,4 @@
--- The session of a node for which what is live at a place stands.
+-- The session of a node for which what is live in a slot stands.
 use Rattle.std.specs.Prelude.{◌≡◌, ℕ, zero, suc, ◌<◌, ◌==◌, ◌⊎◌, Bool, true, if◌then◌else◌, List, [], ◌∷◌, length, map, slice_get, find, refl, Option, Some, None, unwrap_or, IsSomeAnd}
 use Rattle.std.specs.List.{AllByRecursion}
 use Rattle.std.proofs.Common.{sym, ◌∙◌, ap, subst, inl, inr, arith}
@@ -68,9 +68,9 @@ pub its : (ps : List Program) (id : List ℕ) (r : ℕ) (l : Live) → IsLiveAt 
 its ps id r (AtTurn t) at o s e k = let u = under ps t.held s t.program at.program k in record { session = s; is = e; program = u.0; represents = turns t.program t.held s at.reachable u.1 }
 its ps id r (Waiting t) at o s e k = let u = under ps t.held s t.program at.program k in record { session = s; is = e; program = u.0; represents = waits t.program t.held s at.reachable u.1 }
 
--- ---- places
+-- ---- slots
 
--- what is live at a place stands there rightly, and so may what is put into it
+-- what is live in a slot stands there rightly, and so may what is put into it
 pub record AtIndex (ps : List Program) (js : List (List ℕ × ℕ)) (ss : List Slot) (i : ℕ) (l : Live) : Type 0 where
   pub key : List ℕ × ℕ
   pub live : IsLiveAt ps key.0 key.1 l
@@ -96,7 +96,7 @@ found_all P q (y ∷ ys) x h e = elim (cases_Bool (q y)) [
   | inr f ↦ found_all P q ys x h.1 (sym (ap (λ b. if b then Some y else find q ys) f) ∙ e)
 ]
 
--- the first place that passes, and the session that what is live there represents
+-- the first slot that passes, and the session that what is live there represents
 module _ (n : Inside) (h : HoldsNode n) (which : Held → Bool) (test : Slot → Bool) (tests : AllByRecursion (Tests which test) n.sessions.slots) where
   pub none_here : first_index test n.sessions.slots ≡ None → (ps : List Program) (o : Option Session) → RepresentsIf ps (find which (held_in n.sessions.slots)) o → o ≡ None
   none_here e ps o f = go o (subst (λ x. RepresentsIf ps x o) (none_held which test n.sessions.slots tests e) f)
@@ -131,9 +131,9 @@ module _ (n : Inside) (h : HoldsNode n) (which : Held → Bool) (test : Slot →
         go None s = absurd s
         go (Some x) s = its m.programs (its_slot.key).0 (its_slot.key).1 l (subst (λ ps. IsLiveAt ps (its_slot.key).0 (its_slot.key).1 l) st.programs its_slot.live) (Some x) x refl s
 
--- ---- writing at a place
+-- ---- writing in a slot
 
--- what stands at a place, of the values alone
+-- what stands in a slot, of the values alone
 pub live_of : (ss : List Slot) (i : ℕ) (v : Option Live) → slice_get (map (λ (s : Slot). s.1) ss) i ≡ Some v → v ≡ live_at ss i
 live_of [] i v e = absurd (cc)
 live_of (s ∷ ss) zero v e = let same : s.1 ≡ v = cc in sym same

@@ -38,7 +38,7 @@ module _ (n : Inside) where
   pub all_backed : HoldsNode n → AllByRecursion (IsBackedLive real n.programs.now) (held_in n.sessions.slots)
   all_backed h = each_backed n.sessions.slots h.slots
 
--- so it does, where its programs are programs, sound sessions stand behind what it holds, and the call is in range
+-- so it does, if its programs are programs, sound sessions stand behind what it holds, and the call is in range
 pub goes_on : (old new : NodeState) (call : Call) (past : Past) → AllByRecursion (IsProgram real) old.programs → AllByRecursion (IsBackedLive real old.programs) old.live → IsCallInRange call → RepresentsPast old past
     → new ≡ state_after old call (answer real (node_of past) call) → GoesOn old new call past
 goes_on old new call past programs reachable good st e = record {

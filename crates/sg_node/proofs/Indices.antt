@@ -1,4 +1,4 @@
--- Places in the table of sessions, and what is held there.
+-- Slots in the table of sessions, and what is held there.
 use Rattle.std.specs.Prelude.{◌≡◌, ℕ, suc, ◌+◌, ◌<◌, ◌||◌, nat_lt, Bool, true, false, if◌then◌else◌, List, [], ◌∷◌, ◌++◌, find, position, length, slice_get, refl, Option, Some, None, option_map, option_and_then, unwrap_or, is_some}
 use Rattle.std.specs.List.{AllByRecursion, position_or_len}
 use Rattle.std.specs.Option.{option_map_or}
@@ -12,7 +12,7 @@ use Rattle.sg_protocol.specs.NodeStates.{replace_held}
 use Rattle.sg_node.specs.declared.sessions.Live.{Live}
 use Rattle.sg_node.specs.Slots.{Slot, state_in, held_at, held_in, earlier_of, first_index}
 
--- ---- the first place
+-- ---- the first slot
 
 -- it is where `position` finds it
 pub index_is_position : {A : Type 0} (p : A → Bool) (xs : List A) → position p xs ≡ first_index p xs
@@ -66,7 +66,7 @@ earlier_position p q r e (x ∷ xs) = elim (cases_Bool (p x)) [
   ]
 ]
 
--- two tests that agree find one place
+-- two tests that agree find one slot
 pub same_position : {A : Type 0} (P : A → Type 0) (p q : A → Bool) → ((x : A) → P x → p x ≡ q x) → (xs : List A) → AllByRecursion P xs → first_index p xs ≡ first_index q xs
 same_position P p q e [] h = refl
 same_position P p q e (x ∷ xs) h = elim (cases_Bool (q x)) [
@@ -74,9 +74,9 @@ same_position P p q e (x ∷ xs) h = elim (cases_Bool (q x)) [
   | inr b ↦ rw (e x h.0, b) (ap (option_map suc) (same_position P p q e xs h.1))
 ]
 
--- ---- what is held at the first place that passes
+-- ---- what is held at the first slot that passes
 
--- what is live at a place
+-- what is live in a slot
 abbrev pub live_at : List Slot → ℕ → Option Live
 live_at slots i = option_and_then (λ s. s.1) (slice_get slots i)
 
@@ -88,11 +88,11 @@ no_suc None e = refl
 no_suc (Some x) e = some_none (suc x) e
 
 module _ (which : Held → Bool) (test : Slot → Bool) where
-  -- the test of a place is that of what is held there
+  -- the test of a slot is that of what is held there
   abbrev pub Tests : Slot → Type 0
   Tests s = test s ≡ option_map_or (λ l. which (state_in l).held) s.1 false
 
-  -- the first that is held is the one at this place, and to write there is to replace it
+  -- the first that is held is the one in this slot, and to write there is to replace it
   pub record First (slots : List Slot) (i : ℕ) : Type 0 where
     pub live : Live
     pub there : live_at slots i ≡ Some live
@@ -105,7 +105,7 @@ module _ (which : Held → Bool) (test : Slot → Bool) where
   none_more k l slots h more true q e = some_none 0 (sym (ap (λ b. if b then Some 0 else option_map suc (first_index test slots)) (h ∙ q)) ∙ e)
   none_more k l slots h more false q e = rw q (more (no_suc (first_index test slots) (sym (ap (λ b. if b then Some 0 else option_map suc (first_index test slots)) (h ∙ q)) ∙ e)))
 
-  -- where no place passes nothing that is held does
+  -- if no slot passes nothing that is held does
   pub none_held : (slots : List Slot) → AllByRecursion Tests slots → first_index test slots ≡ None → find which (held_in slots) ≡ None
   none_held [] h e = refl
   none_held ((k, None) ∷ slots) h e = none_held slots h.1 (no_suc (first_index test slots) (sym (ap (λ b. if b then Some 0 else option_map suc (first_index test slots)) h.0) ∙ e))

@@ -34,7 +34,7 @@ as_many ps [] (s ∷ ss) e = absurd e
 as_many ps (h ∷ hs) [] e = absurd e
 as_many ps (h ∷ hs) (s ∷ ss) e = ap suc (as_many ps hs ss e.1)
 
--- ---- a place more
+-- ---- a slot more
 
 pub held_more : (ss : List Slot) (k : List ℕ × ℕ) (o : Option Live) → held_in (ss ++ slot_of k o) ≡ held_in ss ++ held_at o
 held_more [] k None = refl
@@ -51,7 +51,7 @@ module _ (ps : List Program) (js : List (List ℕ × ℕ)) (k : List ℕ × ℕ)
   slots_more ss o h l = all-append (IsSlot ps (js ++ k ∷ [])) ss (slot_of k o)
       (all_weaker (IsSlot ps js) (IsSlot ps (js ++ k ∷ [])) (λ s g. (Contains-append_left js (k ∷ []) s.0 g.0, g.1)) ss h) (last_slot o l)
 
-  -- a pair that was not joined has no place
+  -- a pair that was not joined has no slot
   in_joins : (ss : List Slot) → AllByRecursion (IsSlot ps js) ss → (j : List ℕ × ℕ) (i : ℕ) → i < length (map (λ (s : Slot). s.0) ss) → get_or (map (λ (s : Slot). s.0) ss) i j ≡ j → Contains js j
   in_joins [] h j i l e = absurd (omega (arith, l))
   in_joins (s ∷ ss) h j zero l e = subst (Contains js) e h.0.0
@@ -88,7 +88,7 @@ module _ (js : List (List ℕ × ℕ)) (live : ℕ) (sid : List ℕ) (r : ℕ) w
     pub is_free : length js < 65536 → live < 4096 → obstacle_to js live sid r ≡ None
     is_free l k = let e : nat_le 65536 (length js) ≡ false = grind (arith, nat_tests, l) in let f : nat_le 4096 live ≡ false = grind (arith, nat_tests, k) in rw (new, e, f) refl
 
--- what it says where there is none
+-- what it says if there is none
 pub free_by : (js : List (List ℕ × ℕ)) (live : ℕ) (sid : List ℕ) (r : ℕ) → obstacle_to js live sid r ≡ None → (¬ Contains js (sid, r)) × (length js < 65536)
 free_by js live sid r e =
     let z = nothing_else (has_joined js sid r) (nat_le 65536 (length js)) (nat_le 4096 live) e in
@@ -101,7 +101,7 @@ rows_of_obstacles false true c = refl
 rows_of_obstacles false false true = refl
 rows_of_obstacles false false false = refl
 
--- where none of the first three holds
+-- if none of the first three holds
 pub past_three : {A : Type 0} (x y z : Bool) (a b c : A) (rest : List (Option A)) → x ≡ false → y ≡ false → z ≡ false → first_some ((if x then Some a else None) ∷ (if y then Some b else None) ∷ (if z then Some c else None) ∷ rest) ≡ first_some rest
 past_three x y z a b c rest e f g = rw (e, f, g) refl
 

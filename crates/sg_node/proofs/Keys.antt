@@ -1,4 +1,4 @@
--- The place of a pair of session and role in the table, by its key.
+-- The slot of a pair of session and role in the table, by its key.
 use Rattle.std.specs.Prelude.{◌≡◌, ℕ, suc, ◌<◌, ◌==◌, ◌&&◌, ◌||◌, nat_lt, ◌+◌, Bool, true, false, if◌then◌else◌, List, [], ◌∷◌, ◌++◌, map, bytes_eq, refl, Option, Some, None, option_map, option_and_then, position, Contains}
 use Rattle.std.specs.List.{AllByRecursion, IsDistinct, list_any}
 use Rattle.std.proofs.Common.{sym, ◌∙◌, ap, subst, inl, inr, arith}
@@ -11,7 +11,7 @@ use Rattle.sg_node.specs.declared.sessions.Live.{Live}
 use Rattle.sg_node.specs.Slots.{Slot, is_of, is_of_role, earlier_of, first_index}
 use Rattle.sg_node.proofs.Indices.{live_at, earlier_position, same_position, index_is_position}
 
--- the place is of the key, and what is there passes
+-- the slot is of the key, and what is there passes
 module _ (q : Option Live → Bool) (sid : List ℕ) (r : ℕ) where
   abbrev pub by_key : Slot → Bool
   by_key s = q s.1 && bytes_eq (s.0).0 sid && ((s.0).1 == r)
@@ -23,7 +23,7 @@ module _ (q : Option Live → Bool) (sid : List ℕ) (r : ℕ) where
       grouped true b c = refl
       grouped false b c = refl
 
-  -- where a key stands first, none behind it has it
+  -- if a key stands first, none behind it has it
   none_behind : (j : Join) → same (sid, r) j ≡ true → (ss : List Slot) → AllByRecursion (λ k. same j k ≡ false) (map (λ s. s.0) ss) → first_index by_key ss ≡ None
   none_behind j e [] h = refl
   none_behind j e (s ∷ ss) h =
@@ -31,7 +31,7 @@ module _ (q : Option Live → Bool) (sid : List ℕ) (r : ℕ) where
       let t : by_key s ≡ false = of_key s ∙ ap (λ b. q s.1 && b) f ∙ and_false (q s.1) in
       rw t (ap (option_map suc) (none_behind j e ss h.1))
 
-  -- the place where the key stands, if what is there passes
+  -- the slot where the key stands, if what is there passes
   pub index_of_key : (ss : List Slot) → IsDistinct same (map (λ s. s.0) ss) →
       first_index by_key ss ≡ option_and_then (λ i. if q (live_at ss i) then Some i else None) (first_index (same (sid, r)) (map (λ s. s.0) ss))
   unfolding IsDistinct
@@ -72,7 +72,7 @@ entry_last es k x absent = elim (cases_Bool (list_any (same k) (map (λ e. e.0) 
 
 -- ---- a look-up for each role
 
--- the places of roles below n
+-- the slots of roles below n
 abbrev pub is_below : Bool → List ℕ → ℕ → Slot → Bool
 is_below o sid n s = is_of o sid s && nat_lt (s.0).1 n
 

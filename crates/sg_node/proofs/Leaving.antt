@@ -20,7 +20,7 @@ use Rattle.sg_node.specs.Slots.{Slot, state_in, held_in, is_of, first_index}
 use Rattle.sg_node.specs.Invariant.{IsSlot, HoldsNode, node_state}
 use Rattle.sg_node.proofs.Indices.{Tests, held_first, none_held}
 
--- a place passes where what is held there has the sid
+-- a slot passes if what is held there has the sid
 test_sid : (ps : List Program) (js : List (List ℕ × ℕ)) (sid : List ℕ) (s : Slot) → IsSlot ps js s → Tests (has_sid sid) (is_of false sid) s
 test_sid ps js sid (k, None) h = refl
 test_sid ps js sid (k, Some (AtTurn s)) h = ap (λ z. bytes_eq z sid) (sym h.1.sid)
@@ -30,7 +30,7 @@ pub tests_sid : (ps : List Program) (js : List (List ℕ × ℕ)) (sid : List �
 tests_sid ps js sid [] h = tt
 tests_sid ps js sid (s ∷ ss) h = (test_sid ps js sid s h.0, tests_sid ps js sid ss h.1)
 
--- a place that is emptied
+-- a slot that is emptied
 pub emptied : (ps : List Program) (js : List (List ℕ × ℕ)) (ss : List Slot) (i : ℕ) → AllByRecursion (IsSlot ps js) ss → AllByRecursion (IsSlot ps js) (set_value_at ss i None)
 emptied ps js [] i h = tt
 emptied ps js (s ∷ ss) zero h = ((h.0.0, tt), h.1)

@@ -73,7 +73,7 @@ received a e (Err y) k h q = clash true refl (sym k)
 
 -- ---- notes
 
--- what was noted beside one more text, where as many are kept as there were
+-- what was noted beside one more text, if as many are kept as there were
 pub restored : (n mid : Notes) (a b h : ℕ) (t : List ℕ) → a ≡ length n.made → b ≡ length n.found → h ≡ length n.hashed →
     mid ≡ record n { hashed = n.hashed ++ t ∷ [] } → record { made = take a mid.made; found = take b mid.found; hashed = take h mid.hashed } ≡ n
 restored n mid a b h t ea eb eh e =

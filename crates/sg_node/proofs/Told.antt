@@ -1,4 +1,4 @@
--- The graph of a node's session, by what is live at its place.
+-- The graph of a node's session, by what is live in its slot.
 use Rattle.std.specs.Prelude.{◌≡◌, ℕ, zero, suc, false, List, [], ◌∷◌, refl, Option, Some, None, option_map, option_and_then, unwrap_or}
 use Rattle.std.specs.List.{AllByRecursion}
 use Rattle.std.proofs.Common.{sym, ◌∙◌, ap}
@@ -25,7 +25,7 @@ beside : (s : Session) (o : Option Program) → option_map (λ (x : Program × S
 beside s None = refl
 beside s (Some p) = refl
 
--- what is live at a place is of its program's graph
+-- what is live in a slot is of its program's graph
 graph_here : (ps : List Program) (js : List (List ℕ × ℕ)) (ss : List Slot) (i : ℕ) (l : Live) → AllByRecursion (IsSlot ps js) ss → live_at ss i ≡ Some l → graph_at ps ss i ≡ Some (state_in l).program.graph
 graph_here ps js [] i l h e = some_none l (sym e)
 graph_here ps js ((k, None) ∷ ss) zero l h e = some_none l (sym e)

@@ -23,11 +23,11 @@ use Rattle.sg_node.specs.Slots.{Slot, state_in, held_in, is_live, is_of, first_i
 use Rattle.sg_node.specs.Invariant.{IsLiveAt, IsSlot, HoldsNode, node_state}
 use Rattle.sg_node.proofs.Indices.{live_at, some_none}
 
--- where a session of which this is held is at its turn under a program
+-- if a session of which this is held is at its turn under a program
 abbrev turn_under : Held → Program → Option ℕ
 turn_under h p = if role_at (shape p.graph) h.kept.place == h.role then Some h.kept.place else None
 
--- where a session of which this is held is at its turn
+-- if a session of which this is held is at its turn
 abbrev turn_held : List Program → Held → Option ℕ
 turn_held ps h = option_and_then (turn_under h) (program_for ps h.cast.graph h.role)
 
@@ -78,7 +78,7 @@ turn_live ps id r (Waiting s) h = ap (option_and_then (turn_under s.held)) h.pro
     at : IsReachableWaiting real s.program s.held → (role_at (shape s.program.graph) s.held.kept.place == s.held.role) ≡ false
     at b = ap (λ (z : Held). role_at (shape s.program.graph) z.kept.place == z.role) b.represents.before.holds ∙ b.represents.waits
 
--- the place of the first that is at its turn
+-- the slot of the first that is at its turn
 abbrev pub turn_at : List Slot → Option ℕ → Option ℕ
 turn_at ss i = option_and_then (λ i. option_and_then place_in (live_at ss i)) i
 
@@ -111,7 +111,7 @@ pub turn_is : (n : Inside) → HoldsNode n → (m : Node) → RepresentsNode (no
 turn_is n h m st sid = same_turns m.programs sid (held_in n.sessions.slots) m.live st.live ∙ subst (λ ps. first_some (map (turn_held ps) (filter (has_sid sid) (held_in n.sessions.slots))) ≡ turn_at n.sessions.slots (first_index (is_of true sid) n.sessions.slots)) st.programs
     (turns n.programs.now n.joins.pairs sid n.sessions.slots h.slots)
 
--- what is live at the first place that is found is at its turn
+-- what is live at the first slot that is found is at its turn
 pub at_its_turn : (sid : List ℕ) (ss : List Slot) (i : ℕ) → first_index (is_of true sid) ss ≡ Some i → is_live true (live_at ss i) ≡ true
 at_its_turn sid [] i e = some_none i (sym e)
 at_its_turn sid (s ∷ ss) i e = elim (cases_Bool (is_of true sid s)) [

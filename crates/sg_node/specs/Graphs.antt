@@ -9,6 +9,6 @@ use Rattle.sg_node.specs.Slots.{Slot, state_in}
 abbrev pub graph_for : List Program → List ℕ → ℕ → Option Graph
 graph_for programs digest r = option_map (λ p. p.graph) (program_for programs digest r)
 
--- the graph of what is live at a place
+-- the graph of what is live in a slot
 abbrev pub graph_at : List Program → List Slot → ℕ → Option Graph
 graph_at programs slots i = option_and_then (λ (s : Slot). option_and_then (λ l. graph_for programs (state_in l).held.cast.graph (s.0).1) s.1) (slice_get slots i)

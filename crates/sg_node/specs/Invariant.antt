@@ -17,7 +17,7 @@ abbrev pub IsReachable : Live → Type 0
 IsReachable (AtTurn s) = IsReachableAtTurn real s.program s.held
 IsReachable (Waiting s) = IsReachableWaiting real s.program s.held
 
--- a live session stands at the place of its join, under the program for its graph and role
+-- a live session stands in the slot of its join, under the program for its graph and role
 pub record IsLiveAt (programs : List Program) (id : List ℕ) (r : ℕ) (l : Live) : Type 0 where
   pub sid : (state_in l).held.sid ≡ id
   pub role : (state_in l).held.role ≡ r
@@ -33,7 +33,7 @@ IfLive programs sid r (Some l) = IsLiveAt programs sid r l
 abbrev pub IsSlot : List Program → List (List ℕ × ℕ) → Slot → Type 0
 IsSlot programs joins s = Contains joins s.0 × IfLive programs (s.0).0 (s.0).1 s.1
 
--- the programs are programs, and each session stands at the place of its join
+-- the programs are programs, and each session stands in the slot of its join
 pub record HoldsNode (n : Inside) : Type 0 where
   pub programs : AllByRecursion (IsProgram real) n.programs.now
   pub slots : AllByRecursion (IsSlot n.programs.now n.joins.pairs) n.sessions.slots

@@ -1,4 +1,4 @@
--- The whole life of a node: the past of one that is made, and what holds of each past that was told.
+-- The whole life of a node: the past of one that is made, and what holds of each valid past.
 use Rattle.std.specs.Prelude.{◌≡◌, ℕ, List, [], map, true, false, All, IsTrue}
 use Rattle.sg_protocol.specs.Acting.{answer}
 use Rattle.sg_protocol.specs.Calls.{Call}
@@ -14,16 +14,16 @@ use Rattle.sg_node.specs.Answers.{IsTold}
 abbrev pub new_past : Keyring → List Program → List (List ℕ × ℕ) → Past
 new_past keys programs first = record { keys = keys; programs = programs; first = first; calls = [] }
 
--- A node that is made represents the past without calls, which was told
+-- A node that is made represents the past without calls, which is valid
 abbrev pub NewNodesRepresent : Type 0
 NewNodesRepresent = (keys : Keyring) (programs : List Program) (first : List (List ℕ × ℕ)) →
     RepresentsPast (new_state keys programs first) (new_past keys programs first) × IsTold (new_past keys programs first)
 
--- A past that was told is told with a call in range and the node's answer
+-- A valid past is valid with a call in range and the node's answer
 abbrev pub PastsGoOn : Type 0
 PastsGoOn = (past : Past) (c : Call) → IsTold past → IsCallInRange c → IsTold (past_after real past c)
 
--- Where no call was refused because there was no room, a node answered the calls of a session as a node that gets no other calls would
+-- If no call was refused because there was no room, a node answered the calls of a session as a node that gets no other calls would
 abbrev pub SessionsAreAlone : Type 0
 SessionsAreAlone = (past : Past) (sid : List ℕ) → AreAnswers real (new_node past.keys past.programs past.first) past.calls → All (λ c. is_for_room c.answer ≡ false) past.calls →
     map (λ c. c.answer) (calls_of_session real sid past.calls)
@@ -38,6 +38,6 @@ SameForSessions = (past past' : Past) (sid : List ℕ) (c : Call) → is_call_of
 abbrev pub OthersAreLeft : Type 0
 OthersAreLeft = (past : Past) (sid : List ℕ) (c : Call) → is_call_of real sid c ≡ false → IsLeft sid (node_of past) (node_of (past_after real past c))
 
--- Whatever the calls are, no pair of session and role is joined twice, nor one that the node was made with, where these differ
+-- Whatever the calls are, no pair of session and role is joined twice, nor one that the node was made with, if these differ
 abbrev pub PairsJoinOnce : Type 0
 PairsJoinOnce = (past : Past) → IsTrue (pairs_differ past.first) → AreAnswers real (new_node past.keys past.programs past.first) past.calls → JoinedOnce past

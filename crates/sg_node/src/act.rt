@@ -67,7 +67,7 @@ impl<'p> Node<'p> {
     }
 }
 
-// Puts a role that sent a step back into its place, unless it has ended.
+// Puts a role that sent a step back into its slot, unless it has ended.
 fn keep<'p>(sessions: &mut Sessions<'p>, index: usize, sent: Sent<'p>) -> (Event, Sealed)
     requires empty { option_and_then (λ s. s.1) (slice_get sessions.old.slots index) ≡ None }
     requires within { index < length sessions.old.slots }

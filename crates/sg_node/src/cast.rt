@@ -55,7 +55,7 @@ fn has_name(names: &[Name], name: &Name) -> bool
     false
 }
 
-/// The first program of a graph with this digest for the role that starts it. It answers `None` where a program of another
+/// The first program of a graph with this digest for the role that starts it. It answers `None` if a program of another
 /// graph with this digest stands before it for this role, so that SHA-256 has collided. It takes no memory.
 pub(crate) fn starter<'p>(programs: &'p Programs, digest: &[u8; 32]) -> Option<Option<&'p Program>>
     ensures found { IfSome result (λ p. option_copied p ≡ starter programs.now digest.now) }

@@ -150,7 +150,7 @@ impl<'p> Node<'p> {
         self.join_known(program, frame, cast, bytes, notes)
     }
 
-    // Takes a frame that joins, where its cast is right and all keys are there.
+    // Takes a frame that joins, if its cast is right and all keys are there.
     fn join_known(
         &mut self,
         program: &'p Program,
@@ -183,7 +183,7 @@ impl<'p> Node<'p> {
         result
     }
 
-    // Takes a frame that joins, where the text of its session is noted.
+    // Takes a frame that joins, if the text of its session is noted.
     fn join_in(
         &mut self,
         program: &'p Program,

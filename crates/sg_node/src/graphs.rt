@@ -56,7 +56,7 @@ impl<'p> Node<'p> {
     }
 }
 
-// The graph of the live session at a place.
+// The graph of the live session in a slot.
 fn graph_at<'p>(programs: &'p Programs, sessions: &Sessions<'p>, index: usize) -> Option<&'p Graph>
     ensures { option_copied result ≡ graph_at programs.now sessions.now.slots index }
 {

@@ -64,7 +64,7 @@ pub(crate) fn make_room(joins: &mut Cache, sessions: &mut Sessions) -> Result<()
     sessions.reserve()
 }
 
-/// Claims a pair that isn't there, where room was made. It takes no memory.
+/// Claims a pair that isn't there, if room was made. It takes no memory.
 pub(crate) fn claim(joins: &mut Cache, sid: Sid, role: Role) -> Ticket
     requires absent { ¬ Contains joins.old.pairs (sid, role) }
     requires count { length joins.old.pairs < most_joins }

@@ -4,8 +4,8 @@
 //! them, abandons them and takes deliveries. What it answers is what the protocol's definition answers after the calls that came
 //! before, and a call that it refuses leaves it as it was.
 //!
-//! Sessions stand in a table in the order of joining, each at the place of its join. One that ends or is abandoned leaves its place
-//! empty, so nothing moves and no place is used twice. All look-ups go by hash tables, so a call takes the same time however many
+//! Sessions stand in a table in the order of joining, each in the slot of its join. One that ends or is abandoned leaves its slot
+//! empty, so nothing moves and no slot is used twice. All look-ups go by hash tables, so a call takes the same time however many
 //! sessions and joins there are. Room in the table, room among the joins and the next state are made before a pair is claimed, and
 //! nothing grows after it. A delivery is looked at in the order of the refusals: nothing is hashed for those that need no hash.
 //!

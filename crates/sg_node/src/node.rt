@@ -90,7 +90,7 @@ impl<'p> Node<'p> {
         })
     }
 
-    /// Leaves the first live session with an identifier: it is no longer live, and its pair stays joined. Refused where there is
+    /// Leaves the first live session with an identifier: it is no longer live, and its pair stays joined. Refused if there is
     /// none. It takes no memory.
     #[tactic(auto, using(crate::proofs::Leaving::not_abandoned, crate::proofs::Leaving::abandoned, crate::proofs::Leaving::left, crate::proofs::Leaving::emptied, crate::proofs::Going::goes_on))]
     pub fn abandon(&mut self, sid: Sid) -> Result<(), UnknownSession>

@@ -33,7 +33,7 @@ pub(crate) fn facts_of_live(live: &Live)
     }
 }
 
-/// A place for each join of a node's life, in the order of joining, empty where the session is over; the number of those that aren't;
+/// A slot for each join of a node's life, in the order of joining, empty if the session is over; the number of those that aren't;
 /// and a bound that each role is below.
 #[derive(Drop)]
 pub(crate) struct Sessions<'p> {
@@ -72,7 +72,7 @@ impl<'p> Sessions<'p> {
         self.live
     }
 
-    /// Makes room for one more place.
+    /// Makes room for one more slot.
     pub fn reserve(&mut self) -> Result<(), OutOfMemory>
         ensures room { OnOk result (0 < self.new.spare) }
         ensures same { self.new.slots ≡ self.old.slots }
@@ -80,7 +80,7 @@ impl<'p> Sessions<'p> {
         self.slots.reserve(1)
     }
 
-    // The place of a live session in a role; where `only_turns`, of one that is at its turn.
+    // The slot of a live session in a role; if `only_turns`, of one that is at its turn.
     fn find(&self, sid: &Sid, role: Role, only_turns: bool) -> Option<usize>
         ensures { result ≡ first_index (is_of_role only_turns sid.now role) self.now.slots }
     {
@@ -88,7 +88,7 @@ impl<'p> Sessions<'p> {
         self.if_live(index, only_turns)
     }
 
-    /// The place of the live session for which a frame is, by its sid, its receiver and its version. It takes no memory.
+    /// The slot of the live session for which a frame is, by its sid, its receiver and its version. It takes no memory.
     pub fn find_for(&self, frame: &Frame) -> Option<usize>
         ensures { result ≡ first_index (is_for frame.now) self.now.slots }
     {
@@ -96,7 +96,7 @@ impl<'p> Sessions<'p> {
         self.if_of_version(index, frame.version)
     }
 
-    // The place, if the frames of the session there have this version.
+    // The slot, if the frames of the session there have this version.
     fn if_of_version(&self, index: Option<usize>, version: u8) -> Option<usize>
         ensures { result ≡ option_and_then (λ i. if has_version version (option_and_then (λ s. s.1) (slice_get self.now.slots i)) then Some i else None) index }
     {
@@ -106,7 +106,7 @@ impl<'p> Sessions<'p> {
         }
     }
 
-    // The place, if a session is live there; where `only_turns`, one that is at its turn.
+    // The slot, if a session is live there; if `only_turns`, one that is at its turn.
     fn if_live(&self, index: Option<usize>, only_turns: bool) -> Option<usize>
         ensures { result ≡ option_and_then (λ i. if is_live only_turns (option_and_then (λ s. s.1) (slice_get self.now.slots i)) then Some i else None) index }
     {
@@ -116,7 +116,7 @@ impl<'p> Sessions<'p> {
         }
     }
 
-    /// The place of the first live session; where `only_turns`, of the first that is at its turn. There is one place for each role, so
+    /// The slot of the first live session; if `only_turns`, of the first that is at its turn. There is one slot for each role, so
     /// it looks once for each role up to the highest that was joined. It takes no memory.
     #[tactic(auto, using(crate::proofs::Keys::none_below, crate::proofs::Keys::one_below, crate::proofs::Keys::all_below))]
     pub fn first(&self, sid: &Sid, only_turns: bool) -> Option<usize>
@@ -130,7 +130,7 @@ impl<'p> Sessions<'p> {
         first
     }
 
-    /// The live session at a place. It takes no memory.
+    /// The live session in a slot. It takes no memory.
     pub fn get(&self, index: usize) -> Option<&Live<'p>>
         ensures { option_copied result ≡ option_and_then (λ s. s.1) (slice_get self.now.slots index) }
     {
@@ -140,7 +140,7 @@ impl<'p> Sessions<'p> {
         }
     }
 
-    /// The role of a place. It takes no memory.
+    /// The role of a slot. It takes no memory.
     pub fn role(&self, index: usize) -> Option<Role>
         ensures { result ≡ option_map (λ s. (s.0).1) (slice_get self.now.slots index) }
     {
@@ -150,7 +150,7 @@ impl<'p> Sessions<'p> {
         }
     }
 
-    /// Takes the session from its place, which stays. It takes no memory.
+    /// Takes the session from its slot, which stays. It takes no memory.
     pub fn take(&mut self, index: usize) -> Option<Live<'p>>
         requires { index < length self.old.slots }
         ensures taken { result ≡ option_and_then (λ s. s.1) (slice_get self.old.slots index) }
@@ -166,7 +166,7 @@ impl<'p> Sessions<'p> {
         }
     }
 
-    /// Puts a session into a place that is empty. It takes no memory.
+    /// Puts a session into a slot that is empty. It takes no memory.
     pub fn put(&mut self, index: usize, live: Live<'p>)
         requires empty { option_and_then (λ s. s.1) (slice_get self.old.slots index) ≡ None }
         requires within { index < length self.old.slots }
@@ -177,7 +177,7 @@ impl<'p> Sessions<'p> {
         self.live += 1;
     }
 
-    /// Puts a place with a session after the others. It takes no memory.
+    /// Puts a slot with a session after the others. It takes no memory.
     pub fn push(&mut self, sid: Sid, role: Role, live: Live<'p>)
         requires room { 0 < self.old.spare }
         requires absent { ¬ Contains (map (λ s. s.0) self.old.slots) (sid, role) }
@@ -195,7 +195,7 @@ impl<'p> Sessions<'p> {
 
 ghost use Rattle.sg_node.specs.Slots.{earlier_of};
 
-// The lesser of two places.
+// The lesser of two slots.
 fn earlier(one: Option<usize>, other: Option<usize>) -> Option<usize>
     ensures { result ≡ earlier_of one other }
 {
@@ -206,7 +206,7 @@ fn earlier(one: Option<usize>, other: Option<usize>) -> Option<usize>
     }
 }
 
-// A session is there, at its turn where only turns are looked for.
+// A session is there, at its turn if only turns are looked for.
 fn passes(live: Option<&Live>, only_turns: bool) -> bool
     ensures { result ≡ is_live only_turns (option_copied live.entry) }
 {
@@ -237,7 +237,7 @@ fn version_of(live: &Live) -> u8
     }
 }
 
-// Empties a place.
+// Empties a slot.
 fn take_at<'p>(
     slots: &mut IndexMap<(Sid, Role), Option<Live<'p>>>,
     index: usize,
@@ -250,7 +250,7 @@ fn take_at<'p>(
     slots[index].take()
 }
 
-// Fills a place.
+// Fills a slot.
 fn put_at<'p>(slots: &mut IndexMap<(Sid, Role), Option<Live<'p>>>, index: usize, live: Live<'p>)
     requires { index < length slots.old.entries }
     ensures { slots.new.entries ≡ set_value_at slots.old.entries index (Some live.entry) }
@@ -258,7 +258,7 @@ fn put_at<'p>(slots: &mut IndexMap<(Sid, Role), Option<Live<'p>>>, index: usize,
     slots[index] = Some(live);
 }
 
-// Adds a place for a pair that has none, as the last one.
+// Adds a slot for a pair that has none, as the last one.
 fn put_last<'p>(
     slots: &mut IndexMap<(Sid, Role), Option<Live<'p>>>,
     join: (Sid, Role),

@@ -50,7 +50,7 @@ impl<'p> Node<'p> {
         self.begin(program, cast, notes)
     }
 
-    // Starts a session in a program, where its cast is right and all keys are there.
+    // Starts a session in a program, if its cast is right and all keys are there.
     fn begin(
         &mut self,
         program: &'p Program,

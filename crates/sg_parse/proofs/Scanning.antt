@@ -1,4 +1,4 @@
--- The tokens from one index on, and from a later one.
+-- The tokens from one offset on, and from a later one.
 use Rattle.std.proofs.Common.{◌≡◌, ◌≢◌, ℕ, suc, ◌+◌, ◌<◌, ◌≤◌, ◌==◌, nat_le, Bool, true, false, ◌&&◌, ◌||◌, inl, inr, List, [], ◌∷◌, length, get_or, drop, take_while, refl, sym, ap, subst, ◌∙◌, arith, add-one, add-zero, one-add, ◌-◌, if◌then◌else◌}
 use Rattle.std.proofs.Math.Seq.{drop-cons}
 use Rattle.std.proofs.Math.ListN.{drop_of_length-le}
@@ -23,7 +23,7 @@ none : (before : Part) (at : ℕ) → tokens_from before at [] ≡ record { toke
 unfolding tokens_from
 none before at = refl
 
--- the byte at an index
+-- the byte at an offset
 there : (before : Part) (bs : List ℕ) (i : ℕ) → i < length bs → tokens_from before i (drop i bs) ≡ tokens_from before i (get_or bs i 0 ∷ drop (i + 1) bs)
 there before bs i h = ap (tokens_from before i) (rw add-one (drop-cons bs i 0 h))
 
@@ -103,7 +103,7 @@ word_ends at (b ∷ bs) = elim (cases_Bool (is_name_byte b)) [
       rw (n, add-zero) one)
 ]
 
--- the word at an index, and the tokens behind it
+-- the word at an offset, and the tokens behind it
 pub word_there : (bs : List ℕ) (i : ℕ) → i < length bs → is_letter (get_or bs i 0) ≡ true → (is_separator (get_or bs i 0) || (get_or bs i 0 == 35)) ≡ false
     → tokens_from Apart i (drop i bs)
     ≡ leading (word_at i (take_while is_name_byte (drop i bs))) (tokens_from Apart (i + length (take_while is_name_byte (drop i bs))) (drop (i + length (take_while is_name_byte (drop i bs))) bs))

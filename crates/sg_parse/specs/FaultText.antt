@@ -1,4 +1,4 @@
--- What is said of bytes that are no graph.
+-- The text for bytes that are no graph.
 use Rattle.std.specs.Prelude.{ℕ, List, ◌++◌, codes}
 use Rattle.std.specs.Fmt.{decimal}
 use Rattle.sg_parse.specs.declared.fault.ParseFault.{ParseFault}

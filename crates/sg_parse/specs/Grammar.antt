@@ -39,7 +39,7 @@ pub record SpellsVariable (g : Graph) (v : Variable) (ts : List Token) : Type 0 
 abbrev pub node_tokens : Graph → Node → List Token
 node_tokens g n = Word (codes "node") ∷ Word n.name ∷ Colon ∷ Word (role_name g n.role) ∷ Semicolon ∷ []
 
--- what the statement of an edge says of a set of variables: nothing where it is empty, otherwise the word and the variables in any order
+-- what the statement of an edge says of a set of variables: nothing if it is empty, otherwise the word and the variables in any order
 pub data SpellsClause (word : List ℕ) (names : List Name) : List ℕ → List Token → Type 0 where
   Without : SpellsClause word names [] []
   With : {set order : List ℕ} → 1 ≤ length set → IsOrderOf set order → SpellsClause word names set (Word word ∷ named names order)

@@ -7,7 +7,7 @@ use Rattle.sg_parse.specs.Tokens.{part_tokens}
 use Rattle.sg_parse.specs.declared.token.Token.{Token}
 use Rattle.sg_parse.specs.declared.token.Token.TheVariants.{Word, Colon, Semicolon, Arrow, Use, As, End}
 
--- the statement of a use, where the parts have these names
+-- the statement of a use, if the parts have these names
 abbrev pub use_tokens : List Name → Graph → Used → List Token
 use_tokens names g u = Use ∷ Word u.name ∷ Colon ∷ Word (get_or names u.part []) ∷ Word (node_name g u.from) ∷ Arrow ∷ Word (node_name g u.to)
     ∷ As ∷ named g.roles u.roles ++ Semicolon ∷ []

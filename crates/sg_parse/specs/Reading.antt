@@ -24,7 +24,7 @@ pub record Parsed (A : Type 0) : Type 0 where
 abbrev pub Parser : Type 0 → Type 0
 Parser A = List TokenAt → Result (Parsed A) ParseFault
 
--- the fault at a token that the grammar doesn't have at its place
+-- the fault at a token that the grammar doesn't have at its position
 abbrev pub refusal_of : Token → ℕ → ParseFault
 refusal_of Bad at = BadByte at
 refusal_of Long at = TooMany at
@@ -62,12 +62,12 @@ abbrev pub offset_of : List TokenAt → ℕ
 offset_of [] = 0
 offset_of (p ∷ ps) = p.at
 
--- the fault at the next token, which the grammar doesn't have at its place
+-- the fault at the next token, which the grammar doesn't have at its position
 abbrev pub refusal : List TokenAt → ParseFault
 refusal [] = Unexpected 0
 refusal (p ∷ ps) = refusal_of p.token p.at
 
--- the grammar has no token for this place
+-- the grammar has no token for this position
 abbrev pub refused : {A : Type 0} → Parser A
 refused ps = Err (refusal ps)
 
@@ -75,7 +75,7 @@ refused ps = Err (refusal ps)
 abbrev pub crowded : {A : Type 0} → Parser A
 crowded ps = Err (TooMany (offset_of ps))
 
--- one reading where the next token passes the test, otherwise the other
+-- one reading if the next token passes the test, otherwise the other
 abbrev pub branch : {A : Type 0} → (Token → Bool) → Parser A → Parser A → Parser A
 branch test first second ps = if is_next test ps then first ps else second ps
 
@@ -166,7 +166,7 @@ read_node g =
     after (token is_semicolon) λ _.
     give (with_node g (record { name = n; role = role }))
 
--- the variables of an edge after this word, or none where the word isn't there
+-- the variables of an edge after this word, or none if the word isn't there
 abbrev pub read_clause : List ℕ → List Name → Parser (List ℕ)
 read_clause first names = branch (is_word first) (after skip λ _. some_names most_variables names) (give [])
 

@@ -11,7 +11,7 @@ use crate::scanner::Scanner;
 use sg_base::VarSet;
 use sg_graph::Graph;
 
-// Up to 512 edges, where the graph has none.
+// Up to 512 edges, if the graph has none.
 pub fn read_edges(scanner: &mut Scanner, graph: &mut Graph) -> Result<(), ParseFault>
     requires { length graph.old.edges ≡ 0 }
     ensures { ReadsInto (read_edges graph.old) scanner.old scanner.new graph.new result }
@@ -52,7 +52,7 @@ fn read_edge(scanner: &mut Scanner, graph: &mut Graph) -> Result<(), ParseFault>
     }
 }
 
-// The variables after the word, or none where the word isn't there.
+// The variables after the word, or none if the word isn't there.
 fn read_clause(scanner: &mut Scanner, graph: &Graph, word: &[u8]) -> Result<VarSet, ParseFault>
     ensures reads { Reads (read_clause word.now (variable_names graph.now)) scanner.old scanner.new result }
     ensures there { IfOk result (AreNumbers (length graph.now.variables)) }

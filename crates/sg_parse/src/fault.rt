@@ -10,7 +10,7 @@ use std::fmt;
 pub enum ParseFault {
     /// A byte outside comments that begins no token, such as a digit, a `_`, or a `-` before anything but `>`.
     BadByte { at: usize },
-    /// A token that the grammar doesn't have at its place, or the end of the text, whose offset is the text's length.
+    /// A token that the grammar doesn't have at its position, or the end of the text, whose offset is the text's length.
     Unexpected { at: usize },
     /// A name that is used and isn't declared.
     UnknownName { at: usize },
@@ -42,7 +42,7 @@ impl fmt::Display for ParseFault {
     }
 }
 
-// The fault where a part isn't added because memory ran out.
+// The fault if a part isn't added because memory ran out.
 pub fn want(fault: AddFault) -> ParseFault
     requires { fault ≡ AddFault.OutOfMemory }
     ensures { result ≡ ParseFault.OutOfMemory }

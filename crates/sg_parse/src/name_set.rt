@@ -38,7 +38,7 @@ impl NameSet {
         self.names.contains(name)
     }
 
-    /// The index of the name, counted from 0, or `None` where it is not there.
+    /// The index of the name, counted from 0, or `None` if it is not there.
     pub fn index(&self, name: &Name) -> Option<usize>
         ensures index { result ≡ position (bytes_eq name.now) self.now }
         ensures within { IfSome result (λ i. i < length self.now) }

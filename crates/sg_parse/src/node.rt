@@ -8,7 +8,7 @@ use crate::name;
 use crate::scanner::Scanner;
 use sg_graph::Graph;
 
-// A node, and up to 256, where the graph has none.
+// A node, and up to 256, if the graph has none.
 pub fn read_nodes(scanner: &mut Scanner, graph: &mut Graph) -> Result<(), ParseFault>
     requires { length graph.old.nodes ≡ 0 }
     ensures { ReadsInto (read_nodes graph.old) scanner.old scanner.new graph.new result }
@@ -17,7 +17,7 @@ pub fn read_nodes(scanner: &mut Scanner, graph: &mut Graph) -> Result<(), ParseF
     read_more(scanner, graph)
 }
 
-// Up to 255 more nodes, where the graph has one.
+// Up to 255 more nodes, if the graph has one.
 fn read_more(scanner: &mut Scanner, graph: &mut Graph) -> Result<(), ParseFault>
     requires { length graph.old.nodes ≡ 1 }
     ensures { ReadsInto (up_to 255 (codes "node") read_node graph.old) scanner.old scanner.new graph.new result }

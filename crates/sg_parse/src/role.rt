@@ -8,7 +8,7 @@ use crate::name;
 use crate::scanner::Scanner;
 use sg_graph::Graph;
 
-// Two roles, and up to sixteen, where the graph has none.
+// Two roles, and up to sixteen, if the graph has none.
 pub fn read_roles(scanner: &mut Scanner, graph: &mut Graph) -> Result<(), ParseFault>
     requires { length graph.old.roles ≡ 0 }
     ensures { ReadsInto (read_roles graph.old) scanner.old scanner.new graph.new result }
@@ -18,7 +18,7 @@ pub fn read_roles(scanner: &mut Scanner, graph: &mut Graph) -> Result<(), ParseF
     read_more(scanner, graph)
 }
 
-// Up to fourteen more roles, where the graph has two.
+// Up to fourteen more roles, if the graph has two.
 fn read_more(scanner: &mut Scanner, graph: &mut Graph) -> Result<(), ParseFault>
     requires { length graph.old.roles ≡ 2 }
     ensures { ReadsInto (up_to 14 (codes "role") read_role graph.old) scanner.old scanner.new graph.new result }

@@ -169,7 +169,7 @@ impl<'a> Scanner<'a> {
         Ok((name, at))
     }
 
-    /// The fault at the next token, where the grammar doesn't have it.
+    /// The fault at the next token, if the grammar doesn't have it.
     pub fn refusal(&self) -> ParseFault
         ensures { result ≡ refusal self.now }
     {

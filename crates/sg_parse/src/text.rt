@@ -46,7 +46,7 @@ fn read_text(alloc: Global, scanner: &mut Scanner) -> Result<Graph, ParseFault>
     Ok(graph)
 }
 
-/// The statements after a graph's name, where the graph has no parts yet.
+/// The statements after a graph's name, if the graph has no parts yet.
 pub fn read_statements(scanner: &mut Scanner, graph: &mut Graph) -> Result<(), ParseFault>
     requires roles { length graph.old.roles ≡ 0 }
     requires variables { length graph.old.variables ≡ 0 }

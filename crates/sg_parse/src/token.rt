@@ -99,7 +99,7 @@ pub fn name_of(token: &Token) -> Option<Name>
     }
 }
 
-// The fault at a token that the grammar doesn't have at its place.
+// The fault at a token that the grammar doesn't have at its position.
 pub fn refusal(token_at: &TokenAt) -> ParseFault
     ensures { result ≡ refusal_of token_at.now.token token_at.now.at }
 {

@@ -10,7 +10,7 @@ use crate::scanner::Scanner;
 use sg_base::VarType;
 use sg_graph::Graph;
 
-// Up to 32 variables, where the graph has none.
+// Up to 32 variables, if the graph has none.
 pub fn read_vars(scanner: &mut Scanner, graph: &mut Graph) -> Result<(), ParseFault>
     requires { length graph.old.variables ≡ 0 }
     ensures { ReadsInto (read_variables graph.old) scanner.old scanner.new graph.new result }

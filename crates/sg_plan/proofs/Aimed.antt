@@ -16,7 +16,7 @@ use Rattle.sg_reach.specs.Reaches.{Closure, IsFirstOf}
 use Rattle.sg_reach.proofs.Cases.{less_or}
 use Rattle.sg_reach.proofs.Pair.{pair, leads_first, first_leads}
 
--- a role other than sender and receiver is a target exactly where it has a node in the closure of the edge's end past the role and the sender
+-- a role other than sender and receiver is a target exactly if it has a node in the closure of the edge's end past the role and the sender
 pub found_target : (g : Graph) (e t : ℕ) (o : Option ℕ) → t < 16 → sender (shape g) e < 16 → t ≢ sender (shape g) e → t ≢ receiver (shape g) e
     → IsFirstOf (record { graph = g; from = target (shape g) e; past = pair t (sender (shape g) e) }) t o → IsTrue (is_some o) ↔ IsTarget (shape g) e t
 found_target g e t (Some n) ht hs not_sender not_receiver x = (
@@ -70,7 +70,7 @@ set_without g e n set small x missed = record {
 pub differ : (a b : ℕ) (test : Bool) → test ≡ eqb a b → test ≡ false → a ≢ b
 differ a b test is fails e = (let yes : eqb a b ≡ true = eq-eqb a b e in let wrong : false ≡ true = sym fails ∙ is ∙ yes in cc)
 
--- what the code finds in the closure tells whether the role is a target
+-- what the code finds in the closure says whether the role is a target
 pub told_target : (g : Graph) (e t s to : ℕ) (set : List ℕ) (k : Closure) (o : Option ℕ) (r : Bool) → s ≡ sender (shape g) e → to ≡ target (shape g) e → set ≡ pair t s
     → k ≡ record { graph = g; from = to; past = set } → t < 16 → s < 16 → t ≢ s → t ≢ receiver (shape g) e → IsFirstOf k t o → r ≡ is_some o → IsTrue r ↔ IsTarget (shape g) e t
 told_target g e t s to set k o r sends leads sets closes ht hs not_sender not_receiver first tells =

@@ -31,12 +31,12 @@ none_sealed : (a : Answer) → None ≡ frame_in a → None ≡ sealed_in a
 none_sealed (Protocol.Sends e to f) h = absurd (cc)
 none_sealed other h = refl
 
--- what comes of a call that sends nothing
+-- the outcome of a call that sends nothing
 pub comes_quiet : (number : ℕ) (old new : NodeState) (past : Past) (call : Call) (told : Option Reported) (graph : Option Graph) → IsCallInRange call
     → SendsNothing number (answer real (node_of past) call) told → graph ≡ graph_of_call real (node_of past) call → GoesOn old new call past → Comes number old new past call told graph None
 comes_quiet number old new past call told graph range h graphed goes = record { range = range; is_told = h.0; is_graph = graphed; is_sealed = none_sealed (answer real (node_of past) call) h.1; goes_on = goes }
 
--- what comes of a step that was sent
+-- the outcome of a step that was sent
 pub comes_sent : (number : ℕ) (old new : NodeState) (past : Past) (sid : List ℕ) (label : ℕ) (values : Map Value) (random : List (List ℕ)) (e : Protocol.Event) (to : Name) (sealed : Name × List ℕ) (graph : Option Graph) (f : Frame)
     → to ≡ sealed.0 → answer real (node_of past) (Act sid label values random) ≡ Protocol.Sends e sealed.0 f → sealed.1 ≡ spelling f → AreValues values random → graph ≡ graph_of_call real (node_of past) (Act sid label values random)
     → GoesOn old new (Act sid label values random) past → Comes number old new past (Act sid label values random) (Some (Sends e to number)) graph (Some sealed)

@@ -17,7 +17,7 @@ use Rattle.sg_play.proofs.Extends.{Extends}
 pub ended_on : (start now : Outside) (p q : Play) (f : PlayFault) → Extends p q → Ended start now p.steps (Err f) → Ended start now q.steps (Err f)
 ended_on start now p q f e h = subst (λ (l : List Step). Ended start now l (Err f)) (sym e.1) (ended_more start now p.steps e.0 f h)
 
--- where memory runs out between steps, or the link gives no delivery
+-- if memory runs out between steps, or the link gives no delivery
 pub no_memory : (start now : Outside) (p q : Play) → Extends p q → Whole start now p.steps → Ended start now q.steps (Err OutOfMemory)
 no_memory start now p q e w = record { prefix = p.steps; rest = e.0; is = e.1; whole = w }
 
@@ -44,7 +44,7 @@ came_after start old new pl p c line made (Err OutOfMemory) w represents l m mem
 
 -- ---- one after another
 
--- the words were not touched
+-- no random bytes were taken
 pub with_random : (start now : Outside) (pl : Player) (random : Option (List (List ℕ))) (p : Play) (r : Result (Unit {0}) PlayFault) → random ≡ Some p.random → Came start now pl p r → CameTo start now pl random p r
 with_random start now pl random p (Ok u) w h = (h, w)
 with_random start now pl random p (Err f) w h = h

@@ -60,7 +60,7 @@ module _ {X : Type 0} where
   whole_part (suc k) [] = ([], refl)
   whole_part (suc k) (d ∷ ds) = let r = whole_part k ds in (r.0, ap (λ z. d ∷ z) r.1)
 
--- ---- words
+-- ---- random bytes
 
 left_behind : (n : ℕ) (all : List (List ℕ)) → drop n (drop 1 all) ≡ drop (suc n) all
 left_behind n [] = no_drop n
@@ -70,7 +70,7 @@ next_more : (n : ℕ) (all : List (List ℕ)) → next_confounders n all ++ next
 next_more zero all = refl
 next_more (suc n) all = ap (λ (l : List (List ℕ)). next_random all ∷ l) (ap (λ (l : List (List ℕ)). next_confounders n (drop 1 all) ++ next_random l ∷ []) (sym (left_behind n all)) ∙ next_more n (drop 1 all))
 
--- one word more
+-- sixteen random bytes more
 pub random_next : (n : ℕ) (all : List (List ℕ)) → next_confounders n all ++ next_random (drop n all) ∷ [] ≡ next_confounders (n + 1) all
 random_next n all = next_more n all ∙ sym (ap (λ (k : ℕ). next_confounders k all) (add-one n))
 

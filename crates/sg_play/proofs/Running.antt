@@ -31,11 +31,11 @@ module _ (start now : Outside) (pl : Player) (random : Option (List (List ℕ)))
 
 -- ---- a start
 
--- a player represents the play without a word
+-- a player represents the play with sixteen random bytes less
 pub without_one : (pl : Player) (p : Play) → RepresentsPlay pl p → RepresentsPlay pl (without 1 p)
 without_one pl p s = record { node = s.node; told = s.told; keys = s.keys; programs = s.programs; choices = s.choices; names = s.names; steps = s.steps; frames = s.frames }
 
--- a start with the next word as its nonce
+-- a start with the next sixteen random bytes as its nonce
 pub start_is : (p : Play) (s : ScriptStart) (programs : List Program) (nonce : List ℕ) (cast : Cast) → p.past.programs ≡ programs → nonce ≡ next_random p.random → cast ≡ cast_of_start programs s nonce → with_turn (without 1 p) (Start cast) ≡ starts p s
 start_is p s programs nonce cast held next e = ap (λ (c : Cast). with_turn (without 1 p) (Start c)) (e ∙ (λ i. cast_of_start (sym held i) s (next i)))
 

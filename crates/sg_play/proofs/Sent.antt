@@ -1,4 +1,4 @@
--- What is told of an answer says whether a frame was sent.
+-- What is reported of an answer says whether a frame was sent.
 use Rattle.std.proofs.Common.{◌≡◌, ℕ, Bool, true, false, Option, Some, None, option_map, refl, sym, ap, ◌∙◌, subst}
 use Rattle.std.proofs.lemmas.Option.{same_Some}
 use Rattle.sg_model.specs.Names.{Name}
@@ -26,11 +26,11 @@ answer_sent k (Protocol.NotActed x) = refl
 answer_sent k Protocol.NotAbandoned = refl
 answer_sent k (Protocol.NotDelivered x) = refl
 
--- the answer is told so
+-- the answer is reported so
 told_so : (k : ℕ) (a : Answer) (t : Reported) → Some t ≡ Some (reported_answer k a) → tells_sent t ≡ is_sent a
 told_so k a t e = ap tells_sent (same_Some t (reported_answer k a) e) ∙ answer_sent k a
 
--- no fault tells of a frame
+-- no fault reports a frame
 of_fault : {F : Type 0} (k : ℕ) (a : Answer) (t : F → Reported) (o : Option F) → ((f : F) → tells_sent (t f) ≡ false) → option_map t o ≡ Some (reported_answer k a) → false ≡ is_sent a
 of_fault k a t None h e = absurd (cc)
 of_fault k a t (Some f) h e = sym (h f) ∙ told_so k a (t f) e

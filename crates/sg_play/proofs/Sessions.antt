@@ -22,7 +22,7 @@ all_pass (x ∷ xs) zs h =
     by t true e = refl
     by t false e = e
 
--- the sessions with an event are all sessions, where none is declared
+-- the sessions with an event are all sessions, if none is declared
 pub all_met : (calls : List AnsweredCall) → sids_met (met_in calls) ≡ all_sids (met_in calls)
 all_met calls =
     let m = met_in calls in

@@ -1,4 +1,4 @@
--- What a player represents once it has told what came of a call.
+-- What a player represents once it has reported the outcome of a call.
 use Rattle.std.proofs.Common.{◌≡◌, ℕ, ◌+◌, List, [], ◌∷◌, ◌++◌, map, flat_map, length, Option, Some, None, refl, sym, ap, ◌∙◌, subst, arith}
 use Rattle.std.specs.Option.{option_map_or}
 use Rattle.std.proofs.lemmas.List.{append-nil, length-append, map-append}
@@ -45,7 +45,7 @@ met_by m k (Protocol.NotActed x) = ap with_events (append-nil m)
 met_by m k Protocol.NotAbandoned = ap with_events (append-nil m)
 met_by m k (Protocol.NotDelivered x) = ap with_events (append-nil m)
 
--- the sessions after a call, by what is told of it
+-- the sessions after a call, by what is reported of it
 pub met_after : (calls : List AnsweredCall) (c : AnsweredCall) (k : ℕ) → met_in (calls ++ c ∷ []) ≡ met_more (met_in calls) (reported_answer k c.answer)
 met_after calls c k = ap with_events (sids_more calls c) ∙ met_by (met_in calls).events k c.answer
 
@@ -114,7 +114,7 @@ asked_made pl n counted p c told graph frame s h =
       is_made = ap frames_made h.is_frame ∙ is_addressed pl.keys.now (answer_in p c) ∙ ap (λ (k : Keyring). frames_in k (answer_in p c)) (sym s.keys);
     }
 
--- what is told of a call
+-- what is reported of a call
 abbrev pub told_in : Play → Call → Reported
 told_in p c = reported_answer (length (frames_of p.steps) + 1) (answer_in p c)
 
@@ -122,7 +122,7 @@ told_in p c = reported_answer (length (frames_of p.steps) + 1) (answer_in p c)
 met_with : (p : Play) (c : Call) → met_more (met_in p.past.calls) (told_in p c) ≡ met_in (past_after real p.past c).calls
 met_with p c = sym (met_after p.past.calls (record { call = c; answer = answer_in p c }) (length (frames_of p.steps) + 1))
 
--- what telling a step leaves of a player
+-- what reporting a step leaves of a player
 pub told_rest : (old met : Player) (number : ℕ) → met ≡ record old { names = met.names } → number ≡ met.steps + 1 → record met { steps = number } ≡ record old { names = met.names; steps = old.steps + 1 }
 told_rest old met number is next = (λ i. record (is i) { steps = next i }) ∙ (λ i. record old { names = met.names; steps = (is i).steps + 1 })
 

@@ -1,4 +1,4 @@
--- A turn is its act, and the leaving where no frame was sent.
+-- A turn is its act, and the leaving if no frame was sent.
 use Rattle.std.proofs.Common.{◌≡◌, ℕ, Bool, true, false, List, find, if◌then◌else◌, Option, Some, None, option_map, refl, sym, ap, ◌∙◌}
 use Rattle.std.specs.Option.{option_map_or}
 use Rattle.std.proofs.lemmas.Option.{same_Some}

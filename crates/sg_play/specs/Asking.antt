@@ -1,4 +1,4 @@
--- What came of a call of the node, as the program holds it.
+-- The outcome of a call of the node, as the program holds it.
 use Rattle.std.specs.Prelude.{◌≡◌, ℕ, ◌+◌, List, length, Option, Some, None, option_and_then, option_map}
 use Rattle.sg_base.specs.declared.address.Addr.{Addr}
 use Rattle.sg_keys.specs.Names.{addr_of}
@@ -22,7 +22,7 @@ abbrev pub sealed_in : Answer → Option (Name × List ℕ)
 sealed_in (Sends e to f) = Some (to, spelling f)
 sealed_in other = None
 
--- what comes of a call is what the node of the past answers, where its frame has this number, by the graph of the call; and the new state goes on for the past
+-- the outcome of a call is what the node of the past answers, if its frame has this number, by the graph of the call; and the new state goes on for the past
 pub record Comes (number : ℕ) (old new : NodeState) (past : Past) (call : Call) (told : Option Reported) (graph : Option Graph) (sealed : Option (Name × List ℕ)) : Type 0 where
   pub range : IsCallInRange call
   pub is_told : told ≡ Some (reported_answer number (answer real (node_of past) call))

@@ -1,4 +1,4 @@
--- What a play has given the outside: whole steps, and where it ended early how far it came.
+-- What a play has given the outside: whole steps, and if it ended early how far it came.
 use Rattle.std.specs.Prelude.{◌≡◌, ℕ, List, ◌∷◌, ◌++◌, take, Option, Result, Ok, Err}
 use Rattle.sg_base.specs.declared.address.Addr.{Addr}
 use Rattle.sg_base.specs.Outside.{Appends}
@@ -6,7 +6,7 @@ use Rattle.sg_play.specs.declared.fault.PlayFault.{PlayFault}
 use Rattle.sg_play.specs.declared.fault.PlayFault.TheVariants.{LinkFailed, WriteFailed, OutOfMemory}
 use Rattle.sg_play.specs.Steps.{Step, lines_of, frames_of}
 
--- what the sink and the link tell: the bytes written, and the frames sent
+-- what is known of the sink and the link: the bytes written, and the frames sent
 pub record Outside : Type 0 where
   pub written : Option (List ℕ)
   pub sent : Option (List (Addr × List ℕ))
@@ -33,7 +33,7 @@ pub record Begun (old new : Outside) (steps : List Step) : Type 0 where
   pub lines : Appends old.written new.written (lines_of prefix ++ take bytes step.line)
   pub frames : Appends old.sent new.sent (frames_of prefix ++ step.frames)
 
--- a play of these steps ended so. Where the link failed or memory ran out, whole steps were taken; where a line was not written whole, its frame was taken
+-- a play of these steps ended so. If the link failed or memory ran out, whole steps were taken; if a line was not written whole, its frame was taken
 abbrev pub Ended : (old new : Outside) → List Step → Result (Unit {0}) PlayFault → Type 0
 Ended old new steps (Ok u) = Whole old new steps
 Ended old new steps (Err LinkFailed) = WholePrefix old new steps

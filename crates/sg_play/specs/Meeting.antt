@@ -1,4 +1,4 @@
--- The sessions that are met by what is told of a step.
+-- The sessions that are met by what is reported of a step.
 use Rattle.std.specs.Option.{option_map_or}
 use Rattle.sg_text.specs.Sessions.{KnownSessions, with_event}
 use Rattle.sg_report.specs.Reported.{Reported, sid_reported}

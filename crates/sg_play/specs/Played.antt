@@ -16,7 +16,7 @@ use Rattle.sg_script.specs.Script.{Start as ScriptStart, Choice, Script}
 use Rattle.sg_play.specs.Choosing.{is_ready, used}
 use Rattle.sg_play.specs.Steps.{Step, frames_of, frames_in, line_of}
 
--- how far a play has come: the node's past, the choices with the uses that are left, the words that are not used yet, and the steps that were taken
+-- how far a play has come: the node's past, the choices with the uses that are left, the random bytes that are not used yet, and the steps that were taken
 pub record Play : Type 0 where
   pub past : Past
   pub choices : List Choice
@@ -40,18 +40,18 @@ step_in p c = record {
 abbrev pub called : Play → Call → Play
 called p c = record p { past = past_after real p.past c; steps = p.steps ++ step_in p c ∷ [] }
 
--- ---- words
+-- ---- nonces and confounders
 
--- the next word, or zeros where there is none
+-- the next sixteen random bytes, or zeros if there are none
 abbrev pub next_random : List (List ℕ) → List ℕ
 next_random random = slice_index_or random 0 (replicate 16 0)
 
--- the next n words
+-- the next n times sixteen random bytes
 abbrev pub next_confounders : ℕ → List (List ℕ) → List (List ℕ)
 next_confounders zero random = []
 next_confounders (suc n) random = next_random random ∷ next_confounders n (drop 1 random)
 
--- a play without these words
+-- a play without these random bytes
 abbrev pub without : ℕ → Play → Play
 without n p = record p { random = drop n p.random }
 
@@ -61,16 +61,16 @@ without n p = record p { random = drop n p.random }
 abbrev pub abandons : (sid : List ℕ) → Play → Play
 abandons sid p = called p (Abandon sid)
 
--- where the act was refused the session is abandoned
+-- if the act was refused the session is abandoned
 abbrev pub or_abandons : (sid : List ℕ) → Play → Answer → Play
 or_abandons sid p (Sends e to f) = p
 or_abandons sid p other = abandons sid p
 
--- the act by a choice, with a word to hide each value
+-- the act by a choice, with a confounder to hide each value
 abbrev pub act_by : (sid : List ℕ) → Choice → List (List ℕ) → Call
 act_by sid c random = Act sid c.label c.values (next_confounders (length c.values) random)
 
--- the play as it asks for the act by a choice: the act takes the words, and one use off the choice, whether it is refused or not
+-- the play as it asks for the act by a choice: the act takes the confounders, and one use off the choice, whether it is refused or not
 abbrev pub chosen : (graph : Name) → (node : ℕ) → Choice → Play → Play
 chosen graph node c p = record p { choices = used graph node p.choices; random = drop (length c.values) p.random }
 
@@ -78,11 +78,11 @@ chosen graph node c p = record p { choices = used graph node p.choices; random =
 abbrev pub acts : (sid : List ℕ) → (graph : Name) → (node : ℕ) → Choice → Play → Play
 acts sid graph node c p = or_abandons sid (called (chosen graph node c p) (act_by sid c p.random)) (answer_in p (act_by sid c p.random))
 
--- a turn is played at a node of a graph: by the first choice for it that has uses left. Where there is none, the session is abandoned
+-- a turn is played at a node of a graph: by the first choice for it that has uses left. If there is none, the session is abandoned
 abbrev pub plays : (sid : List ℕ) → (graph : Name) → (node : ℕ) → Play → Play
 plays sid graph node p = option_map_or (λ c. acts sid graph node c p) (find (is_ready graph node) p.choices) (abandons sid p)
 
--- the turn of a session is played, where it is at its turn, by the graph that it has
+-- the turn of a session is played, if it is at its turn, by the graph that it has
 abbrev pub plays_on : (sid : List ℕ) → Play → Play
 plays_on sid p = option_map_or (λ node. option_map_or (λ (x : Program × Session). plays sid x.0.graph.name node p) (live_with (node_of p.past) sid) (abandons sid p)) (turn_of (node_of p.past) sid) p
 
@@ -102,7 +102,7 @@ with_turn p c = option_map_or (λ sid. plays_on sid (called p c)) (sid_given (an
 abbrev pub cast_of_start : List Program → ScriptStart → (nonce : List ℕ) → Cast
 cast_of_start programs s nonce = record { version = s.version; graph = option_map_or (λ p. p.digest) (find (is_named s.graph) programs) []; nonce = nonce; names = s.cast }
 
--- a start, with the next word as its nonce
+-- a start, with the next sixteen random bytes as its nonce
 abbrev pub starts : Play → ScriptStart → Play
 starts p s = with_turn (without 1 p) (Start (cast_of_start p.past.programs s (next_random p.random)))
 
@@ -125,6 +125,6 @@ beginning keys programs first choices random = record {
   steps = [];
 }
 
--- the play of a script: its starts, then these deliveries, with these words
+-- the play of a script: its starts, then these deliveries, with these random bytes
 abbrev pub played : Keyring → List Program → (first : List (List ℕ × ℕ)) → Script → (deliveries random : List (List ℕ)) → Play
 played keys programs first script deliveries random = all_deliveries (all_starts (beginning keys programs first script.choices random) script.starts) deliveries

@@ -20,7 +20,7 @@ use Rattle.sg_play.specs.Played.{Play, answer_in, act_by, chosen}
 use Rattle.sg_play.specs.Queues.{HoldsChoices}
 use Rattle.sg_play.specs.Steps.{met_in, frames_in, frames_of}
 
--- the player has the play's node, keys and programs, its choices, and what its lines are told by
+-- the player has the play's node, keys and programs, its choices, and what its lines are written by
 pub record RepresentsPlay (pl : Player) (p : Play) : Type 0 where
   pub node : RepresentsPast pl.node p.past
   pub told : IsTold p.past
@@ -31,7 +31,7 @@ pub record RepresentsPlay (pl : Player) (p : Play) : Type 0 where
   pub steps : pl.steps ≡ length p.past.calls
   pub frames : pl.frames ≡ length (frames_of p.steps)
 
--- the player has asked its node this call, and this came of it, which is not told yet. These frames are counted
+-- the player has asked its node this call, and this is the outcome, which is not reported yet. These frames are counted
 pub record HasAsked (pl : Player) (p : Play) (c : Call) (told : Option Reported) (graph : Option Graph) (made : List (Addr × List ℕ)) : Type 0 where
   pub node : RepresentsPast pl.node (past_after real p.past c)
   pub told_past : IsTold (past_after real p.past c)
@@ -55,7 +55,7 @@ abbrev pub Came : (start now : Outside) → Player → Play → Result (Unit {0}
 Came start now pl p (Ok u) = RepresentsPlay pl p × Whole start now p.steps
 Came start now pl p (Err fault) = Ended start now p.steps (Err fault)
 
--- and the words that are left are the source's
+-- and the random bytes that are left are the source's
 abbrev pub CameTo : (start now : Outside) → Player → (random : Option (List (List ℕ))) → Play → Result (Unit {0}) PlayFault → Type 0
 CameTo start now pl random p (Ok u) = Came start now pl p (Ok u) × (random ≡ Some p.random)
 CameTo start now pl random p (Err fault) = Came start now pl p (Err fault)
@@ -65,13 +65,13 @@ abbrev pub CameActing : (start now : Outside) → Player → (random : Option (L
 CameActing start now pl random x (Ok sent) = CameTo start now pl random x.0 (Ok tt) × (sent ≡ x.1)
 CameActing start now pl random x (Err fault) = CameTo start now pl random x.0 (Err fault)
 
--- the player has asked for the act by the first choice that can be taken, and this came of it
+-- the player has asked for the act by the first choice that can be taken, and this is the outcome
 pub record HasActed (pl : Player) (random : Option (List (List ℕ))) (sid : List ℕ) (graph : Name) (node : ℕ) (p : Play) (told : Option Reported) (by : Option Graph) (made : List (Addr × List ℕ)) : Type 0 where
   pub choice : Choice
   pub is_first : find (is_ready graph node) p.choices ≡ Some choice
   pub asked : HasAsked pl (chosen graph node choice p) (act_by sid choice p.random) told by made
   pub random_left : random ≡ Some (drop (length choice.values) p.random)
 
--- where the old state of a node represented a past that was told, the new one represents such a past too, and has the same joins
+-- if the old state of a node represented a valid past, the new one represents such a past too, and has the same joins
 abbrev pub KeepsJoins : (old new : NodeState) → Type 0
 KeepsJoins old new = (past : Past) → RepresentsPast old past → IsTold past → (later : Past) × RepresentsPast new later × IsTold later × (new.joins ≡ old.joins)

@@ -1,4 +1,4 @@
--- The steps of one principal who plays: each is a call of its node, with the line that tells it and the frame that it sends.
+-- The steps of one principal who plays: each is a call of its node, with the line that reports it and the frame that it sends.
 use Rattle.std.specs.Prelude.{ℕ, ◌+◌, List, [], ◌∷◌, map, flat_map, length}
 use Rattle.std.specs.Option.{option_map_or}
 use Rattle.sg_base.specs.declared.address.Addr.{Addr}

@@ -28,6 +28,6 @@ acted_in sid graph node p = option_map_or (acted_by sid graph node p) (find (is_
 abbrev pub acted : (sid : List ℕ) → (node : ℕ) → Play → Play × Bool
 acted sid node p = option_map_or (λ (x : Program × Session). acted_in sid x.0.graph.name node p) (live_with (node_of p.past) sid) (p, false)
 
--- where no frame was sent the session is abandoned
+-- if no frame was sent the session is abandoned
 abbrev pub or_leaves : (sid : List ℕ) → Play × Bool → Play
 or_leaves sid x = if x.1 then x.0 else abandons sid x.0

@@ -1,4 +1,4 @@
-//! What the node is asked, what came of it, and the graph by which its numbers have names.
+//! What the node is asked, the outcome, and the graph by which its numbers have names.
 ghost use Rattle.std.specs.Prelude.{◌≡◌, ◌↔◌, ◌⊎◌, ◌+◌, ℕ, length, None, IfOk, IfErr, IsTrue};
 ghost use Rattle.std.specs.Option.{option_copied};
 ghost use Rattle.sg_protocol.specs.Calls.{Start, Act, Abandon, Deliver};
@@ -78,7 +78,7 @@ pub(crate) fn ask_deliver<'p>(
     }
 }
 
-// The graph of a delivery, before it is made: none where the bytes are no frame.
+// The graph of a delivery, before it is made: none if the bytes are no frame.
 fn delivered_graph<'p>(
     alloc: Global,
     node: &Node<'p>,
@@ -142,7 +142,7 @@ pub(crate) fn ask_act<'p>(
     Ok((outcome, graph, frame))
 }
 
-// The next frame's number, or `OutOfMemory` where a `u32` holds no more.
+// The next frame's number, or `OutOfMemory` if a `u32` holds no more.
 fn next_frame(number: u32) -> Result<u32, PlayFault>
     ensures next { IfOk result (λ n. n ≡ number + 1) }
     ensures memory { IfErr result (λ e. e ≡ PlayFault.OutOfMemory) }

@@ -153,7 +153,7 @@ fn has_uses(choice: &ScriptChoice) -> bool
     choice.times > 0
 }
 
-// Puts a choice at the end of a spot's queue, which is made where there is none.
+// Puts a choice at the end of a spot's queue, which is made if there is none.
 fn put_at(
     alloc: Global,
     table: &mut IndexMap<(Name, u16), Queue>,

@@ -1,11 +1,11 @@
-//! Words to hide values, drawn one after the other.
+//! Confounders of values, drawn one after the other.
 ghost use Rattle.std.specs.Prelude.{◌≡◌, ℕ, List, Some, length, drop, IfOk, OnOk};
 ghost use Rattle.sg_play.specs.Played.{next_confounders};
 
 use sg_base::{Fresh, OutOfMemory};
 use std::alloc::Global;
 
-/// The next `count` words.
+/// The next `count` confounders.
 pub fn draw<R: Fresh>(
     alloc: Global,
     fresh: &mut R,

@@ -29,7 +29,7 @@ use sg_text::SessionNames;
 use std::alloc::Global;
 
 /// One principal who plays a script: its node, the keys and programs that the node was made with, the choices with the uses that are
-/// left, and what its lines are told by: what sessions are called, and how many steps were taken and frames sent.
+/// left, and what its lines are written by: what sessions are called, and how many steps were taken and frames sent.
 #[derive(Drop)]
 pub struct Player<'p> {
     pub(crate) alloc: Global,
@@ -78,7 +78,7 @@ impl<'p> Player<'p> {
         }
     }
 
-    /// Asks the node for a start of a script, with this nonce: what came of it, and the graph by which its numbers have names. It is to be
+    /// Asks the node for a start of a script, with this nonce: the outcome, and the graph by which its numbers have names. It is to be
     /// given to the outside.
     pub fn ask_start(
         &mut self,
@@ -94,7 +94,7 @@ impl<'p> Player<'p> {
         ask_start(self.alloc, &mut self.node, cast)
     }
 
-    /// Asks the node to take a delivery: what came of it, and the graph by which its numbers have names. It is to be given to the outside.
+    /// Asks the node to take a delivery: the outcome, and the graph by which its numbers have names. It is to be given to the outside.
     pub fn ask_deliver(&mut self, bytes: &[u8]) -> Result<(Outcome, Option<&'p Graph>), PlayFault>
         ensures rest { OnOk result (self.new ≡ record self.old { node = self.new.node }) }
         ensures comes { (number : ℕ) (past : Past) → RepresentsPast self.old.node past
@@ -169,8 +169,8 @@ impl<'p> Player<'p> {
         self.give(Some(sid), graph, &outcome, None, link, out)
     }
 
-    /// Gives the outside what came of a call: the frame, if one was made, and when the link has taken it the line. It fails where
-    /// the link fails, where the line is not written whole, or where memory runs out.
+    /// Gives the outside the outcome of a call: the frame, if one was made, and when the link has taken it the line. It fails if
+    /// the link fails, if the line is not written whole, or if memory runs out.
     pub fn give<L: Link, O: Sink>(
         &mut self,
         left: Option<Sid>,
@@ -200,7 +200,7 @@ impl<'p> Player<'p> {
         }
     }
 
-    /// The line of the next step: of what came of a call, in the session that the call left, if it left one. It is to be written.
+    /// The line of the next step: of the outcome of a call, in the session that the call left, if it left one. It is to be written.
     pub fn tell(
         &mut self,
         left: Option<Sid>,
@@ -262,7 +262,7 @@ impl<'p> Player<'p> {
     }
 }
 
-// The bytes of a name, none where there is none.
+// The bytes of a name, none if there is none.
 fn bytes_of(name: &Option<Name>) -> &[u8]
     ensures { result.now ≡ unwrap_or name.now [] }
 {
@@ -272,7 +272,7 @@ fn bytes_of(name: &Option<Name>) -> &[u8]
     }
 }
 
-// One step more, or `OutOfMemory` where a `u64` holds no more: no principal lives to see it.
+// One step more, or `OutOfMemory` if a `u64` holds no more: no principal lives to see it.
 fn next_step(number: u64) -> Result<u64, PlayFault>
     ensures next { IfOk result (λ n. n ≡ number + 1) }
     ensures memory { IfErr result (λ e. e ≡ PlayFault.OutOfMemory) }

@@ -19,7 +19,7 @@ use sg_walk::Event;
 use std::alloc::Global;
 
 /// The line of a step, in a session of this name. Roles, labels and variables have their names by the graph. A session's own graph has
-/// them all, except where two different graphs have one digest: then there is no line, as if memory ran out.
+/// them all, except if two different graphs have one digest: then there is no line, as if memory ran out.
 pub(crate) fn reported_line(
     alloc: Global,
     step: u64,

@@ -41,7 +41,7 @@ impl<'p> Player<'p> {
         Ok(())
     }
 
-    // Makes a start of a script, with the next word as its nonce, and plays the turn that it gives.
+    // Makes a start of a script, with the next sixteen random bytes as its nonce, and plays the turn that it gives.
     fn start_one<L: Link, R: Fresh, O: Sink>(
         &mut self,
         start_of: &ScriptStart,
@@ -116,8 +116,8 @@ impl<'p> Player<'p> {
         self.play_if(sid, link, fresh, out)
     }
 
-    /// Plays the turn of a session, if there is one. The node joins nothing by it. It fails where the link fails, where a line is
-    /// not written whole, or where memory runs out.
+    /// Plays the turn of a session, if there is one. The node joins nothing by it. It fails if the link fails, if a line is
+    /// not written whole, or if memory runs out.
     pub fn play_if<L: Link, R: Fresh, O: Sink>(
         &mut self,
         sid: Option<Sid>,
@@ -167,8 +167,8 @@ pub(crate) fn cast_of(
 
 /// Plays a script: makes its starts in order and plays the turn that each gives; then takes at most `most` deliveries, up to the
 /// link's end, gives each to the node and plays the turn, if one came. The node was made with these keys and programs, and with any
-/// joins, and was not asked anything yet; the script was read beside these programs. It ends early where the link fails, where a
-/// line is not written whole, or where memory runs out.
+/// joins, and was not asked anything yet; the script was read beside these programs. It ends early if the link fails, if a
+/// line is not written whole, or if memory runs out.
 pub fn play<'p, L: Link, R: Fresh, O: Sink>(
     alloc: Global,
     node: Node<'p>,
@@ -186,7 +186,7 @@ pub fn play<'p, L: Link, R: Fresh, O: Sink>(
     ensures link_failed { result ≡ Err PlayFault.LinkFailed → HasRisen (L.faults link.old) (L.faults link.new) }
     ensures write_failed { result ≡ Err PlayFault.WriteFailed → HasRisen (O.faults out.old) (O.faults out.new) }
 
-    // Where the link tells its deliveries and the source its words: what was written and sent is what the play says, up to where it
+    // If the deliveries and the random bytes to come are known: what was written and sent is what the play says, up to where it
     // ended.
     ensures played { (first : List (List ℕ × ℕ)) (deliveries random : List (List ℕ)) → node.entry ≡ new_state keys.entry.now programs.entry.now first → L.deliveries link.old ≡ Some deliveries → R.random fresh.old ≡ Some random
         → Ended (record { written = O.written out.old; sent = L.sent link.old }) (record { written = O.written out.new; sent = L.sent link.new })

@@ -20,8 +20,8 @@ use sg_graph::Graph;
 use sg_report::Outcome;
 
 impl<'p> Player<'p> {
-    /// Plays the turn of a session, where it is at its turn: by the first choice for its graph and node that has uses left. Where there
-    /// is none, or where the act is refused, the session is left.
+    /// Plays the turn of a session, if it is at its turn: by the first choice for its graph and node that has uses left. If there
+    /// is none, or if the act is refused, the session is left.
     pub(crate) fn play_turn<L: Link, R: Fresh, O: Sink>(
         &mut self,
         sid: Sid,
@@ -48,8 +48,8 @@ impl<'p> Player<'p> {
         self.leave(sid, link, out)
     }
 
-    // Acts by the first choice for a node of a session's graph that has uses left. It says whether a step was sent: not where there is no
-    // such choice, nor where the act is refused.
+    // Acts by the first choice for a node of a session's graph that has uses left. It says whether a step was sent: not if there is no
+    // such choice, nor if the act is refused.
     fn act<L: Link, R: Fresh, O: Sink>(
         &mut self,
         sid: Sid,
@@ -104,7 +104,7 @@ impl<'p> Player<'p> {
         }
     }
 
-    // Asks for the act by the first choice for a node of a graph that has uses left, if there is one: what came of it, the graph by which
+    // Asks for the act by the first choice for a node of a graph that has uses left, if there is one: the outcome, the graph by which
     // its numbers have names, and the frame that was made, with the address of its receiver. The act takes one use off the choice,
     // whether it is refused or not.
     fn try_act<R: Fresh>(

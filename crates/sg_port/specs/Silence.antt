@@ -10,12 +10,12 @@ abbrev pub silent_since : Option Accepted → Option ℕ
 silent_since None = None
 silent_since (Some accepted) = if accepted.ready then None else Some (instant_nanos accepted.heard)
 
--- the connection at a slot has nothing to read, and none of those that have nothing to read was heard earlier
+-- the connection in a slot has nothing to read, and none of those that have nothing to read was heard earlier
 abbrev pub IsQuietest : List (Option Accepted) → ℕ → Type 0
 IsQuietest slots at =
     (at < length slots) × HoldsAt (λ quiet. IsSomeAnd (silent_since quiet) (λ first. All (λ slot. IfSome (silent_since slot) (λ time. first ≤ time)) slots)) slots at
 
--- the connection at a slot, if there is one
+-- the connection in a slot, if there is one
 abbrev pub stream_at : Option Accepted → Option TcpStream
 stream_at None = None
 stream_at (Some accepted) = Some accepted.stream

@@ -25,7 +25,7 @@ struct Accepted {
     ready: bool,
 }
 
-/// The connections that were accepted, each at its slot. They are read in turn, one frame each.
+/// The connections that were accepted, each in its slot. They are read in turn, one frame each.
 #[derive(Drop)]
 pub(crate) struct Table {
     slots: Vec<Option<Accepted>>,
@@ -43,14 +43,14 @@ impl Table {
         Some(Table { slots, turn: 0 })
     }
 
-    /// A connection at a slot has something to read.
+    /// A connection in a slot has something to read.
     pub(crate) fn wake(&mut self, at: usize, now: Instant) {
         if let Some(slot) = self.slots.get_mut(at) {
             wake_at(slot, now);
         }
     }
 
-    /// A slot for one more connection: a free one, or else that of the connection that was silent longest. `None` where each has something
+    /// A slot for one more connection: a free one, or else that of the connection that was silent longest. `None` if each has something
     /// to read.
     pub(crate) fn slot(&mut self) -> Option<usize>
         ensures within { IfSome result (λ at. at < SLOTS) }
@@ -62,7 +62,7 @@ impl Table {
         }
     }
 
-    /// Puts a connection at a slot, and closes the one that was there.
+    /// Puts a connection in a slot, and closes the one that was there.
     pub(crate) fn put(&mut self, alloc: Global, at: usize, stream: TcpStream, now: Instant)
         requires { at < SLOTS }
         ensures { map stream_at self.new.slots.items ≡ slice_set (map stream_at self.old.slots.items) at (Some stream) }
@@ -75,7 +75,7 @@ impl Table {
         });
     }
 
-    /// Closes the connection that was silent longest, and tells whether there is one that has nothing to read.
+    /// Closes the connection that was silent longest, and returns whether there is one that has nothing to read.
     pub(crate) fn close_silent(&mut self) -> bool {
         match silent(&mut self.slots) {
             Some(at) => {
@@ -91,7 +91,7 @@ impl Table {
         self.slots.iter().any(|slot| slot.is_some())
     }
 
-    /// The next whole frame of those that may be read, or `None` where there is none yet. Connections that have ended are closed.
+    /// The next whole frame of those that may be read, or `None` if there is none yet. Connections that have ended are closed.
     pub(crate) fn next(&mut self, alloc: Global) -> Result<Option<Vec<u8>>, OutOfMemory>
         ensures { IfOk result (λ found. IfSome found (λ frame. length frame.items ≤ most_frame_bytes)) }
     {
@@ -105,7 +105,7 @@ impl Table {
         Ok(None)
     }
 
-    // Reads on at the slot whose turn it is.
+    // Reads on in the slot whose turn it is.
     fn read_next(&mut self, alloc: Global) -> Came
         ensures { Fits result }
     {
@@ -118,7 +118,7 @@ impl Table {
     }
 }
 
-// The connection at a slot has something to read.
+// The connection in a slot has something to read.
 fn wake_at(slot: &mut Option<Accepted>, now: Instant) {
     if let Some(open) = slot {
         open.ready = true;
@@ -166,7 +166,7 @@ fn quietest(slots: &[Option<Accepted>]) -> Option<usize>
     }
 }
 
-// When the connection at a slot was heard, if it has nothing to read.
+// When the connection in a slot was heard, if it has nothing to read.
 fn silent_since(slot: &Option<Accepted>) -> Option<Instant>
     ensures { option_map instant_nanos result ≡ silent_since slot.now }
 {
@@ -187,7 +187,7 @@ fn is_earliest(heard: Instant, found: Option<(usize, Instant)>) -> bool
     }
 }
 
-// Whether the connection at a slot has something to read by now, and is kept therefore.
+// Whether the connection in a slot has something to read by now, and is kept therefore.
 fn has_more(slot: &mut Option<Accepted>) -> bool
     ensures { IsFalse result → slot.new ≡ slot.old }
 {
@@ -201,7 +201,7 @@ fn has_more(slot: &mut Option<Accepted>) -> bool
     more
 }
 
-// Reads on at a slot. A connection that has ended is closed.
+// Reads on in a slot. A connection that has ended is closed.
 fn read_at(alloc: Global, slot: &mut Option<Accepted>) -> Came
     ensures { Fits result }
 {

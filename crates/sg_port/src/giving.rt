@@ -65,7 +65,7 @@ pub(crate) fn connect<R: Net + Clock>(
     Err(Failed)
 }
 
-// One attempt to connect, or `None` where there was no answer in time.
+// One attempt to connect, or `None` if there was no answer in time.
 fn attempt<R: Net + Clock>(
     rt: &R,
     intake: &mut Intake,
@@ -94,7 +94,7 @@ fn attempt<R: Net + Clock>(
     Err(Failed)
 }
 
-// Begins to connect. Where there is no room for one more connection, the kept one that rests longest gives way, or else the accepted one that
+// Begins to connect. If there is no room for one more connection, the kept one that rests longest gives way, or else the accepted one that
 // was silent longest.
 fn begin<R: Net>(
     rt: &R,
@@ -110,7 +110,7 @@ fn begin<R: Net>(
     }
 }
 
-// Whether a connection stands by now. It fails where the peer refused it.
+// Whether a connection stands by now. It fails if the peer refused it.
 fn stands(stream: &TcpStream) -> Result<bool, Failed> {
     match stream.take_error() {
         Ok(None) => Ok(stream.peer_addr().is_ok()),

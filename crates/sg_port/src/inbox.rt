@@ -80,7 +80,7 @@ impl Inbox {
     }
 }
 
-// Puts a frame at the end, where there is a place for it.
+// Puts a frame at the end, if there is room for it.
 fn put_last(frames: &mut VecDeque<Vec<u8>>, frame: Vec<u8>)
     requires { length frames.old.items < deque_capacity frames.old }
     ensures items { frames.new.items ≡ frames.old.items ++ frame ∷ [] }

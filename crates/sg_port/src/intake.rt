@@ -54,7 +54,7 @@ pub(crate) struct Intake {
 }
 
 impl Intake {
-    /// Takes in what comes to a listener. `None` where there is no memory, or the system failed.
+    /// Takes in what comes to a listener. `None` if there is no memory, or the system failed.
     pub(crate) fn new<R: Net>(rt: &R, alloc: Global, mut listener: TcpListener) -> Option<Intake> {
         let watch = Watch::new(rt, alloc)?;
         if !watch.add(&mut listener, LISTENER, Interest::READABLE) {
@@ -75,7 +75,7 @@ impl Intake {
         })
     }
 
-    /// Takes another listener in the place of the one before, and keeps what came in. It tells whether the system could.
+    /// Takes another listener in the place of the one before, and keeps what came in. It returns whether the system could.
     pub(crate) fn listen(&mut self, mut listener: TcpListener) -> bool {
         if !self.watch.add(&mut listener, LISTENER, Interest::READABLE) {
             return false;
@@ -85,7 +85,7 @@ impl Intake {
         true
     }
 
-    /// The next frame, or `None` where none came within the time, if there is a limit. What is offered already comes at once. Kept
+    /// The next frame, or `None` if none came within the time, if there is a limit. What is offered already comes at once. Kept
     /// connections that rest too long are closed meanwhile.
     pub(crate) fn next<C: Clock>(
         &mut self,
@@ -148,18 +148,18 @@ impl Intake {
         }
     }
 
-    /// Watches a connection for writing from now on, and tells whether the system took it.
+    /// Watches a connection for writing from now on, and returns whether the system took it.
     pub(crate) fn waits_for(&self, stream: &mut TcpStream) -> bool {
         self.watch.add(stream, WRITTEN, Interest::WRITABLE)
     }
 
-    /// Closes the accepted connection that was silent longest, and tells whether there is one that has nothing to read.
+    /// Closes the accepted connection that was silent longest, and returns whether there is one that has nothing to read.
     pub(crate) fn close_silent(&mut self) -> bool {
         self.table.close_silent()
     }
 
     /// Takes in what is offered, as far as there is room, and then waits for a change of it or of a connection for writing, for so long at
-    /// most. It tells whether the system could.
+    /// most. It returns whether the system could.
     pub(crate) fn wait<C: Clock>(&mut self, clock: &C, most: Duration) -> bool {
         let _ = self.accept(clock);
         if self.take_in() {
@@ -169,7 +169,7 @@ impl Intake {
         }
     }
 
-    // Takes whole frames in, as far as there is room. It tells whether there may be more of them.
+    // Takes whole frames in, as far as there is room. It returns whether there may be more of them.
     fn take_in(&mut self) -> bool {
         for _ in 0..AT_ONCE {
             if !self.inbox.has_room() {
@@ -183,7 +183,7 @@ impl Intake {
         true
     }
 
-    // Waits for a change, for so long at most, and notes what changed. It tells whether the system could.
+    // Waits for a change, for so long at most, and notes what changed. It returns whether the system could.
     fn await_change<C: Clock>(&mut self, clock: &C, most: Option<Duration>) -> bool {
         if !self.watch.wait(most) {
             return false;
@@ -202,8 +202,8 @@ impl Intake {
         true
     }
 
-    // Accepts what is offered, as far as there are slots. Where the system has no room for one more connection, the one that was silent longest
-    // gives way; where that didn't help, or none is open, it accepts nothing for a while. It tells whether more can come.
+    // Accepts what is offered, as far as there are slots. If the system has no room for one more connection, the one that was silent longest
+    // gives way; if that didn't help, or none is open, it accepts nothing for a while. It returns whether more can come.
     fn accept<C: Clock>(&mut self, clock: &C) -> bool {
         self.put_off = false;
         let mut gave_way = false;
@@ -231,7 +231,7 @@ impl Intake {
         true
     }
 
-    // Accepts the next connection that is offered, and reads it from now on, at a slot.
+    // Accepts the next connection that is offered, and reads it from now on, in a slot.
     fn accept_one<C: Clock>(&mut self, clock: &C, at: usize) -> Offer
         requires { at < SLOTS }
     {
@@ -247,7 +247,7 @@ impl Intake {
         }
     }
 
-    // Reads a connection from now on, at a slot. One that the system doesn't watch is closed.
+    // Reads a connection from now on, in a slot. One that the system doesn't watch is closed.
     fn admit<C: Clock>(&mut self, clock: &C, at: usize, mut stream: TcpStream)
         requires { at < SLOTS }
     {

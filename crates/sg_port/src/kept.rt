@@ -78,7 +78,7 @@ impl Kept {
         }
     }
 
-    /// Keeps a connection that had one message more. It is closed where that was the last one that it has, and where all slots are taken,
+    /// Keeps a connection that had one message more. It is closed if that was the last one that it has, and if all slots are taken,
     /// the one that rests longest is.
     pub(crate) fn keep<C: Clock>(&mut self, clock: &C, mut line: Line) {
         line.given = line.given.saturating_add(1);
@@ -94,7 +94,7 @@ impl Kept {
         let _ = self.lines.push(Resting { line, since });
     }
 
-    /// Closes the connection that rests longest, and tells whether there is one.
+    /// Closes the connection that rests longest, and returns whether there is one.
     pub(crate) fn close_longest(&mut self) -> bool {
         let mut longest = 0usize;
         let mut since: Option<Instant> = None;

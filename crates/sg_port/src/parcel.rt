@@ -58,7 +58,7 @@ impl Parcel {
         }
     }
 
-    /// Reads on, no further than to the message's end. After a frame the next message begins; where memory is wanting, nothing is lost.
+    /// Reads on, no further than to the message's end. After a frame the next message begins; if memory is wanting, nothing is lost.
     pub(crate) fn read_on<S: Read>(&mut self, alloc: Global, stream: &mut S) -> Came
         ensures { Fits result }
     {
@@ -101,7 +101,7 @@ fn frame_length(head: [u8; 4]) -> Option<usize>
     Some(len as usize)
 }
 
-// Reads into the places of some room from `filled` on, until there are no more, or no more bytes have come.
+// Reads into some room from `filled` on, until there are no more, or no more bytes have come.
 fn fill<S: Read>(stream: &mut S, room: &mut [u8], filled: &mut usize) -> Filled {
     for _ in 0..u64::MAX {
         let at = *filled;

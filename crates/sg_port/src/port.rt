@@ -22,13 +22,13 @@ const SEND_SECONDS: u64 = 1;
 
 /// A link over TCP. It waits at no address, and sends nothing, until it is opened.
 ///
-/// It reads up to 256 accepted connections side by side, one message after the other in turn. Where more are offered than these, or than the
-/// system has room for, the one that was silent longest gives way; where none is open and there is no room, what is offered waits. One that
+/// It reads up to 256 accepted connections side by side, one message after the other in turn. If more are offered than these, or than the
+/// system has room for, the one that was silent longest gives way; if none is open and there is no room, what is offered waits. One that
 /// brings a length of 0 or above 60,000 is closed.
 ///
-/// A send goes over the connection that is kept to its address, or a new one where there is none, or that one broke; a close by the peer before
-/// the send is seen too. It fails where the peer doesn't listen, or doesn't take it within a second. A connection that it kept is closed
-/// after 64 messages, and at the next call, or while that waits, where a second went by without one. While a send waits, what is offered is
+/// A send goes over the connection that is kept to its address, or a new one if there is none, or that one broke; a close by the peer before
+/// the send is seen too. It fails if the peer doesn't listen, or doesn't take it within a second. A connection that it kept is closed
+/// after 64 messages, and at the next call, or while that waits, if a second went by without one. While a send waits, what is offered is
 /// taken in, up to 4,194,304 bytes and 65,536 frames, and is handed out first. That a peer has a message that was sent is not known.
 #[derive(Drop)]
 pub struct TcpPort<R> {
@@ -57,7 +57,7 @@ impl<R: Net + Clock + Alloc<A = Global> + Drop> TcpPort<R> {
         }
     }
 
-    // The next frame, or `None` where none came within the time, if there is a limit.
+    // The next frame, or `None` if none came within the time, if there is a limit.
     fn next(
         &mut self,
         alloc: Global,
@@ -77,7 +77,7 @@ impl<R: Net + Clock + Alloc<A = Global> + Drop> TcpPort<R> {
         came
     }
 
-    // Sends a frame, and tells whether it was taken.
+    // Sends a frame, and returns whether it was taken.
     fn give(&mut self, to: Addr, frame: &[u8]) -> bool
         requires { length frame.now ≤ most_frame_bytes }
         ensures never_falls { self.old.faults ≤ self.new.faults }
@@ -110,7 +110,7 @@ fn count_fault(faults: &mut u64)
     *faults = faults.saturating_add(1);
 }
 
-// Listens at an address from now on, and tells whether the system could, and there was memory for what comes in.
+// Listens at an address from now on, and returns whether the system could, and there was memory for what comes in.
 fn listen<R: Net + Alloc<A = Global>>(rt: &R, intake: &mut Option<Intake>, at: Addr) -> bool {
     let Ok(listener) = TcpListener::bind(rt, socket_addr(at)) else {
         return false;
@@ -122,7 +122,7 @@ fn listen<R: Net + Alloc<A = Global>>(rt: &R, intake: &mut Option<Intake>, at: A
     intake.is_some()
 }
 
-// Sends the message of a frame over the connection that is kept to an address, or over a new one, and tells whether it was taken.
+// Sends the message of a frame over the connection that is kept to an address, or over a new one, and returns whether it was taken.
 fn send_frame<R: Net + Clock>(
     rt: &R,
     intake: &mut Intake,
@@ -162,7 +162,7 @@ fn send_frame<R: Net + Clock>(
     }
 }
 
-// Gives a message to a connection, and keeps that where all was taken.
+// Gives a message to a connection, and keeps that if all was taken.
 fn give_over<C: Clock>(
     clock: &C,
     intake: &mut Intake,
@@ -190,7 +190,7 @@ impl<R: Net + Clock + Alloc<A = Global> + Drop> Link for TcpPort<R> {
 
     ghost sent = { λ _. None };
 
-    /// It fails too where there is no memory for what comes in.
+    /// It fails too if there is no memory for what comes in.
     fn open(&mut self, at: Addr) -> Result<(), Failed> {
         if self.kept.make_room().is_ok()
             && self.message.reserve(MESSAGE).is_ok()

@@ -6,7 +6,7 @@ use std::alloc::Global;
 use std::net::Net;
 use std::time::{Clock, Duration, Instant};
 
-/// The most changes that one wait tells of.
+/// The most changes that one wait reports.
 const MOST_CHANGES: usize = 1_024;
 
 /// Waits until one of the sockets that it watches changes. A socket that is closed is watched no more.
@@ -17,7 +17,7 @@ pub(crate) struct Watch {
 }
 
 impl Watch {
-    /// It watches nothing yet. `None` where the system has no place for it, or memory is wanting.
+    /// It watches nothing yet. `None` if the system has no room for it, or memory is wanting.
     pub(crate) fn new<R: Net>(rt: &R, alloc: Global) -> Option<Watch> {
         let Ok(poll) = Poll::new(rt) else {
             return None;
@@ -28,7 +28,7 @@ impl Watch {
         }
     }
 
-    /// Watches a socket from now on under a number, and tells whether the system took it.
+    /// Watches a socket from now on under a number, and returns whether the system took it.
     pub(crate) fn add<S: Source>(&self, source: &mut S, at: usize, interest: Interest) -> bool {
         self.poll
             .registry()
@@ -36,7 +36,7 @@ impl Watch {
             .is_ok()
     }
 
-    /// Waits for a change, for so long at most, or as long as it takes. It tells whether the system could.
+    /// Waits for a change, for so long at most, or as long as it takes. It returns whether the system could.
     pub(crate) fn wait(&mut self, most: Option<Duration>) -> bool {
         self.poll.poll(&mut self.events, most).is_ok()
     }
@@ -47,7 +47,7 @@ impl Watch {
     }
 }
 
-/// What is left of a time that began then. It is none where the clock can't be read.
+/// What is left of a time that began then. It is none if the clock can't be read.
 pub(crate) fn left<C: Clock>(clock: &C, begun: Instant, most: Duration) -> Duration {
     match begun.elapsed(clock) {
         Ok(gone) => most.saturating_sub(gone),
@@ -55,7 +55,7 @@ pub(crate) fn left<C: Clock>(clock: &C, begun: Instant, most: Duration) -> Durat
     }
 }
 
-/// The shorter of two times, where `None` is as long as it takes.
+/// The shorter of two times, if `None` is as long as it takes.
 pub(crate) fn shorter(a: Option<Duration>, b: Option<Duration>) -> Option<Duration> {
     match (a, b) {
         (Some(a), Some(b)) => Some(a.min(b)),

@@ -56,7 +56,7 @@ met_kept texts table k t = met t texts ((collision_is_first real texts).0.0 k.fr
 pub keeps_none : Keeps [] []
 keeps_none = record { told = λ h. refl; free = refl }
 
--- a text more, of which nothing else is told
+-- a text more, of which nothing else is known
 pub keeps_more : (texts : List (List ℕ)) (old new : List (List ℕ × List ℕ)) (t : List ℕ) → Keeps texts old → other_text (text_under (real t) old) t ≡ None → ((h : List ℕ) → text_under h new ≡ option_or (text_under h old) (text_if h t)) → Keeps (texts ++ t ∷ []) new
 keeps_more texts old new t k none more = record {
   told = λ h. more h ∙ ap (λ o. option_or o (text_if h t)) (k.told h) ∙ sym (find-append (λ a. bytes_eq (real a) h) texts (t ∷ []));

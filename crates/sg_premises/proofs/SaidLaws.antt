@@ -1,4 +1,4 @@
--- The set of notes that are kept, in the words of the notes.
+-- The set of notes that are kept, in terms of the notes.
 use Rattle.std.proofs.Common.{◌≡◌, Bool, true, false, List, [], ◌∷◌, ◌++◌, map, ◌&&◌, ◌||◌, if◌then◌else◌, bytes_eq, refl, sym, ap, ◌∙◌, inl, inr}
 use Rattle.std.specs.List.{list_any}
 use Rattle.std.proofs.lemmas.Bool.{cases_Bool}
@@ -26,7 +26,7 @@ same_said a b = (λ i. same-bytes_eq a.one.now b.one.now i && (same-bytes_eq a.t
     and_assoc true y z = refl
     and_assoc false y z = refl
 
--- a note is in the set where it is among the notes
+-- a note is in the set if it is among the notes
 pub any_kept : (s : TaggedText) (keys : List TaggedText) → list_any (same_kept s) keys ≡ list_any (same_note (note_kept s)) (map note_kept keys)
 any_kept s [] = refl
 any_kept s (k ∷ ks) = λ i. same_said s k i || any_kept s ks i
@@ -36,7 +36,7 @@ or_there true y h = refl
 or_there false false h = refl
 or_there false true h = h refl
 
--- a note is among those after an insert where it was there or is the one inserted
+-- a note is among those after an insert if it was there or is the one inserted
 pub any_added : (n : Note) (keys : List TaggedText) (k : TaggedText) → list_any (same_note n) (map note_kept (insert_key same_kept keys k)) ≡ (list_any (same_note n) (map note_kept keys) || same_note n (note_kept k))
 any_added n keys k = elim (cases_Bool (list_any (same_kept k) keys)) [
   | inl e ↦ ap (λ b. list_any (same_note n) (map note_kept (if b then keys else keys ++ k ∷ []))) e ∙ or_there _ _ (λ h. ap (λ m. list_any (same_note m) (map note_kept keys)) (same_note_is n (note_kept k) h) ∙ sym (any_kept k keys) ∙ e)

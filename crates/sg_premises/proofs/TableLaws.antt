@@ -1,4 +1,4 @@
--- The table of first texts, in the words of its list.
+-- The table of first texts, in terms of its list.
 use Rattle.std.proofs.Common.{◌≡◌, ℕ, Bool, true, false, cond, List, [], ◌∷◌, ◌++◌, map, if◌then◌else◌, bytes_eq, option_map, Option, Some, None, refl, sym, ap, ◌∙◌, Bor}
 use Rattle.std.specs.Map.{lookup}
 use Rattle.std.specs.Option.{option_or}

@@ -60,7 +60,7 @@ impl<'t> Firsts<'t> {
         }
     }
 
-    /// Adds a text where it is the first of its digest, which is this. If another one is there, this is told.
+    /// Adds a text if it is the first of its digest, which is this. If another one is there, this is returned.
     pub fn add(
         &mut self,
         text: &'t [u8],

@@ -26,7 +26,7 @@ none_named p (x ∷ xs) h =
     some_not_none : {q : Program} → Some q ≡ None → ⊥
     some_not_none e = cc
 
--- the first of the name clashes where its digest is another
+-- the first of the name clashes if its digest is another
 pub other_digest : (p f : Program) (xs : List Program) → find (is_named p.graph.name) xs ≡ Some f → bytes_eq p.digest f.digest ≡ false → list_any (clashes p) xs ≡ true
 other_digest p f [] h other = absurd (cc)
 other_digest p f (x ∷ xs) h other =
@@ -45,7 +45,7 @@ other_digest p f (x ∷ xs) h other =
     or_true true c = refl
     or_true false c = refl
 
--- where all of the name have the digest, those clash that have the role too
+-- if all of the name have the digest, those clash that have the role too
 pub same_digest : (p : Program) (d : List ℕ) (xs : List Program) → d ≡ p.digest → AllByRecursion (λ q. IsTrue (is_named p.graph.name q) → d ≡ q.digest) xs
     → list_any (clashes p) xs ≡ list_any (is_part p.graph.name p.role) xs
 same_digest p d [] e all = refl
@@ -88,7 +88,7 @@ digests_of n f whole (x ∷ xs) first all =
     digest_same : {a b : List ℕ} → Some a ≡ Some b → a ≡ b
     digest_same e = cc
 
--- the name and the role stand among the parts where a program has both
+-- the name and the role stand among the parts if a program has both
 pub any_part : (n : Name) (r : ℕ) (xs : List Program) → list_any (is_pair n r) (map part_of xs) ≡ list_any (is_part n r) xs
 any_part n r [] = refl
 any_part n r (x ∷ xs) = ap (λ b. is_part n r x || b) (any_part n r xs)

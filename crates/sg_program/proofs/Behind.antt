@@ -22,7 +22,7 @@ some_same e = cc
 some_not_none : {a : List ℕ × List ℕ} → None ≡ Some a → ⊥
 some_not_none e = cc
 
--- where no line `table` is found no graph is followed by one
+-- if no line `table` is found no graph is followed by one
 pub none_split : (text : List ℕ) (n : Name) → None ≡ at_table true text → (g : Graph) (r : ℕ) (rest : List ℕ) → HasGraph text n g r rest → ⊥
 none_split text n e g r rest h = some_not_none (e ∙ ap (at_table true) h.spelled ∙ table_behind g h.is_graph rest)
 
@@ -32,7 +32,7 @@ pub split_same : (text : List ℕ) (index : ℕ) (n : Name) → Some (take index
 split_same text index n e g r rest h =
     sym (ap (λ (s : List ℕ × List ℕ). s.0) (some_same (e ∙ ap (at_table true) h.spelled ∙ table_behind g h.is_graph rest)))
 
--- where that is no canonical text there is no such graph
+-- if that is no canonical text there is no such graph
 pub none_canonical : (text : List ℕ) (index : ℕ) (n : Name) → Some (take index text, drop (index + 6) text) ≡ at_table true text → IsNoCanonical (take index text)
     → (g : Graph) (r : ℕ) (rest : List ℕ) → HasGraph text n g r rest → ⊥
 none_canonical text index n e none g r rest h =
@@ -42,7 +42,7 @@ none_canonical text index n e none g r rest h =
 pub role_there : (n : Name) (names : List Name) (r : ℕ) → r < length names → get_or names r [] ≡ n → has_text n names ≡ true
 role_there n names r l e = list_any_at (bytes_eq n) names r [] l ((bytes_eq-Decides n (get_or names r [])).1 (sym e))
 
--- where the graph doesn't have the role there is no such graph
+-- if the graph doesn't have the role there is no such graph
 pub none_role : (text : List ℕ) (index : ℕ) (n : Name) (h : Graph) → Some (take index text, drop (index + 6) text) ≡ at_table true text → IsCanonical (take index text) h
     → (IsTrue (has_text n h.roles) → ⊥) → (g : Graph) (r : ℕ) (rest : List ℕ) → HasGraph text n g r rest → ⊥
 none_role text index n h e is none g r rest has =

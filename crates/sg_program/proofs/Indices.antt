@@ -24,7 +24,7 @@ first_there p xs i h =
     let less : position_or_len p xs < length xs = grind (arith, nat_tests, within) in
     (omega arith, find_at p xs ∙ ap (slice_get xs) at)
 
--- where there is no index there is none
+-- if there is no index there is none
 pub none_there : {A : Type 0} (p : A → Bool) (xs : List A) → position p xs ≡ None → find p xs ≡ None
 none_there p xs h =
     let past = missed (nat_lt (position_or_len p xs) (length xs)) (position_or_len p xs) h in
@@ -74,7 +74,7 @@ first_kept true None index there = absurd (there refl refl)
 first_kept false None index there = refl
 first_kept c (Some n) index there = refl
 
--- the index of the first, where the table got one for a new last element
+-- the index of the first, if the table got one for a new last element
 pub index_put : {A : Type 0} (test : A → Bool) (xs ys : List A) (x : A) (b : Bool) (index : ℕ) (old new : Option ℕ)
     → new ≡ option_or old (if b then Some index else None) → old ≡ position test xs → b ≡ test x → index ≡ length xs → ys ≡ xs ++ x ∷ []
     → new ≡ position test ys

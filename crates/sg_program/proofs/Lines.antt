@@ -8,7 +8,7 @@ use Rattle.std.proofs.lemmas.Grind.{flat_map-append}
 use Rattle.sg_model.specs.Lists.{below}
 use Rattle.sg_model.proofs.Numbers.{below-suc}
 
--- a number, where it passes
+-- a number, if it passes
 abbrev pub one_if : Bool → ℕ → List ℕ
 one_if true i = i ∷ []
 one_if false i = []
@@ -25,7 +25,7 @@ filter_more p [] i = by (p i)
     by false = refl
 filter_more p (x ∷ xs) i = with_first (p x) x (filter p xs) (filter p (xs ++ i ∷ [])) (one_if (p i) i) (filter_more p xs i)
 
--- of one number more, that number comes in where it passes
+-- of one number more, that number comes in if it passes
 pub passing_more : (p : ℕ → Bool) (i : ℕ) → filter p (below (i + 1)) ≡ filter p (below i) ++ one_if (p i) i
 passing_more p i = ap (filter p) (below-suc i) ∙ filter_more p (below i) i
 

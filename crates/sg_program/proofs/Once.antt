@@ -21,7 +21,7 @@ use Rattle.sg_program.proofs.Reading.{prefix_goes, is_free, line_unique, name_fr
 
 -- ---- names
 
--- of names that differ one stands at one place
+-- of names that differ one stands at one index
 index_once : (names : List Name) (r s : ℕ) → all_differ names ≡ true → r < length names → s < length names → get_or names r [] ≡ get_or names s [] → r ≡ s
 index_once [] r s d l m e = absurd (omega (arith, l))
 index_once (n ∷ ns) zero zero d l m e = refl
@@ -107,7 +107,7 @@ prefix_of bs table g r h = record {
   graph = record { is_graph = h.is_graph; two_roles = h.two_roles; has_node = h.has_node; there = h.there; named = refl; spelled = refl };
 }
 
--- a program's text has its prefix
+-- a program's text begins so
 program_prefix : (bs : List ℕ) (p : Program) → IsWhole p → program_text p ≡ bs → HasPrefix bs p.graph p.role (table_text p)
 program_prefix bs p w e = record {
   is_graph = w.program.is_graph;
@@ -117,7 +117,7 @@ program_prefix bs p w e = record {
   spelled = sym e;
 }
 
--- two prefixes of one text are of one graph and one role, and the same follows
+-- two such prefixes of one text are of one graph and one role, and the same follows
 one_prefix : (bs xs ys : List ℕ) (g h : Graph) (r s : ℕ) → Prefix bs g r xs → Prefix bs h s ys → (g ≡ h) × (r ≡ s) × (xs ≡ ys)
 one_prefix bs xs ys g h r s a b =
     let starts = one_start bs a.rest b.rest (version g) (version h) a.start b.start in
@@ -127,7 +127,7 @@ one_prefix bs xs ys g h r s a b =
     let name : role_name g r ≡ role_name g s = roles.0 ∙ ap (λ (k : Graph). role_name k s) (sym graphs.0) in
     (graphs.0, role_once g r s a.graph.is_graph a.graph.there there name, graphs.1)
 
--- a text that has a prefix is malformed nowhere
+-- a text that begins so is malformed nowhere
 well_formed : (bs table : List ℕ) (h : Graph) (s : ℕ) → Prefix bs h s table → (at : ℕ) → IsMalformed bs at → ⊥
 well_formed bs table h s f _ (NoStart none) = none (version h) f.rest f.start
 well_formed bs table h s f _ (NoRole {v} {rest} start none) =

@@ -1,4 +1,4 @@
--- A graph's program for a role is the only one, and where there is one nothing is refused.
+-- A graph's program for a role is the only one, and if there is one nothing is refused.
 use Rattle.std.proofs.Common.{◌≡◌, ◌≢◌, ℕ, ◌<◌, ◌≤◌, List, [], ◌∷◌, length, get_or, refl, sym, ap, ◌∙◌, subst, inl, inr, arith, All, AllPairs, Contains, true≢false}
 use Rattle.std.specs.Prelude.{Result, Ok, Err, IfOk, IfErr}
 use Rattle.std.proofs.lemmas.Bool.{cases_order, cases_lt}
@@ -87,7 +87,7 @@ no_longer {X} (x ∷ xs) ys differ each = pigeonhole (length (x ∷ xs)) (length
 of_each : {X : Type 0} (P : X → Type 0) (xs : List X) (v : X) → All P xs → Contains xs v → P v
 of_each P xs v all (k, l, e) = subst P e (all k v l)
 
--- where a program is compiled, the views fail only where memory runs out
+-- if a program is compiled, the views fail only if memory runs out
 pub few_views : (g : Graph) (r : ℕ) (p : Program) → IsCompiled g r p → (f : ViewFault) → Explains g r f → f ≡ ViewMemory
 few_views g r p c ViewMemory e = refl
 few_views g r p c (TooManyOpen list) e =
@@ -138,7 +138,7 @@ accepted_not_refused g a (Reads f) (s, h, other) = absurd (other (accepted_reads
 accepted_not_refused g a (Blinded f) (s, k, h, other) = absurd (accepted_blinding g a f h)
 accepted_not_refused g a (Views q f) h = absurd h
 
--- where a program is compiled, nothing fails unless memory runs out
+-- if a program is compiled, nothing fails unless memory runs out
 pub not_refused : (g : Graph) (r : ℕ) (p : Program) → IsCompiled g r p → (f : CompileFault) → IsRefused g r f → f ≡ OutOfMemory
 not_refused g r p c f h = by f h
   where

@@ -114,7 +114,7 @@ no_end xs a rest f e = ended a (subst (λ ys. is_free ys ≡ true) e f)
     ended [] h = true≢false (sym h)
     ended (y ∷ ys) h = ended ys (and_parts (is_inner y) (is_free (ys ++ 10 ∷ rest)) h).1
 
--- where no line end is found there is none
+-- if no line end is found there is none
 pub none_free : (xs : List ℕ) → find (λ c. c == 10) xs ≡ None → is_free xs ≡ true
 none_free [] h = refl
 none_free (x ∷ xs) h = by (x == 10) refl (none_free xs)

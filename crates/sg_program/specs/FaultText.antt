@@ -1,4 +1,4 @@
--- What is said of a graph that isn't compiled, by its names.
+-- The text for a graph that isn't compiled, by its names.
 use Rattle.std.specs.Prelude.{ℕ, List, codes}
 use Rattle.sg_protocol.specs.Graph.{Graph}
 use Rattle.sg_check.specs.FaultText.{shape_text, blinding_text}

@@ -15,7 +15,7 @@ use Rattle.sg_graph.specs.Parts.{edge_name}
 abbrev pub line : List ℕ → List ℕ
 line text = text ++ 10 ∷ []
 
--- version 1 where each variable has one writing role, else version 2
+-- version 1 if each variable has one writing role, else version 2
 abbrev pub version : Graph → ℕ
 version g = if list_all (λ v. length v.writers == 1) g.variables then 1 else 2
 

@@ -45,7 +45,7 @@ pub fn compile_all(alloc: Global, graphs: &[Graph]) -> Result<Programs, AllFault
     Ok(programs)
 }
 
-// Adds the programs of all roles of a graph, whose index is told where it isn't compiled.
+// Adds the programs of all roles of a graph, whose index is reported if it isn't compiled.
 fn add_roles(
     alloc: Global,
     programs: &mut Programs,

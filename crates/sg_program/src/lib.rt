@@ -1,7 +1,7 @@
 //! Programs: a graph compiled for a role.
 //!
-//! A graph is accepted where its shape is right, only writers write and what is read is known, and no node blinds two roles; `check_graph`
-//! tells the first of these that does not hold. `compile` gives the program of an accepted graph for one of its roles: the graph with its
+//! A graph is accepted if its shape is right, only writers write and what is read is known, and no node blinds two roles; `check_graph`
+//! reports the first of these that does not hold. `compile` gives the program of an accepted graph for one of its roles: the graph with its
 //! digest, the table of all views that can reach the role, and for each edge the roles that must be able to check it later.
 //!
 //! A program has one text, which names its version, its role, its graph and the lines of its table. `Program::load` trusts none of it: it

@@ -84,8 +84,8 @@ impl Programs {
         }
     }
 
-    /// Adds a program as the last one. Refused where a program of its graph name is there with the same role or with another
-    /// digest, or where memory runs out. After a refusal the programs are as before, and the program comes back.
+    /// Adds a program as the last one. Refused if a program of its graph name is there with the same role or with another
+    /// digest, or if memory runs out. After a refusal the programs are as before, and the program comes back.
     pub fn add(&mut self, program: Program) -> Result<(), (Program, AddProgramFault)>
         ensures twice { (result ≡ Err (program, AddProgramFault.Twice)) ↔ IsTrue (list_any (clashes program) self.old) }
         ensures added { OnOk result (self.new ≡ self.old ++ program ∷ []) }
@@ -196,7 +196,7 @@ fn reserve_one(
     digests.reserve(1)
 }
 
-// Keeps the index of a name, where it has none.
+// Keeps the index of a name, if it has none.
 fn put_name(names: &mut IndexMap<Name, usize>, name: Name, index: usize)
     requires { 0 < spare names.old }
     ensures { (n : List ℕ) → lookup (bytes_eq n) names.new.entries ≡ option_or (lookup (bytes_eq n) names.old.entries) (if bytes_eq n name then Some index else None) }
@@ -206,7 +206,7 @@ fn put_name(names: &mut IndexMap<Name, usize>, name: Name, index: usize)
     }
 }
 
-// Keeps the index of a key, where it has none.
+// Keeps the index of a key, if it has none.
 fn put_key(digests: &mut IndexMap<ProgramKey, usize>, key: ProgramKey, index: usize)
     requires { 0 < spare digests.old }
     ensures { (d : List ℕ) (r : ℕ) → let test = is_key d r in

@@ -71,7 +71,7 @@ fn count_roles(graph: &Graph, roles: RoleSet) -> u8
     count
 }
 
-/// The version of a graph's programs: 1 where each variable has one writing role, and otherwise 2.
+/// The version of a graph's programs: 1 if each variable has one writing role, and otherwise 2.
 pub(crate) fn version(graph: &Graph) -> u8
     ensures { result ≡ version graph.now }
 {

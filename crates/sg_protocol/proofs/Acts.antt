@@ -83,7 +83,7 @@ pub record ActRows (g : Graph) (x : Session) (label : ℕ) (values : Map Value) 
   pub good : find (is_bad g label values) (below 256) ≡ None
   pub time : nat_le 1000000 (time x) ≡ false
 
--- where no fault of a step stands behind a constructor, none stands by itself
+-- if no fault of a step stands behind a constructor, none stands by itself
 none_under : {A B : Type 0} (f : A → B) (os : List (Option A)) → first_some (map (option_map f) os) ≡ None → first_some os ≡ None
 none_under f [] h = refl
 none_under f (None ∷ os) h = none_under f os h

@@ -134,7 +134,7 @@ module _ {sha : Hash} {programs : List Program} {sid : List ℕ} {cast : Cast} {
   roles_right [] ys h = h
   roles_right (x ∷ xs) ys h = roles_right xs ys h.1
 
-  -- what an exchange adds to what was told
+  -- what an exchange adds to the transcript
   pub transcript_step : (st st' : State) (who : Name) (x : Session) (e : Exchange) → Matches g sid cast st who x → Matches g sid cast st' who (extended x e) → (st'.transcript x.role ≡ st.transcript x.role ++ entries (items_of e)) × Roles (shape g) (items_of e)
   transcript_step st st' who x e m m' =
       let more : transcript (extended x e) ≡ transcript x ++ items_of e = flat_map-append items_of x.exchanges (e ∷ []) ∙ ap (λ l. transcript x ++ l) (append-nil (items_of e)) in
@@ -149,7 +149,7 @@ module _ {sha : Hash} {programs : List Program} {sid : List ℕ} {cast : Cast} {
   pub goes_now : (n : Node) (x : Session) (which : Session → Bool) (now : Session → List Session) (x' : Session) → filter (of_sid sid) n.live ≡ x ∷ [] → n.programs ≡ programs → ((z : Session) → which z ≡ true → of_sid sid z ≡ true) → ((z : Session) → which z ≡ true → filter (of_sid sid) (now z) ≡ now z) → which x ≡ true → now x ≡ still n.programs x' → filter (of_sid sid) (goes_on n which now).live ≡ still programs x'
   goes_now n x which now x' a ps own own' w e = sym (replace-own which now own own' n.live) ∙ ap (replace which now) a ∙ rw w (append-nil (now x) ∙ e ∙ ap (λ ps. still ps x') ps)
 
-  -- joining, where nothing was there
+  -- joining, if nothing was there
   pub join_status : (st : State) (who : Name) (n : Node) (x : Session) → n.programs ≡ programs → filter (of_sid sid) n.live ≡ [] → Matches g sid cast st who x → Status known s LeftBy st who (joined n x)
   join_status st who n x ps f m =
       settle st who (joined n x) x m

@@ -1,4 +1,4 @@
--- What is seen on a walk and in a frame, in the words of the law of a session.
+-- What is seen on a walk and in a frame, in terms of the law of a session.
 use Rattle.std.specs.Prelude.{◌≡◌, ℕ, suc, ◌==◌, ◌||◌, true, List, [], ◌∷◌, ◌++◌, map, refl, Option, Some, None, Contains}
 use Rattle.std.proofs.Common.{sym, ◌∙◌, ap, subst, inl, inr, arith}
 use Rattle.std.proofs.lemmas.Slice.Eq.{bytes_eq-Decides}

@@ -502,7 +502,7 @@ module _ (g : Graph) (h : ℕ → Bool) where
 pub path_keeps : (g : Graph) (h : ℕ → Bool) (events : List Event) (steps : List StoredStep) (c : Claim) → OnePath g h events steps → HoldsOnWalks (shape g) c → IsClaimKept g h events steps c
 path_keeps g h events steps c path holds = kept g h path.taken steps events path.explained c (holds (labels steps) path.walk.walk)
 
--- where the premises hold, claims of a session's graph are kept
+-- if the assumptions hold, claims of a session's graph are kept
 pub claims_are_kept : (sha : Hash) → IsHash sha → ClaimsAreKept sha
 claims_are_kept sha hash programs s compiled sched premises sid some =
     (sessions_follow_walks sha hash programs s compiled sched premises sid some, λ x c holds. path_keeps x.graph (honest_role s x.cast) (events_of sid (run sha programs s).log) x.steps c x.path holds)

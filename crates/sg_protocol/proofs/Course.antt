@@ -201,7 +201,7 @@ module _ {sha : Hash} {s : Schedule} {programs : List Program} {sid : List ℕ} 
   abbrev pub transcript_by : ℕ → List AnsweredCall → List Item
   transcript_by r calls = flat_map items_of (exchanges_of sid r calls)
 
-  -- the law has been told what the role took and gave
+  -- the law has what the role took and gave
   abbrev pub IsTranscript : State → ℕ → List AnsweredCall → Type 0
   IsTranscript st r calls = (st.transcript r ≡ entries (transcript_by r calls)) × Roles (shape g) (transcript_by r calls)
 

@@ -263,7 +263,7 @@ module _ {sha : Hash} {programs : List Program} {sid : List ℕ} {cast : Cast} {
       other_done : bytes_eq f.sid sid ≡ false → Out known s LeftBy st who n (Deliver bs) (Happened (receipt f)) (notes_of_read sha n (Ok f))
       other_done h = nothing known s LeftBy st who n (Deliver bs) (Happened (receipt f)) (notes_of_read sha n (Ok f)) (subst (NodeOk known s LeftBy st who) (sym (ap (takes_read n) is_read)) (other_node h f.join)) (event_other sid (receipt f) h) (quiet_event sid (receipt f) h) (λ nt i. absurd (no_made (row_number (first_some (rows sha n f))) (session_of_frame n f) nt i)) (inl (ap (λ (m : Node). filter (of_sid sid) m.live) (ap (takes_read n) is_read) ∙ other_live h f.join)) (λ r j. subst (λ (m : Node). has_joined m.joins sid r ≡ true) (sym (ap (takes_read n) is_read)) (other_joins r j f.join)) (λ r j. other_fewer h r f.join (subst (λ (m : Node). has_joined m.joins sid r ≡ true) (ap (takes_read n) is_read) j))
 
-      -- where no row holds, the notes are those of the session
+      -- if no row holds, the notes are those of the session
       notes_are : first_some (rows sha n f) ≡ None → (y : Program × Session) → session_of_frame n f ≡ Some y → notes_of_read sha n (Ok f) ≡ nts_of 16 (Some y)
       notes_are e y e2 = ap (λ r. nts_of (row_number r) (session_of_frame n f)) e ∙ ap (nts_of 16) e2
 

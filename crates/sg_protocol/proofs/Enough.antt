@@ -236,7 +236,7 @@ keeps_refusing p s t label values k =
 
 -- ---- what is judged
 
--- of five rows the last is alike where the second does not hold
+-- of five rows the last is alike if the second does not hold
 five : {A : Type 0} (a b c d e e' : Option A) → (b ≡ None → e ≡ e') → first_some (a ∷ b ∷ c ∷ d ∷ e ∷ []) ≡ first_some (a ∷ b ∷ c ∷ d ∷ e' ∷ [])
 five (Some x) b c d e e' h = refl
 five None (Some x) c d e e' h = refl
@@ -264,7 +264,7 @@ same_not false false e = refl
 same_not true false e = absurd (let c : false ≡ true = e in cc)
 same_not false true e = absurd (let c : true ≡ false = e in cc)
 
--- where a verdict comes to the openings, or to none, the frame had the form of a view
+-- if a verdict comes to the openings, or to none, the frame had the form of a view
 late_view : (x y : Bool) (c d e : Option Refusal) → nat_lt 14 (row_number (first_some (row x BadFrameTag ∷ row y NoSuchView ∷ c ∷ d ∷ e ∷ []))) ≡ true → row y NoSuchView ≡ None
 late_view true y c d e h = absurd (let n : false ≡ true = h in cc)
 late_view false true c d e h = absurd (let n : false ≡ true = h in cc)

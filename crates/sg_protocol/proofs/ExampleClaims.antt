@@ -19,7 +19,7 @@ abbrev pub within : List ℕ → List ℕ → ℕ → Bool → Bool
 within set unset n true = is_in n set
 within set unset n false = is_in n unset
 
--- where the edge may be come to with the bit, it leads on within the set, and the bit is right
+-- if the edge may be come to with the bit, it leads on within the set, and the bit is right
 abbrev pub edge_fits : Shape → Claim → List ℕ → List ℕ → Bool → ℕ → Bool
 edge_fits g c set unset bit e = not (within set unset (source g e) bit) || (within set unset (target g e) (bit_after c bit e) && (not (is_in e c.later) || beq bit (right_bit c.kind)))
 

@@ -38,7 +38,7 @@ world = run_with_restarts toy its_programs setting played
 abbrev sid : List ℕ
 sid = sid_at toy setting 0
 
--- a word for what came of a step
+-- a word for the outcome of a step
 abbrev word : Outcome → List ℕ
 word (Answered (Happened e)) = codes "done"
 word (Answered (Sends e to f)) = codes "sent"
@@ -72,7 +72,7 @@ left = refl
 same_answers : map word (map (λ l. l.outcome) (filter (λ l. not (is_abandonment l.call)) plain_world.log)) ≡ map word (map (λ l. l.outcome) world.log)
 same_answers = refl
 
--- the premises hold, and the events follow one walk
+-- the assumptions hold, and the events follow one walk
 premises : (forged setting world ≡ []) × (colliding toy (hashed setting world) ≡ [])
 premises = (refl, refl)
 

@@ -13,7 +13,7 @@ use Rattle.sg_protocol.specs.Premises.{hashed}
 use Rattle.sg_protocol.specs.Explaining.{filled, walk_after_event, walk_after_steps}
 use Rattle.sg_protocol.proofs.Examples.{shop, pair, order, ask, offer, refuse, pass, deny, retry, programs, alice, bob, carl, shop_schedule, pair_schedule, outcomes, toy, forged, colliding}
 
--- a word for what came of a step
+-- a word for the outcome of a step
 abbrev word_of_answer : Answer → List ℕ
 word_of_answer (Happened e) = codes "done"
 word_of_answer (Sends e to f) = codes "sent"
@@ -149,7 +149,7 @@ old_offer : words (ordered (passes_on tea tea ∷ deliver carl 2 ∷ ActStep car
 unfolding is_utf8 chars encode_utf8
 old_offer = refl
 
--- a frame that a compromised principal could not have made breaks the premise at the step that accepts it
+-- a frame that a compromised principal could not have made breaks the assumption at the step that accepts it
 abbrev false_request : Schedule
 false_request = pair_schedule toy (codes "a" ∷ codes "b" ∷ []) (CraftStep (record {
   session = 0;

@@ -1,4 +1,4 @@
--- One schedule, with two graphs, a compromised role and a crafted frame, of which all that the laws ask is shown, and in whose run a claim is kept; and two that break a premise each.
+-- One schedule, with two graphs, a compromised role and a crafted frame, of which all that the laws ask is shown, and in whose run a claim is kept; and two that break an assumption each.
 use Rattle.std.specs.Prelude.{◌≡◌, ◌≢◌, ◌⊎◌, ℕ, zero, suc, ◌<◌, ◌≤◌, nat_lt, Bool, true, false, List, [], ◌∷◌, map, length, get_or, replicate, codes, refl, Option, Some, None, option_map, is_some, AllPairs, Contains, IsTrue, ◌↔◌}
 use Rattle.std.specs.List.{list_all}
 use Rattle.std.specs.Option.{option_map_or}
@@ -324,7 +324,7 @@ is_kept x =
     (claims_are_kept toy toy_hash programs played compiled is_schedule premises (session_id toy first_cast) (λ e. absurd (let n : length (events_of (session_id toy first_cast) (run toy programs played).log) ≡ 0 = ap length e in let m : 3 ≡ 0 = n in omega (arith, m)))).1 x said_once
     (subst (λ z. HoldsOnWalks (shape z) said_once) (some_same g) is_said_once)
 
--- ---- a broken premise
+-- ---- a broken assumption
 
 -- were carl honest, the crafted frame would be forged: the step that accepts it shows it
 abbrev forging : Schedule

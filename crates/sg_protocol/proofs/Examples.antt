@@ -171,7 +171,7 @@ relay = record {
       ∷ record { name = codes "Show"; source = 2; target = 3; writes = []; reads = 0 ∷ [] } ∷ [];
 }
 
--- what came of each step
+-- the outcome of each step
 abbrev pub outcomes : Hash → Schedule → List Program → List Outcome
 outcomes sha s ps = map (λ l. l.outcome) (run sha ps s).log
 

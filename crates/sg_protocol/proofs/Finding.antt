@@ -8,13 +8,13 @@ use Rattle.sg_model.specs.Lists.{all_differ, has_text}
 use Rattle.sg_model.proofs.Small.{clash}
 use Rattle.sg_protocol.specs.Node.{has_joined}
 
--- what stands at a place of a list of names is among them
+-- what stands at an index of a list of names is among them
 text_there : (t : List ℕ) (ts : List (List ℕ)) (k : ℕ) → k < length ts → t ≡ get_or ts k [] → has_text t ts ≡ true
 text_there t [] k l e = absurd (omega arith)
 text_there t (u ∷ us) zero l e = rw ((bytes_eq-Decides t u).1 e) refl
 text_there t (u ∷ us) (suc k) l e = elim (cases_Bool (bytes_eq t u)) [ inl f ↦ rw f refl | inr f ↦ rw f (text_there t us k (omega arith) e) ]
 
--- names that all differ stand at one place each
+-- names that all differ stand at one index each
 pub one_index : (ts : List (List ℕ)) (h k : ℕ) → all_differ ts ≡ true → h < length ts → k < length ts → get_or ts h [] ≡ get_or ts k [] → h ≡ k
 one_index [] h k d l m e = absurd (omega arith)
 one_index (t ∷ ts) zero zero d l m e = refl

@@ -365,7 +365,7 @@ module _ (sha : Hash) (hash : IsHash sha) (s : Schedule) (programs : List Progra
       | inr k ↦ elim i [ inl q ↦ absurd (let f : true ≡ false = sym h ∙ ap p q ∙ k in cc) | inr j ↦ none_there p ys x (rw k at e) j h ]
     ]
 
-    -- where a node has a live session, the session has had an event
+    -- if a node has a live session, the session has had an event
     begun_live : (w : World) (k : ℕ) → QuietIn w → (xs ys : List Step) → AllByRecursion (IsStep sha s) xs → Fit w → (who : Name) (p : Past) → past_of (world_after_all sha s w k xs) who ≡ Some p → (x : Session) → In (node_of p).live x → of_sid sid x ≡ true → BegunIn (world_after_all sha s w k (xs ++ ys))
     begun_live w k q [] ys good fit who p e x i h = absurd (none_there (of_sid sid) (node_of p).live x (q.nodes who p e).1 i h)
     begun_live w k q (y ∷ xs) ys good fit who p e x i h = elim (step_first w k q y good.0 fit) [

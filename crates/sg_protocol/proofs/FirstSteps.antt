@@ -98,7 +98,7 @@ module _ (sha : Hash) (s : Schedule) where
         | inr j ↦ elim j [ inl q ↦ (let h = ap (λ (z : Logged). z.number) q ∙ more.2 in omega (arith, h)) | inr q ↦ absurd q ]
       ]
 
-  -- an entry is the last one after the step that it tells
+  -- an entry is the last one after its step
   pub last_at : (xs : List Step) (w : World) (k : ℕ) (l : Logged) → In (world_after_all sha s w k xs).log l → In w.log l ⊎ ((i : ℕ) × (l.number ≡ k + i) × (last (world_after_all sha s w k (take (suc i) xs)).log ≡ Some l))
   last_at [] w k l i = inl i
   last_at (x ∷ xs) w k l i = elim (last_at xs (world_after sha s w k x) (k + 1) l i) [

@@ -61,7 +61,7 @@ use Rattle.sg_protocol.proofs.Course.{Progress, LeftBy, keep_all, Suffix, Outs, 
 use Rattle.sg_protocol.proofs.Showing.{shows_called}
 use Rattle.sg_protocol.proofs.Splits.{split_at_end, in_split, split_in, two_splits, rises_mid, role_small}
 
--- what is known of a session whose principals are all honest, in a run that ends in the world wf, where Fit holds of each world on the way
+-- what is known of a session whose principals are all honest, in a run that ends in the world wf, if Fit holds of each world on the way
 pub record HonestSession (sha : Hash) (s : Schedule) (programs : List Program) (sid : List ℕ) (cast : Cast) (g : Graph) (wf : World) (Fit : World → Type 0) (targets : ℕ → List ℕ) : Type 0 where
   pub of_run : SessionOfRun sha s programs sid cast g wf Fit
   pub everyone : (r : ℕ) → r < length g.roles → honest_role s cast r ≡ true
@@ -507,7 +507,7 @@ module _ {sha : Hash} {s : Schedule} {programs : List Program} {sid : List ℕ} 
                   subst (λ (z : Past). ((node_of z).keys ≡ keyring_of s.keys me) × Track log' me (node_of z)) r' (fl.keys_are me y q, others me y ne (fl.tracks me y q))
             ]
 
-    -- where nothing is sent in the session
+    -- if nothing is sent in the session
     assemble_silent : Silent l0 → Track log' who n' → Flight (called sha w k who c past)
     assemble_silent q mine = assemble (subst Steps_ (sym (same_items w.log l0 q)) fl.steps) mine (λ me y ne t. track_more w.log l0 me (node_of y) (node_of y) q refl (λ r j. j) (λ r j. j) t) (frames_silent w.log l0 q fl.frames)
 
@@ -529,7 +529,7 @@ module _ {sha : Hash} {s : Schedule} {programs : List Program} {sid : List ℕ} 
         let here : bytes_eq y.keys.me who ≡ true = (bytes_eq-Decides y.keys.me who).1 is_me in
         ap node_of (ap (λ b. if b then past_after sha y c else y) here) ∙ ap (λ z. node_of (past_after sha z c)) same ∙ node_more (new_node past.keys past.programs past.first) past.calls (record { call = c; answer = answer sha (node_of past) c })
 
-    -- who had the turn has it still, where the call changes nothing in the session
+    -- who had the turn has it still, if the call changes nothing in the session
     holder_more : filter (of_sid sid) n'.live ≡ filter (of_sid sid) n.live → Holder w → Holder (called sha w k who c past)
     holder_more e h = record {
       who = h.who;

@@ -1,4 +1,4 @@
--- What a role keeps follows a walk, by no premise of honesty.
+-- What a role keeps follows a walk, without an assumption of honesty.
 use Rattle.std.specs.Prelude.{◌≡◌, ◌≢◌, ℕ, zero, suc, ◌+◌, ◌<◌, ◌==◌, nat_lt, ◌||◌, ◌&&◌, ◌⊎◌, Bool, true, false, List, [], ◌∷◌, ◌++◌, map, length, get_or, refl, Option, Some, None, option_map, unwrap_or, IfSome}
 use Rattle.std.specs.List.{AllByRecursion, list_any}
 use Rattle.std.specs.Option.{option_or, option_map_or}
@@ -48,7 +48,7 @@ get_range f d k (suc j) (suc x) l = (get_range f d (suc k) j x (omega (arith, l)
 pub get_below : {A : Type 0} (f : ℕ → A) (d : A) (n x : ℕ) → x < n → get_or (map f (below n)) x d ≡ f x
 get_below f d n x l = get_range f d 0 n x l ∙ ap f (omega arith)
 
--- where some element from the last one that passes on is found, one passes
+-- if some element from the last one that passes on is found, one passes
 from_some : {A : Type 0} (f p : A → Bool) (xs : List A) → list_any f (from_last p xs) ≡ true → (y : A) × (p y ≡ true)
 from_some f p [] h = absurd (cc)
 from_some f p (x ∷ xs) h = elim (cases_Bool (list_any p xs)) [
@@ -246,7 +246,7 @@ none_seen n x l (i ∷ is) (w ∷ ws) e a =
 
 -- ---- an accepted frame
 
--- where no item is of a role, the last is not
+-- if no item is of a role, the last is not
 last_free : (k : ℕ) (xs : List Item) (i : Item) → has (λ (i : Item). i.role) k xs ≡ false → last xs ≡ Some i → i.role ≢ k
 last_free k [] i h e same = absurd (cc)
 last_free k (x ∷ []) i h e same = absurd (let q : x ≡ i = cc in let t : (x.role == k) ≡ true = eq-eqb x.role k (ap (λ (i : Item). i.role) q ∙ same) in let f = (or_parts (x.role == k) false h).0 in let c : true ≡ false = sym t ∙ f in cc)

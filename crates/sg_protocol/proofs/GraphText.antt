@@ -266,7 +266,7 @@ nodes n f p = record { same = node_same; begins = λ x s. refl; next = λ x s. t
         let g : made x.name x.role ≡ made y.name y.role = cc (a, b) in
         (g, append_cancel_left (59 ∷ 10 ∷ []) s t l.1)
 
--- ---- what an edge writes and reads: a word and names, where there are some, and then a second such word
+-- ---- what an edge writes and reads: a word and names, if there are some, and then a second such word
 
 abbrev led : List ℕ → List Name → List Name
 led word [] = []

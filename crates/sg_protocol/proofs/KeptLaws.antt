@@ -1,4 +1,4 @@
--- What a role keeps says as much as all that it was told.
+-- What a role keeps says as much as its transcript.
 use Rattle.std.specs.Prelude.{◌≡◌, ℕ, zero, suc, ◌+◌, ◌<◌, ◌≤◌, ◌==◌, ◌||◌, ◌⊎◌, true, false, List, [], ◌∷◌, ◌++◌, map, filter_map, length, refl, Option, Some, None, option_map}
 use Rattle.std.specs.List.{cons_option}
 use Rattle.std.specs.Option.{option_or}

@@ -36,14 +36,14 @@ pub record SessionOfCast (sha : Hash) (programs : List Program) (sid : List ℕ)
   pub programs_of : (r : ℕ) (p : Program) → program_for programs cast.graph r ≡ Some p → (p.graph ≡ g) × IsViewTable p.graph r p.views
   pub one_cast : (c : Cast) → CastFits c → Hashed (session_text_of c) → session_id sha c ≡ sid → c ≡ cast
 
--- each step of the schedule keeps Fit, and where Fit holds bytes are bytes and what is sent has a spelling
+-- each step of the schedule keeps Fit, and if Fit holds bytes are bytes and what is sent has a spelling
 pub record FitSteps (sha : Hash) (s : Schedule) (Fit : World → Type 0) : Type 0 where
   pub next : (w : World) (k : ℕ) (x : Step) → Fit w → IsStep sha s x → Fit (world_after sha s w k x)
   pub bytes : (w : World) → Fit w → (who : Name) (what : What) (bs : List ℕ) → IsStep sha s (DeliverStep who what) → bytes_of w what ≡ Some bs → IsBytes bs
   pub sends : (w : World) → Fit w → (k : ℕ) (x : Step) (who : Name) (past : Past) (c : Call) (e : Event) (to : Name) (f : Frame) → IsStep sha s x → past_of w who ≡ Some past → call_of sha s w k x ≡ Some c → answer sha (node_of past) c ≡ Sends e to f → HasSpelling f
   pub casts : (n : ℕ) (c : Cast) → cast_of s n ≡ Some c → CastFits c
 
--- a session in a run that ends in the world wf, where Fit holds of each world on the way
+-- a session in a run that ends in the world wf, if Fit holds of each world on the way
 pub record SessionOfRun (sha : Hash) (s : Schedule) (programs : List Program) (sid : List ℕ) (cast : Cast) (g : Graph) (wf : World) (Fit : World → Type 0) : Type 0 where
   pub of_cast : SessionOfCast sha programs sid cast g (λ t. In (hashed s wf) t)
   pub unforged : Unforged s wf

@@ -184,7 +184,7 @@ module _ (sha : Hash) (s : Schedule) where
   over_below (Stepped x ∷ xs) w k a = over_below xs (world_after sha s w k x) (k + 1) (step_below w k x a)
   over_below (Restarted who ∷ xs) w k a = over_below xs (world_restarted w who) (k + length (live_of w who)) (λ l i. let h = a l i in omega (arith, h))
 
--- where the premises hold of a world they hold of one before
+-- if the assumptions hold of a world they hold of one before
 premises_earlier : (sha : Hash) (s : Schedule) (n : ℕ) (wb wf : World) → Suffix n wb.log wf.log → ((l : Logged) → In wb.log l → l.number < n) → Premises sha s wf → Premises sha s wb
 premises_earlier sha s n wb wf t below p = record {
   unforged = λ l nt i j a b.

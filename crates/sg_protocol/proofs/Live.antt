@@ -137,7 +137,7 @@ sessions_are_sound sha hash = record {
 
 -- ---- nodes
 
--- where one is found that passes another test too, that test finds one
+-- if one is found that passes another test too, that test finds one
 found_too : (A : Type 0) (p q : A → Bool) (xs : List A) (x : A) → find p xs ≡ Some x → q x ≡ true → (y : A) × (find q xs ≡ Some y)
 found_too A p q [] x e h = absurd (cc)
 found_too A p q (z ∷ zs) x e h = elim (cases_Bool (q z)) [

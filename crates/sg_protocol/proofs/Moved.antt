@@ -1,4 +1,4 @@
--- A step whose session has another place, in a schedule that declares more sessions, is the same step.
+-- A step whose session has another index, in a schedule that declares more sessions, is the same step.
 use Rattle.std.specs.Prelude.{◌≡◌, ℕ, zero, suc, ◌+◌, ◌-◌, ◌==◌, if◌then◌else◌, List, [], ◌∷◌, ◌++◌, map, length, refl, Option, Some, None, option_map, option_and_then, slice_get, take, unwrap_or, IsSomeAnd}
 use Rattle.std.specs.Option.{option_map_or}
 use Rattle.std.specs.Result.{result_ok}
@@ -20,7 +20,7 @@ use Rattle.sg_protocol.specs.Texts.{Hash, cut, session_id}
 use Rattle.sg_protocol.specs.Restarts.{moved_to, moved_step}
 use Rattle.sg_protocol.specs.World.{World, frames, frame_at, flipped, bytes_of, new_world, call_of}
 
--- ---- places
+-- ---- indices
 
 none_behind : (ds : List NamedSession) (n : ℕ) → slice_get ds (n + length ds) ≡ None
 none_behind [] n = refl

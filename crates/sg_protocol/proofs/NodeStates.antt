@@ -40,7 +40,7 @@ module _ (ps : List Program) where
   HoldEach (h ∷ hs) [] = ⊥
   HoldEach (h ∷ hs) (s ∷ ss) = HoldsLive h s × HoldEach hs ss
 
-  -- ---- from standing to holding, and back where the sessions are sound
+  -- ---- from standing to holding, and back if the sessions are sound
 
   if_some : {A : Type 0} (P Q : A → Type 0) (o : Option A) → ((x : A) → P x → Q x) → IsSomeAnd o P → IsSomeAnd o Q
   if_some P Q None f h = absurd h

@@ -97,7 +97,7 @@ module _ (sha : Hash) (keys : Keyring) (p : Program) (s : Session) (label : ℕ)
   abbrev since : List (Entry Item (List ℕ))
   since = after_last role (receiver (shape g) label) (map entry_of (transcript s))
 
-  -- what was told last is of another role, also since the receiver's last item
+  -- the transcript's last item is of another role, also since the receiver's last item
   before_since : IfSome (last since) (λ (x : Entry Item (List ℕ)). role x ≢ s.role)
   before_since = go since refl
     where

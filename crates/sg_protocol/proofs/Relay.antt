@@ -95,7 +95,7 @@ module _ (sha : Hash) (keys : List PairKey) (sid : List ℕ) (cast : Cast) (targ
       opens = k.opens;
     }
 
-    -- where the session is at its turn, it is at the end of the walk
+    -- if the session is at its turn, it is at the end of the walk
     pub at_end : (done : List Item) (x : Session) → RelayOk done x → at_turn g x ≡ true → place g x ≡ end_of (shape g) 0 (labels done)
     at_end done x k t = place_is g x k.past k.held ∙ ap (λ l. end_of (shape g) 0 (labels l)) (sym (k.parts ∙ ap (λ l. k.past ++ l) (k.turn t) ∙ append-nil k.past))
 

@@ -511,7 +511,7 @@ module _ (sha : Hash) (hash : IsHash sha) (programs : List Program) (s : Schedul
     has_live who w h [] a = tt
     has_live who w h (p ∷ ps) a = ((λ e. sym (ap (λ o. option_map_or (λ (p : Past). (node_of p).live) o []) (a.0 e))), has_live who w h ps a.1)
 
-    -- both worlds are the same so far, and the sessions that are still to be dropped are declared from place o on
+    -- both worlds are the same so far, and the sessions that are still to be dropped are declared from index o on
     record Ready (w w' : World) (k o : ℕ) (pre : List NamedSession) (xs : List StepOrRestart) : Type 0 where
       holds : Holds w
       same : Same w w'

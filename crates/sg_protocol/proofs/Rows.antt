@@ -85,7 +85,7 @@ module _ (sha : Hash) (keys : List PairKey) (sid : List ℕ) (cast : Cast) (targ
       go b [] ys h = subst (λ l. TagsOk sha keys sid cast targets g l ys) (sym (append-nil b)) h
       go b (i ∷ xs) ys h = subst (λ l. TagsOk sha keys sid cast targets g l ys) (append_assoc b (i ∷ []) xs) (go (b ++ i ∷ []) xs ys h.1)
 
-  -- what the role holds of its own is all that it was told
+  -- what the role holds of its own part is its transcript
   own_part_is : own_part x ≡ transcript x
   own_part_is = last_of_role x.role (transcript x) (same (last (transcript x)) refl)
     where
@@ -249,7 +249,7 @@ module _ (sha : Hash) (keys : List PairKey) (sid : List ℕ) (cast : Cast) (targ
   assoc None b c = refl
   assoc (Some a) b c = refl
 
-  -- the tag of an item, where what was held before it is the same
+  -- the tag of an item, if what was held before it is the same
   tag_right : (b prefix : List Item) (i j : Item) (xs : List Item) → i.tags ≡ map (λ t. (t, tag_said sha keys sid cast targets g b i t)) (targets i.label) → has by_role x.role xs ≡ false → is_in x.role (targets i.label) ≡ true → commitments g (prefix ++ j ∷ []) ≡ commitments g (b ++ i ∷ []) → j.role ≡ i.role → j.label ≡ i.label → j.time ≡ i.time → j.tags ≡ tags_but xs i.tags
       → has_item_tag sha me x (j, text_to g x prefix j x.role) ≡ true
   tag_right b prefix i j xs tg n target held jr jl jt jg =

@@ -64,7 +64,7 @@ any_none : (sid : List ℕ) (es : List Event) → filter (λ e. bytes_eq (sid_of
 any_none sid [] h = refl
 any_none sid (e ∷ es) h = elim (cases_Bool (bytes_eq (sid_of e) sid)) [ inl k ↦ (let f = rw k at h in absurd (cc)) | inr k ↦ rw k (any_none sid es (rw k at h)) ]
 
--- where a session has no event, no entry is of it
+-- if a session has no event, no entry is of it
 pub no_entry : (sid : List ℕ) (log : List Logged) → events_of sid log ≡ [] → find (λ (l : Logged). list_any (λ e. bytes_eq (sid_of e) sid) (events_of_outcome l.outcome)) log ≡ None
 no_entry sid [] h = refl
 no_entry sid (l ∷ ls) h =

@@ -123,7 +123,7 @@ module _ {sha : Hash} {s : Schedule} {programs : List Program} {sid : List ℕ} 
   abbrev Ok' : State → Name → Node → Type 0
   Ok' st who n = Ok_ known st who n
 
-  -- a role's own last step, in the law's words
+  -- a role's own last step, in the law's terms
   own_last : (st : State) (k : ℕ) (n : Node) → Ok' st (principal cast k) n → k < length cast.names → (st.machine.at k).own ≡ last (V.steps_of (own_part_of (shape g) st k))
   own_last st k n ok l = go ok.status
     where
@@ -178,7 +178,7 @@ module _ {sha : Hash} {s : Schedule} {programs : List Program} {sid : List ℕ} 
       sent_is : st.machine.sent ≡ map step (honest_items sid (called sha w k who c past).log)
       sent_is = ap (λ (z : State). z.machine.sent) (sym st_is) ∙ next.sent.0
 
-      -- what a role was told until the frame
+      -- a role's transcript until the frame
       transcript_before : (r : ℕ) (pk : Past) → past_of (called sha w k who c past) (principal cast r) ≡ Some pk → r < length cast.names → (r == f.receiver) ≡ false → st.transcript r ≡ entries (flat_map items_of (exchanges_of sid r pk.calls))
       transcript_before r pk e l ne = sym (rw ne refl) ∙ ap (λ (z : State). z.transcript r) (sym st_is) ∙ (next.transcript (principal cast r) pk e r refl l).0
 

@@ -44,7 +44,7 @@ use Rattle.sg_protocol.proofs.Bridge.{labels-view_of, has_view-Contains}
 use Rattle.sg_protocol.proofs.Entries.{entry, entries, entries-com, by, Roles, has-entries, up_to-entries, sight, view_ends, view_last_edge, seen_labels, has-after_last}
 use Rattle.sg_protocol.proofs.Moves.{step, FitItems, MadeItem, MadeFrame, NoteOk, Matches, row_none, map_none, no_position, take_all, no_find, note_text, note_both, fit-append, fit-left, roles-append, fit_up_to, are_held, Split, split, checked_in, rising_times, writes_below, variable_below}
 
--- what the rows of a session say where none holds
+-- what the rows of a session say if none holds
 pub record Rows (sha : Hash) (keys : Keyring) (p : Program) (x : Session) (f : Frame) : Type 0 where
   pub viewed : has_view p.views (record { origin = origin x; items = map seen f.items }) ≡ true
   pub senders : list_all (λ (i : Item). i.role == sender (shape p.graph) i.label) f.items ≡ true

@@ -62,7 +62,7 @@ empty : (a b : List ℕ) → 0 < length a → a ++ b ≡ [] → ⊥
 empty [] b h e = omega arith
 empty (x ∷ a) b h e = cc
 
--- lists of any length, to the end, where nothing is spelled by no bytes
+-- lists of any length, to the end, if nothing is spelled by no bytes
 pub all_to_end : {A : Type 0} (P : A → Type 0) (spell : A → List ℕ) → Ends P spell → ((x : A) → 0 < length (spell x)) → (xs ys : List A) → AllByRecursion P xs → AllByRecursion P ys →
     flat_map spell xs ≡ flat_map spell ys → xs ≡ ys
 all_to_end P spell d more [] [] h k e = refl
@@ -99,7 +99,7 @@ word_length a b v l = go (v == 2)
     go true = refl
     go false = sym l
 
--- two words of one length, which say the version, 2 or 1, at place i
+-- two words of one length, which say the version, 2 or 1, at index i
 versions_same : (i : ℕ) (a b s t : List ℕ) (v w : ℕ) → length a ≡ length b → get_or a i 0 ≡ 50 → get_or b i 0 ≡ 49 → IsVersion v → IsVersion w → word a b v ++ s ≡ word a b w ++ t → (v ≡ w) × (s ≡ t)
 versions_same i a b s t v w l m n h k e =
     let p : (word a b v ≡ word a b w) × (s ≡ t) = parts (word a b v) (word a b w) s t (word_length a b v l ∙ sym (word_length a b w l)) e in

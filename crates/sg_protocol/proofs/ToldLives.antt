@@ -1,4 +1,4 @@
--- What a principal told of its lives has no two joins of one pair.
+-- What a principal printed of its lives has no two joins of one pair.
 use Rattle.std.specs.Prelude.{◌≡◌, ℕ, zero, suc, ◌==◌, ◌&&◌, ◌⊎◌, Bool, true, false, not, List, [], ◌∷◌, ◌++◌, map, flat_map, take, bytes_eq, refl}
 use Rattle.std.specs.List.{AllByRecursion}
 use Rattle.std.proofs.Common.{sym, ◌∙◌, ap, subst, inl, inr}
@@ -69,7 +69,7 @@ not_among js sid r (k ∷ ks) a = elim (cases_Bool (bytes_eq k.0 sid && (k.1 == 
 abbrev Differ : List (List ℕ × ℕ) → List Event → Type 0
 Differ js told = (pairs_differ (joined_by told) ≡ true) × AllByRecursion (Absent js) (joined_by told)
 
--- one more event that was told
+-- one more event that was printed
 one_told : (js : List (List ℕ × ℕ)) (e : Event) (rest es : List Event) → (b : Bool) → does_join e ≡ b → joins_once js (e ∷ es) ≡ true
     → ((ks : List (List ℕ × ℕ)) → joins_once ks es ≡ true → Differ ks rest) → Differ js (e ∷ rest)
 one_told js e rest es true j h f =
@@ -85,7 +85,7 @@ one_told js e rest es false j h f =
     let r : Differ js rest = f js (and_parts (has_joined js (sid_of e) (role_of e)) (joins_once js es) here).1 in
     subst (λ l. (pairs_differ l ≡ true) × AllByRecursion (Absent js) l) (sym (let z : joined_by (e ∷ rest) ≡ joined_by rest = rw j refl in z)) r
 
--- one more event that was not told
+-- one more event that was not printed
 one_untold : (js : List (List ℕ × ℕ)) (e : Event) (told es : List Event) → (b : Bool) → does_join e ≡ b → joins_once js (e ∷ es) ≡ true
     → ((ks : List (List ℕ × ℕ)) → joins_once ks es ≡ true → Differ ks told) → Differ js told
 one_untold js e told es true j h f =

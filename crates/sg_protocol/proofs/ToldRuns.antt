@@ -1,4 +1,4 @@
--- The entries of a run are told by the graphs of their calls.
+-- The entries of a run have their names in the graphs of their calls.
 use Rattle.std.specs.Prelude.{◌≡◌, ℕ, suc, ◌+◌, ◌-◌, ◌⊎◌, true, List, [], ◌∷◌, ◌++◌, map, flat_map, take, length, bytes_eq, refl, Option, Some, None, option_map, option_and_then, Result, Ok, Err, Contains}
 use Rattle.std.specs.List.{AllByRecursion}
 use Rattle.std.specs.Option.{option_map_or}

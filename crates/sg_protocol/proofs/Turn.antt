@@ -1,4 +1,4 @@
--- Of one session identifier a node has at most one live session, where no two hashed texts have one digest.
+-- Of one session identifier a node has at most one live session, if no two hashed texts have one digest.
 use Rattle.std.specs.Prelude.{◌≡◌, ℕ, ◌<◌, ◌≤◌, ◌==◌, ◌&&◌, nat_lt, nat_le, Bool, true, false, not, List, [], ◌∷◌, ◌++◌, map, filter, find, length, bytes_eq, refl, Option, Some, None, option_map, option_and_then, Result, Ok, Err}
 use Rattle.std.specs.List.{AllByRecursion, list_all}
 use Rattle.std.specs.Option.{option_map_or}

@@ -19,7 +19,7 @@ use Rattle.sg_protocol.specs.Verdict.{row, has_kind, verdict}
 
 -- ---- a start
 
--- the start, where no row holds
+-- the start, if no row holds
 abbrev pub started : List ℕ → ℕ → Option StartFault → Answer
 started sid r None = Happened (Started sid r)
 started sid r (Some fault) = NotStarted fault
@@ -71,7 +71,7 @@ sent sha keys p s label values confounders =
     Sends (Sent s.sid s.role label (time s + 1) values) (principal s.cast (receiver (shape p.graph) label))
     (frame_sent sha keys p s label (openings_for values confounders))
 
--- the sending, where no row holds
+-- the sending, if no row holds
 abbrev pub acted : Answer → Option ActFault → Answer
 acted sends None = sends
 acted sends (Some fault) = NotActed fault

@@ -22,6 +22,6 @@ pub record IsLogUpTo (n : ℕ) (w now : World) : Type 0 where
 abbrev pub RunsGoOn : Hash → Type 0
 RunsGoOn sha = (programs : List Program) (s : Schedule) (n : ℕ) → IsLogUpTo n (run sha programs s) (run sha programs (first_steps n s))
 
--- Where the premises hold of a run, they hold of the run of its schedule's first n steps
+-- If the assumptions hold of a run, they hold of the run of its schedule's first n steps
 abbrev pub PremisesHoldBefore : Hash → Type 0
 PremisesHoldBefore sha = (programs : List Program) (s : Schedule) (n : ℕ) → Premises sha s (run sha programs s) → Premises sha (first_steps n s) (run sha programs (first_steps n s))

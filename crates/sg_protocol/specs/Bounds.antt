@@ -41,7 +41,7 @@ FramesAreShort = (f : Frame) → IsInRange f → length f.items ≤ 15 → IsSho
 
 -- ---- what steps send
 
--- the sid, the cast and the role of a session are in range, and so is all that the role was told, sent, wrote and received
+-- the sid, the cast and the role of a session are in range, and so are its transcript and all that the role wrote and received
 pub record IsSession (s : Session) : Type 0 where
   pub sid : AreBytes 32 s.sid
   pub version : (s.cast.version ≡ 1) ⊎ (s.cast.version ≡ 2)
@@ -56,7 +56,7 @@ pub record IsShortFrame (f : Frame) : Type 0 where
   pub items : length f.items ≤ 15
   pub bytes : IsShort f
 
--- At its turn, along an edge from its place and before the last time, a session in range sends a short frame, where the written openings are those of the edge and in range
+-- At its turn, along an edge from its place and before the last time, a session in range sends a short frame, if the written openings are those of the edge and in range
 abbrev pub SentAreShort : Hash → Type 0
 SentAreShort sha = (keys : Keyring) (p : Program) (s : Session) (label : ℕ) (written : List Opening) → IsProgram sha p → IsSession s →
     at_turn p.graph s ≡ true → leaves p.graph s label ≡ true → time s < most_time →

@@ -1,4 +1,4 @@
--- The first break of each premise of a run.
+-- The first break of each assumption of a run.
 use Rattle.std.specs.Prelude.{◌≡◌, ◌≢◌, ℕ, Bool, true, not, ◌&&◌, nat_lt, List, [], ◌∷◌, ◌++◌, map, flat_map, find, bytes_eq, Option, Some, None, option_map, All, ◌↔◌}
 use Rattle.std.specs.List.{list_any}
 use Rattle.std.specs.Option.{option_or}
@@ -30,11 +30,11 @@ found_notes log = flat_map (λ l. map (λ n. (l.number, n)) l.notes.found) log
 abbrev pub first_forged : Schedule → World → Option (ℕ × Note)
 first_forged s w = find (is_forged s w) (found_notes w.log)
 
--- the note, found in step k, breaks the first premise
+-- the note, found in step k, breaks the first assumption
 abbrev pub IsForged : Schedule → World → ℕ → Note → Type 0
 IsForged s w k n = (is_honest s n.one ≡ true) × (is_honest s n.two ≡ true) × (MadeBefore k n w.log → ⊥)
 
--- the note was found in this step and breaks the first premise, and none that was found before it does
+-- the note was found in this step and breaks the first assumption, and none that was found before it does
 pub record IsFirstForged (s : Schedule) (w : World) (step : ℕ) (note : Note) : Type 0 where
   pub before : List (ℕ × Note)
   pub after : List (ℕ × Note)
@@ -42,7 +42,7 @@ pub record IsFirstForged (s : Schedule) (w : World) (step : ℕ) (note : Note) :
   pub forged : IsForged s w step note
   pub first : All (λ (x : ℕ × Note). IsForged s w x.0 x.1 → ⊥) before
 
--- There is none exactly where no tag was forged, and otherwise it is the first in the order in which they were found
+-- There is none exactly if no tag was forged, and otherwise it is the first in the order in which they were found
 abbrev pub ForgedIsFirst : Type 0
 ForgedIsFirst = (s : Schedule) (w : World) → ((first_forged s w ≡ None) ↔ Unforged s w) × ((step : ℕ) (note : Note) → first_forged s w ≡ Some (step, note) → IsFirstForged s w step note)
 
@@ -72,6 +72,6 @@ pub record IsFirstCollision (sha : Hash) (texts : List (List ℕ)) (one other : 
   pub later_first : CollisionFree sha (before ++ one ∷ between)
   pub earlier_first : All (λ a. sha a ≡ sha other → a ≡ other) before
 
--- There is none exactly where no two texts have the same hash, and otherwise it is the first in the stated order
+-- There is none exactly if no two texts have the same hash, and otherwise it is the first in the stated order
 abbrev pub CollisionIsFirst : Hash → Type 0
 CollisionIsFirst sha = (texts : List (List ℕ)) → ((first_collision sha texts ≡ None) ↔ CollisionFree sha texts) × ((one other : List ℕ) → first_collision sha texts ≡ Some (one, other) → IsFirstCollision sha texts one other)

@@ -66,7 +66,7 @@ pub record HasSent (g : Graph) (honest : ℕ → Bool) (steps : List StoredStep)
   pub sends : IsTrue (does_send event)
   pub is_at : IsAtStep g honest steps s (past ++ prefix) event
 
--- among the events is the receipt of the step, and before it the sending, where its sender is honest
+-- among the events is the receipt of the step, and before it the sending, if its sender is honest
 pub record HasReceived (g : Graph) (honest : ℕ → Bool) (steps : List StoredStep) (s : StoredStep) (past events : List Event) : Type 0 where
   pub prefix : List Event
   pub event : Event
@@ -133,22 +133,22 @@ pub record HaveSince (c : Claim) (steps : List StoredStep) : Type 0 where
   pub there : steps ≡ prefix ++ step ∷ rest
   pub is_since : IsTrue (is_in step.label c.since)
 
--- A claim keeps its word on a session's walk and events
+-- A claim is kept on a session's walk and events
 pub record IsClaimKept (g : Graph) (honest : ℕ → Bool) (events : List Event) (steps : List StoredStep) (c : Claim) : Type 0 where
   -- the walk does what the claim says
   pub on_walk : HoldsOn c (labels steps)
-  -- where it needs, each event with a label of `later` has its cause
+  -- if it needs, each event with a label of `later` has its cause
   pub caused : c.kind ≡ Needs → (before : List Event) (e : Event) (after : List Event) (l : ℕ) → events ≡ before ++ e ∷ after → label_of e ≡ Some l → IsTrue (is_in l c.later) → HasCause g honest c steps before e
   -- and since the step of an event with a label of `since` it has one of its own
   pub own : c.kind ≡ Needs → (before : List Event) (d : Event) (between : List Event) (e : Event) (after : List Event) (k l : ℕ) → events ≡ before ++ d ∷ between ++ e ∷ after → label_of d ≡ Some k → label_of e ≡ Some l → IsTrue (is_in k c.since) → IsTrue (is_in l c.later) →
       AreOfOneStep g honest steps before d between e ⊎ ((t : AreOfTwoSteps g honest steps before d between e) × HaveCause c (t.first ∷ t.between))
-  -- where it bars, an event with a label of `earlier` comes before one of another step with a label of `later` only where a step with one of `since` was taken between
+  -- if it bars, an event with a label of `earlier` comes before one of another step with a label of `later` only if a step with one of `since` was taken between
   pub barred : c.kind ≡ Bars → (before : List Event) (d : Event) (between : List Event) (e : Event) (after : List Event) (k l : ℕ) → events ≡ before ++ d ∷ between ++ e ∷ after → label_of d ≡ Some k → label_of e ≡ Some l → IsTrue (is_in k c.earlier) → IsTrue (is_in l c.later) →
       AreOfOneStep g honest steps before d between e ⊎ ((t : AreOfTwoSteps g honest steps before d between e) × HaveSince c t.between)
-  -- and where it bars for good, with no label of `since`, none at all
+  -- and if it bars for good, with no label of `since`, none at all
   pub never : c.kind ≡ Bars → c.since ≡ [] → (before : List Event) (d : Event) (between : List Event) (e : Event) (after : List Event) (k l : ℕ) → events ≡ before ++ d ∷ between ++ e ∷ after → label_of d ≡ Some k → label_of e ≡ Some l → IsTrue (is_in k c.earlier) → IsTrue (is_in l c.later) → AreOfOneStep g honest steps before d between e
 
--- Where the premises hold, some walk explains each session with an event, and whichever does, each claim that holds of its graph is kept on it and by its events
+-- If the assumptions hold, some walk explains each session with an event, and whichever does, each claim that holds of its graph is kept on it and by its events
 abbrev pub ClaimsAreKept : Hash → Type 0
 ClaimsAreKept sha = (programs : List Program) (s : Schedule) → AreCompiled sha s.graphs programs → IsSchedule sha s →
     let w = run sha programs s in

@@ -37,7 +37,7 @@ pub record IsAwaited (sha : Hash) (s : Schedule) (w : World) (number : ℕ) (who
   pub not_left : HadAnswer w.log who (Abandon f.sid) Abandoned → ⊥
   pub room : IsTrue (is_some f.join) → (length (node_of past).joins < most_joins) × (length (node_of past).live < most_live)
 
--- Where the premises hold, an awaited frame that is delivered next is accepted
+-- If the assumptions hold, an awaited frame that is delivered next is accepted
 abbrev pub DeliveryIsComplete : Hash → Type 0
 DeliveryIsComplete sha = (programs : List Program) (s : Schedule) → AreCompiled sha s.graphs programs → IsSchedule sha s →
     let w = run sha programs s in

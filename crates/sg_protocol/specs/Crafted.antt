@@ -86,7 +86,7 @@ crafted_frame sha s w c g session =
     } in
     record f { tag = cut session.cast.version (tag_by sha s w (text_of f) c.seal) }
 
--- the frame that a craft makes, where its session is declared
+-- the frame that a craft makes, if its session is declared
 abbrev pub crafted : Hash → Schedule → World → Craft → Option Frame
 crafted sha s w c = option_and_then (λ (cast : Cast).
     option_map (λ g. crafted_frame sha s w c g (new_session (session_id sha cast) cast c.from)) (graph_with sha s.graphs cast.graph))

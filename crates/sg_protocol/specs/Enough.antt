@@ -1,4 +1,4 @@
--- What a role keeps is enough: it says as much as all that the role was told.
+-- What a role keeps is enough: it says as much as the transcript.
 use Rattle.std.specs.Prelude.{◌≡◌, ◌≢◌, ℕ, ◌<◌, List, map, length, Some, IfSome, IsTrue}
 use Rattle.std.specs.List.{AllByRecursion}
 use Rattle.sg_model.specs.Last.{Map, last}
@@ -29,7 +29,7 @@ pub record KeepsSame (g : Graph) (s t : Session) : Type 0 where
 pub record KeptIsEnough (sha : Hash) : Type 0 where
   pub sends : (keys : Keyring) (p : Program) (s t : Session) (label : ℕ) (written : List Opening) → IsGraph p.graph → KeepsSame p.graph s t → frame_sent sha keys p s label written ≡ frame_sent sha keys p t label written
   pub refuses : (p : Program) (s t : Session) (label : ℕ) (values : Map Value) → KeepsSame p.graph s t → rows_of_act p s label values ≡ rows_of_act p t label values
-  -- while it waits, the last item that it was told is its own
+  -- while it waits, the last item of its transcript is its own
   pub judges : (keys : Keyring) (p : Program) (s t : Session) (f : Frame) → IsGraph p.graph → KeepsSame p.graph s t → own_part s ≡ transcript s → own_part t ≡ transcript t → first_some (rows_of_session sha keys p s f) ≡ first_some (rows_of_session sha keys p t f)
   pub goes_on : (g : Graph) (s t : Session) (e : Exchange) → KeepsSame g s t → KeepsSame g (extended s e) (extended t e)
   -- the notes of a step that is sent
@@ -39,7 +39,7 @@ pub record KeptIsEnough (sha : Hash) : Type 0 where
       notes_in_session sha keys p s f (row_number (first_some (rows_of_session sha keys p s f))) ≡ notes_in_session sha keys p t f (row_number (first_some (rows_of_session sha keys p t f)))
   pub ends : (programs : List Program) (p : Program) (s t : Session) → program_for programs s.cast.graph s.role ≡ Some p → KeepsSame p.graph s t → is_over programs s ≡ is_over programs t
 
--- The last item of a frame sent to another role is the own item, where what was told last, if anything, is another role's, and the written variables are the graph's, in rising order
+-- The last item of a frame sent to another role is the own item, if the last item of the transcript, if there is one, is another role's, and the written variables are the graph's, in rising order
 abbrev pub OwnItemIsLast : Hash → Type 0
 OwnItemIsLast sha = (keys : Keyring) (p : Program) (s : Session) (label : ℕ) (written : List Opening) → receiver (shape p.graph) label ≢ s.role → IfSome (last (transcript s)) (λ i. i.role ≢ s.role) →
     IsTrue (rises_from 0 (map (λ o. o.variable) written)) → AllByRecursion (λ o. o.variable < length p.graph.variables) written → last (frame_sent sha keys p s label written).items ≡ Some (own_item sha keys p s label written)

@@ -6,7 +6,7 @@ use Rattle.sg_model.specs.Lists.{is_in, below, keys_of}
 use Rattle.sg_model.specs.Shape.{Walk, end_of, role_at, sender}
 use Rattle.sg_protocol.specs.Graph.{Graph, shape, writes}
 
--- the sum of 2 ^ x over the numbers: where all differ, the number that has just these bits
+-- the sum of 2 ^ x over the numbers: if all differ, the number that has just these bits
 abbrev pub mask : List ℕ → ℕ
 mask xs = sum_by (λ x. 2 ^ x) xs
 

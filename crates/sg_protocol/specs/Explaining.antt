@@ -69,7 +69,7 @@ view_in events f = record { origin = last (filter_map (label_sent f.receiver) ev
 abbrev pub IsExample : (g : Graph) (r : ℕ) (v : View) → List ℕ → Type 0
 IsExample g r v walk = (i : IsView g r v) × (i.walk ≡ walk)
 
--- where the step took a frame of the session, the walk shows its receiver what the frame shows it
+-- if the step took a frame of the session, the walk shows its receiver what the frame shows it
 abbrev pub IsShown : (g : Graph) (sid : List ℕ) (before : List Logged) (l : Logged) → List ℕ → Type 0
 IsShown g sid before l walk = (bs : List ℕ) (f : Frame) → l.call ≡ Some (Deliver bs) → read bs ≡ Ok f → l.outcome ≡ Answered (Happened (receipt f)) → f.sid ≡ sid → IsExample g f.receiver (view_in (events_of sid before) f) walk
 
@@ -80,14 +80,14 @@ AllShown g sid before (l ∷ ls) = IsShown g sid before l.0 l.1 × AllShown g si
 
 -- ---- the law
 
--- Where the premises hold, the walk that is made so explains the events of the session, whichever such walks stand beside the steps
+-- If the assumptions hold, the walk that is made so explains the events of the session, whichever such walks stand beside the steps
 abbrev pub WalksExplain : Hash → Type 0
 WalksExplain sha = (programs : List Program) (s : Schedule) (sid : List ℕ) (cast : Cast) (g : Graph) (log : List (Logged × List ℕ)) → AreCompiled sha s.graphs programs → IsSchedule sha s →
     let w = run sha programs s in
     Premises sha s w → cast_of_session sid w.log ≡ Some cast → graph_with sha s.graphs cast.graph ≡ Some g → map (λ (l : Logged × List ℕ). l.0) log ≡ w.log → AllShown g sid [] log →
     OnePath g (honest_role s cast) (events_of sid w.log) (walk_after_steps g (honest_role s cast) sid [] log)
 
--- Where the premises hold, each frame of the session that was taken shows its receiver a view, so that such walks can stand beside all steps
+-- If the assumptions hold, each frame of the session that was taken shows its receiver a view, so that such walks can stand beside all steps
 abbrev pub FramesShowViews : Hash → Type 0
 FramesShowViews sha = (programs : List Program) (s : Schedule) (sid : List ℕ) (cast : Cast) (g : Graph) (before : List Logged) (l : Logged) (after : List Logged) (bs : List ℕ) (f : Frame) → AreCompiled sha s.graphs programs → IsSchedule sha s →
     let w = run sha programs s in

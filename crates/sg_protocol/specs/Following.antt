@@ -1,4 +1,4 @@
--- What a role keeps follows a walk, whoever sent what it was told.
+-- What a role keeps follows a walk, whoever sent what it received.
 use Rattle.std.specs.Prelude.{◌≡◌, ℕ, Bool, true, false, List, [], ◌∷◌, ◌++◌, map, get_or, Some, None, ◌⊎◌, IsTrue}
 use Rattle.sg_model.specs.Last.{last, up_to_last}
 use Rattle.sg_model.specs.Lists.{is_in, first_some}
@@ -35,7 +35,7 @@ pub record FollowsWalk (sha : Hash) (g : Graph) (sid : List ℕ) (r : ℕ) (turn
   pub at_own : turn ≡ false → last walk ≡ k.origin
   pub opened : (x : ℕ) → IsTrue (knows g r x walk) → IsOpened sha sid k x
 
--- what is kept of a session follows a walk to its place, where it is at its turn, and otherwise to its own last step
+-- what is kept of a session follows a walk to its place, if it is at its turn, and otherwise to its own last step
 abbrev pub IsFollowed : Hash → Graph → Session → Type 0
 IsFollowed sha g s = FollowsWalk sha g s.sid s.role (at_turn g s) (kept g s)
 
@@ -55,7 +55,7 @@ pub record KeptFollowsWalks (sha : Hash) : Type 0 where
       at_turn p.graph s ≡ true → leaves p.graph s label ≡ true → map (λ o. o.variable) written ≡ writes p.graph label → IsFollowed sha p.graph s →
       let now = extended s (Gave (own_item sha keys p s label written) written) in
       IsFollowed sha p.graph now × (at_turn p.graph now ≡ false)
-  -- a session that waits, since the last item that it was told is its own, is at its turn after a frame on which no row holds
+  -- a session that waits, since the last item of its transcript is its own, is at its turn after a frame on which no row holds
   pub takes : (keys : Keyring) (p : Program) (s : Session) (f : Frame) → IsProgram sha p → p.role ≡ s.role →
       own_part s ≡ transcript s → FollowsWalk sha p.graph s.sid s.role false (kept p.graph s) → first_some (rows_of_session sha keys p s f) ≡ None →
       let now = extended s (Took f) in

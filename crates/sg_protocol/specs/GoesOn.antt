@@ -36,7 +36,7 @@ IsAtEnd g sid log = (e : ℕ) → e < length g.edges → source (shape g) e ≢ 
 abbrev pub WasAbandoned : Cast → List ℕ → List Logged → Type 0
 WasAbandoned cast sid log = (r : ℕ) × (r < length cast.names) × HadAnswer log (principal cast r) (Abandon sid) Abandoned
 
--- the principal at its turn sends a step along each edge that leaves the place, where the values are right and the last time has not come
+-- the principal at its turn sends a step along each edge that leaves the place, if the values are right and the last time has not come
 pub record CanAct (sha : Hash) (w : World) (cast : Cast) (g : Graph) (sid : List ℕ) : Type 0 where
   pub who : Name
   pub has_turn : principal cast (role_at (shape g) (place_in g sid w.log)) ≡ who
@@ -50,7 +50,7 @@ pub record CanAct (sha : Hash) (w : World) (cast : Cast) (g : Graph) (sid : List
       find (is_bad g label values) (below 256) ≡ None → time session < most_time →
       answer sha (node_of past) (Act sid label values confounders) ≡ sent sha (node_of past).keys program session label values confounders
 
--- the frame that was sent last in the session was not taken, and is awaited where its receiver shares keys with the cast and, if it joins, has room
+-- the frame that was sent last in the session was not taken, and is awaited if its receiver shares keys with the cast and, if it joins, has room
 pub record IsUnderWay (sha : Hash) (s : Schedule) (w : World) (cast : Cast) (sid : List ℕ) : Type 0 where
   pub number : ℕ
   pub who : Name
@@ -64,7 +64,7 @@ pub record IsUnderWay (sha : Hash) (s : Schedule) (w : World) (cast : Cast) (sid
   pub awaited : (past : Past) → past_of w who ≡ Some past → stranger past.keys cast ≡ None →
       (IsTrue (is_some frame.join) → (length (node_of past).joins < most_joins) × (length (node_of past).live < most_live)) → IsAwaited sha s w number who past frame
 
--- Where the premises hold and all principals of a session are honest, it is at its end, or was abandoned by one of them, or the one at its turn can act, or the newest frame is under way
+-- If the assumptions hold and all principals of a session are honest, it is at its end, or was abandoned by one of them, or the one at its turn can act, or the newest frame is under way
 abbrev pub SessionsGoOn : Hash → Type 0
 SessionsGoOn sha = (programs : List Program) (s : Schedule) → AreCompiled sha s.graphs programs → IsSchedule sha s →
     let w = run sha programs s in

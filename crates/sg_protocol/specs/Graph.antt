@@ -31,7 +31,7 @@ pub record Edge : Type 0 where
   pub writes : List ℕ
   pub reads : List ℕ
 
--- a graph. Roles, variables, nodes and edges have their places as numbers, and an edge's number is its label
+-- a graph. Roles, variables, nodes and edges have their indices as numbers, and an edge's number is its label
 pub record Graph : Type 0 where
   pub name : Name
   pub roles : List Name
@@ -85,7 +85,7 @@ kind_text Text = codes "text"
 abbrev pub spaced : List Name → List ℕ
 spaced names = flat_map (λ n. 32 ∷ n) names
 
--- the word and the names after it, where there are some
+-- the word and the names after it, if there are some
 abbrev pub clause : List ℕ → List Name → List ℕ
 clause word [] = []
 clause word (n ∷ ns) = word ++ spaced (n ∷ ns)

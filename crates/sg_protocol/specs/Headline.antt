@@ -25,7 +25,7 @@ pub record IsExplained (sha : Hash) (s : Schedule) (w : World) (sid : List ℕ) 
   pub steps : List StoredStep
   pub path : OnePath graph (honest_role s cast) (events_of sid w.log) steps
 
--- Where the premises hold, the events of each session are those of one walk
+-- If the assumptions hold, the events of each session are those of one walk
 abbrev pub SessionsFollowWalks : Hash → Type 0
 SessionsFollowWalks sha = (programs : List Program) (s : Schedule) → AreCompiled sha s.graphs programs → IsSchedule sha s →
     let w = run sha programs s in
@@ -35,11 +35,11 @@ SessionsFollowWalks sha = (programs : List Program) (s : Schedule) → AreCompil
 abbrev pub NoneJoinsTwice : Hash → Type 0
 NoneJoinsTwice sha = (programs : List Program) (s : Schedule) → All JoinedOnce (run sha programs s).pasts
 
--- A node joins no pair of sid and role twice, whatever it is asked, where the pairs that it was made with differ
+-- A node joins no pair of sid and role twice, whatever it is asked, if the pairs that it was made with differ
 abbrev pub NodesJoinOnce : Hash → Type 0
 NodesJoinOnce sha = (past : Past) → IsTrue (pairs_differ past.first) → AreAnswers sha (new_node past.keys past.programs past.first) past.calls → JoinedOnce past
 
--- Where the premises hold, each session follows one walk, and, whatever holds, no honest principal joins a pair of sid and role twice
+-- If the assumptions hold, each session follows one walk, and, whatever holds, no honest principal joins a pair of sid and role twice
 abbrev pub Headline : Hash → Type 0
 Headline sha = SessionsFollowWalks sha × NoneJoinsTwice sha
 
@@ -62,13 +62,13 @@ pub record IsOfCast (sha : Hash) (s : Schedule) (w : World) (l : Logged) (who : 
   -- it joins by no other cast
   pub joins : IsTrue (does_join e) → option_and_then cast_in l.call ≡ Some cast
 
--- Where no two hashed texts of a run have one digest, all events of a sid are of one cast and one graph, each of the role that this cast gives the principal
+-- If no two hashed texts of a run have one digest, all events of a sid are of one cast and one graph, each of the role that this cast gives the principal
 abbrev pub SessionsHaveOneCast : Hash → Type 0
 SessionsHaveOneCast sha = (programs : List Program) (s : Schedule) → AreCompiled sha s.graphs programs → IsSchedule sha s →
     let w = run sha programs s in
     CollisionFree sha (hashed s w) → (l : Logged) (who : Name) (e : Event) → HadEvent w l who e → IsOfCast sha s w l who e
 
--- Where no two hashed texts of a run have one digest, all events of a principal in one session are of one role
+-- If no two hashed texts of a run have one digest, all events of a principal in one session are of one role
 abbrev pub NoneTakesTwoRoles : Hash → Type 0
 NoneTakesTwoRoles sha = (programs : List Program) (s : Schedule) → AreCompiled sha s.graphs programs → IsSchedule sha s →
     let w = run sha programs s in

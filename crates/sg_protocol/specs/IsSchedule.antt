@@ -40,7 +40,7 @@ pub record AreCompiled (sha : Hash) (graphs : List Graph) (programs : List Progr
 -- ---- schedules
 
 -- A declared session is of some graph of these, by its digest, with a principal for each of its roles, all different, and a nonce and a version.
--- Another graph before it may have the same digest: that no two texts do is a premise, and no part of the format
+-- Another graph before it may have the same digest: that no two texts do is an assumption, and no part of the format
 pub record IsDeclared (sha : Hash) (graphs : List Graph) (d : NamedSession) : Type 0 where
   pub graph : Graph
   pub is_there : Contains graphs graph

@@ -16,7 +16,7 @@ is_for_room (NotStarted CacheFull) = true
 is_for_room (NotStarted SessionsFull) = true
 is_for_room other = false
 
--- Where no call was refused because there was no room, a node answers the calls of a session as a node that gets no other calls would
+-- If no call was refused because there was no room, a node answers the calls of a session as a node that gets no other calls would
 abbrev pub SessionsAreIsolated : Hash → Type 0
 SessionsAreIsolated sha = (past : Past) (sid : List ℕ) →
     AreAnswers sha (new_node past.keys past.programs past.first) past.calls →

@@ -1,4 +1,4 @@
--- What a role keeps of all that it was told.
+-- What a role keeps of its transcript.
 use Rattle.std.specs.Prelude.{ℕ, List, length, map, Option}
 use Rattle.sg_model.specs.Last.{evidence}
 use Rattle.sg_model.specs.Lists.{below}

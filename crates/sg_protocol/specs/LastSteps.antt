@@ -65,7 +65,7 @@ pub record ShowsLastSteps (s : Schedule) (w : World) (g : Graph) (cast : Cast) (
   pub items : map bare (filter (λ i. honest_role s cast i.role) f.items) ≡ map bare (last_of (λ i. i.role) (after_last (λ i. i.role) f.receiver (honest_items f.sid w.log)))
   pub held : (prefix : List Item) (i : Item) (rest : List Item) → f.items ≡ prefix ++ i ∷ rest → honest_role s cast i.role ≡ true → HeldBySender w g cast f.sid i (commitments g (before ++ prefix ++ i ∷ []))
 
--- Where the premises hold, what an accepted frame shows of honest senders is what they last did up to that step, and the receiver holds what they held
+-- If the assumptions hold, what an accepted frame shows of honest senders is what they last did up to that step, and the receiver holds what they held
 abbrev pub FramesShowLastSteps : Hash → Type 0
 FramesShowLastSteps sha = (programs : List Program) (s : Schedule) (who : Name) (bs : List ℕ) (f : Frame) (l : Logged) (cast : Cast) (g : Graph) (past : Past) →
     AreCompiled sha s.graphs programs → IsSchedule sha s → Premises sha s (run sha programs s) → IsTaken (run sha programs s) l who bs f →

@@ -30,7 +30,7 @@ pub record IsSound (sha : Hash) (p : Program) (s : Session) : Type 0 where
   pub role : s.role ≡ p.role
   pub in_range : IsSession s
   pub follows : IsFollowed sha p.graph s
-  -- it is new, or ends with a frame where it is at its turn, and with an own item where it waits
+  -- it is new, or ends with a frame if it is at its turn, and with an own item if it waits
   pub ends_at_turn : at_turn p.graph s ≡ true → EndsWithOther s
   pub ends_waiting : at_turn p.graph s ≡ false → EndsWithOwn s
 

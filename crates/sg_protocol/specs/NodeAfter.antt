@@ -11,7 +11,7 @@ use Rattle.sg_protocol.specs.Calls.{Call, Answer, Act, Started, Received, Start,
 use Rattle.sg_protocol.specs.Node.{Node, program_for, is_for}
 use Rattle.sg_protocol.specs.Acting.{openings_for}
 
--- at its turn a session is over where no edge leaves its place, and otherwise where its role has no node to come to
+-- at its turn a session is over if no edge leaves its place, and otherwise if its role has no node to come to
 abbrev pub is_over : List Program → Session → Bool
 is_over programs s = option_map_or (λ p.
     if at_turn p.graph s

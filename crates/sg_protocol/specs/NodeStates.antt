@@ -32,7 +32,7 @@ pub record NodeState : Type 0 where
 abbrev pub RepresentsLive : List Program → Held → Session → Type 0
 RepresentsLive programs h s = IsSomeAnd (program_for programs (s.cast).graph s.role) (λ p. RepresentsAtTurn p.graph h s ⊎ RepresentsWaiting p.graph h s)
 
--- each represents the session in its place
+-- each represents the session at its index
 abbrev pub RepresentEach : List Program → List Held → List Session → Type 0
 RepresentEach programs [] [] = ⊤
 RepresentEach programs [] (s ∷ ss) = ⊥
@@ -71,7 +71,7 @@ has_sid sid h = bytes_eq h.sid sid
 abbrev pub is_held_for : Frame → Held → Bool
 is_held_for f h = bytes_eq h.sid f.sid && (h.role == f.receiver) && ((h.cast).version == f.version)
 
--- at its turn what is held is over where no edge leaves the place, and otherwise where its role has no node to come to
+-- at its turn what is held is over if no edge leaves the place, and otherwise if its role has no node to come to
 abbrev pub is_spent : Program → Held → Bool
 is_spent p h =
     if role_at (shape p.graph) (h.kept).place == h.role

@@ -71,7 +71,7 @@ hashed_openings sha g s f [] = []
 hashed_openings sha g s f (o ∷ os) =
     if is_right sha g s f o then (o ∷ hashed_openings sha g s f os) else (if has_kind g o then o ∷ [] else [])
 
--- what is noted of a frame in the session that waits for it, where the verdict was row k
+-- what is noted of a frame in the session that waits for it, if the verdict was row k
 abbrev pub notes_in_session : Hash → Keyring → Program → Session → Frame → ℕ → Notes
 notes_in_session sha keys p s f k = record {
   made = [];
@@ -86,7 +86,7 @@ session_of_frame n f =
     let s = option_map_or (λ c. Some (new_session f.sid c f.receiver)) f.join (session_for n.live f) in
     option_and_then (λ s. option_map (λ p. (p, s)) (program_for n.programs s.cast.graph s.role)) s
 
--- the session text, where a joining frame comes to the row of the sid
+-- the session text, if a joining frame comes to the row of the sid
 abbrev pub hashed_of_join : Frame → ℕ → List (List ℕ)
 hashed_of_join f k = option_map_or (λ c. if nat_lt 4 k then session_text_of c ∷ [] else []) f.join []
 
@@ -109,7 +109,7 @@ notes_of_sent keys p s f written = record {
   hashed = map (commitment_text_of s.sid) written;
 }
 
--- what is noted of a start: the session text, where the start comes to the test of the joins
+-- what is noted of a start: the session text, if the start comes to the test of the joins
 abbrev pub notes_of_start : Cast → Answer → Notes
 notes_of_start c (NotStarted UnknownGraph) = no_notes
 notes_of_start c (NotStarted BadCast) = no_notes

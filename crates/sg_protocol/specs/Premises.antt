@@ -1,4 +1,4 @@
--- The two premises of a run.
+-- The two assumptions of a run.
 use Rattle.std.specs.Prelude.{◌≡◌, ℕ, ◌<◌, List, true, map, Contains, ◌++◌, flat_map}
 use Rattle.sg_protocol.specs.Texts.{Hash, graph_text_of}
 use Rattle.sg_protocol.specs.Notes.{Note}

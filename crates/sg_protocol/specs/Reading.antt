@@ -133,7 +133,7 @@ read_frame_of version =
 abbrev pub read_version : Reader ℕ
 read_version = after (field 4 (λ bs. if bytes_eq bs (magic 1) then true else bytes_eq bs (magic 2))) λ bs. give (if bytes_eq bs (magic 2) then 2 else 1)
 
--- the value, where no bytes are left
+-- the value, if no bytes are left
 abbrev pub if_none_left : {A : Type 0} → A → ℕ → List ℕ → Result A ℕ
 if_none_left x at [] = Ok x
 if_none_left x at (b ∷ bs) = Err at

@@ -23,7 +23,7 @@ abbrev pub WasSent : World → ℕ → Name → List ℕ → Frame → Type 0
 WasSent w k who bs f = (l : Logged) × (e : Event) × (to : Name) ×
     Contains w.log l × (l.number < k) × (l.who ≡ Some who) × (l.frame ≡ Some bs) × (l.outcome ≡ Answered (Sends e to f)) × (sid_of e ≡ f.sid) × (role_of e ≡ f.sender)
 
--- Where the premises hold, a receipt from an honest sender was given by bytes that this sender sent before, in that session and role
+-- If the assumptions hold, a receipt from an honest sender was given by bytes that this sender sent before, in that session and role
 abbrev pub ReceiptsHaveSends : Hash → Type 0
 ReceiptsHaveSends sha = (programs : List Program) (s : Schedule) → AreCompiled sha s.graphs programs → IsSchedule sha s →
     let w = run sha programs s in

@@ -29,11 +29,11 @@ pub record Held : Type 0 where
 abbrev pub held : Graph → Session → Held
 held g s = record { sid = s.sid; cast = s.cast; role = s.role; kept = kept g s }
 
--- the session is new or ends with an own item: all that the role was told is up to its own last item
+-- the session is new or ends with an own item: its transcript is its own part
 abbrev pub EndsWithOwn : Session → Type 0
 EndsWithOwn s = own_part s ≡ transcript s
 
--- the session is new or ends with an accepted frame: the last item that the role was told is another role's
+-- the session is new or ends with an accepted frame: the last item of the transcript is another role's
 abbrev pub EndsWithOther : Session → Type 0
 EndsWithOther s = IfSome (last (transcript s)) (λ i. i.role ≢ s.role)
 
@@ -93,7 +93,7 @@ held_after g h e = record h { kept = kept_with g h.role h.kept (items_of e) (ope
 pub record StatesRepresent (sha : Hash) : Type 0 where
   -- of the sessions that one state represents the role keeps the same
   pub keeps_same : (g : Graph) (h : Held) (s t : Session) → h ≡ held g s → h ≡ held g t → KeepsSame g s t
-  -- while all that was told ends with an own item, there is one time, and the place is the end of the role's own last step
+  -- while the transcript ends with an own item, there is one time, and the place is the end of the role's own last step
   pub one_time : (s : Session) → EndsWithOwn s → time s ≡ own_time s
   pub own_place : (g : Graph) (s : Session) → EndsWithOwn s → place g s ≡ unwrap_or (option_map (target (shape g)) (origin s)) 0
   pub is_new : (g : Graph) (sid : List ℕ) (c : Cast) (r : ℕ) → RepresentsBefore g (record { sid = sid; cast = c; role = r; kept = nothing_kept g }) (new_session sid c r)

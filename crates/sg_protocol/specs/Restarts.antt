@@ -45,7 +45,7 @@ RestartsAbandon sha = (past : Past) →
     × ((node_of (begun_anew past)).live ≡ [])
 
 -- Lives of a principal, one after another, the first over these joins and each other one over the joins that the one before left. Keys and programs may change between them.
--- A crash ends a life after some call: the joins of all calls up to this one were kept, of the last of them maybe nothing was told, and of no call after it was anything told, sent or kept
+-- A crash ends a life after some call: the joins of all calls up to this one were kept, of the last of them maybe nothing was printed, and of no call after it was anything printed, sent or kept
 abbrev pub AreLives : Hash → List (List ℕ × ℕ) → List Past → Type 0
 AreLives sha first [] = ⊤
 AreLives sha first (p ∷ ps) = (p.first ≡ first) × AreAnswers sha (new_node p.keys p.programs p.first) p.calls × AreLives sha (node_of p).joins ps
@@ -58,7 +58,7 @@ events_of_lives ps = flat_map (λ p. flat_map (λ c. events_of_answer c.answer) 
 abbrev pub LivesJoinOnce : Hash → Type 0
 LivesJoinOnce sha = (first : List (List ℕ × ℕ)) (lives : List Past) → AreLives sha first lives → IsTrue (joins_once first (events_of_lives lives))
 
--- what was told in lives, each with the number of its first calls whose lines were printed: the others were cut off by a crash
+-- what was printed in lives, each with the number of its first calls whose lines were printed: the others were cut off by a crash
 abbrev pub told_in_lives : List (ℕ × Past) → List Event
 told_in_lives ls = flat_map (λ (l : ℕ × Past). flat_map (λ c. events_of_answer c.answer) (take l.0 (l.1).calls)) ls
 
@@ -66,7 +66,7 @@ told_in_lives ls = flat_map (λ (l : ℕ × Past). flat_map (λ c. events_of_ans
 abbrev pub joined_by : List Event → List (List ℕ × ℕ)
 joined_by es = map (λ e. (sid_of e, role_of e)) (filter does_join es)
 
--- Wherever its lives were cut off, what a principal told of them has no two joins of one pair, and none of a pair that it began with
+-- Wherever its lives were cut off, what a principal printed of them has no two joins of one pair, and none of a pair that it began with
 abbrev pub ToldJoinOnce : Hash → Type 0
 ToldJoinOnce sha = (first : List (List ℕ × ℕ)) (ls : List (ℕ × Past)) → AreLives sha first (map (λ (l : ℕ × Past). l.1) ls) →
     IsTrue (pairs_differ (joined_by (told_in_lives ls))) × All (λ (j : List ℕ × ℕ). has_joined first j.0 j.1 ≡ false) (joined_by (told_in_lives ls))
@@ -74,7 +74,7 @@ ToldJoinOnce sha = (first : List (List ℕ × ℕ)) (ls : List (ℕ × Past)) �
 -- ---- runs
 
 -- a step is taken, or a principal is stopped and begun anew.
--- A crash in a step is this step and then the restart: its pair is joined, its event is in the log though no line tells it, and its frame, if it has one, is recorded and maybe never delivered. A call that left no join and of which nothing was told or sent is no step
+-- A crash in a step is this step and then the restart: its pair is joined, its event is in the log though no line has it, and its frame, if it has one, is recorded and maybe never delivered. A call that left no join and of which nothing was printed or sent is no step
 pub data StepOrRestart : Type 0 where
   Stepped : Step → StepOrRestart
   Restarted : (who : Name) → StepOrRestart
@@ -108,13 +108,13 @@ IsStepOrRestart sha s (Restarted who) = ⊤
 
 -- ---- the schedule without restarts
 
--- the place of a session where m more are declared: a place that the list lacks is moved behind the new ones
+-- the index of a session if m more are declared: an index that the list lacks is moved behind the new ones
 abbrev pub moved_to : List NamedSession → ℕ → ℕ → ℕ
 moved_to [] m n = n + m
 moved_to (d ∷ ds) m zero = zero
 moved_to (d ∷ ds) m (suc n) = suc (moved_to ds m n)
 
--- the same step where m more sessions are declared
+-- the same step if m more sessions are declared
 abbrev pub moved_step : List NamedSession → ℕ → Step → Step
 moved_step ds m (StartStep who n) = StartStep who (moved_to ds m n)
 moved_step ds m (ActStep who n label values) = ActStep who (moved_to ds m n) label values
@@ -132,12 +132,12 @@ dropped sha s w k [] = []
 dropped sha s w k (Stepped x ∷ xs) = dropped sha s (world_after sha s w k x) (k + 1) xs
 dropped sha s w k (Restarted who ∷ xs) = map declared (live_of w who) ++ dropped sha s (world_restarted w who) (k + length (live_of w who)) xs
 
--- an abandonment of each of these sessions, of which the first is declared at place o, and each other one at the next place
+-- an abandonment of each of these sessions, of which the first is declared at index o, and each other one at the next index
 abbrev pub abandon_steps : Name → ℕ → List Session → List Step
 abandon_steps who o [] = []
 abandon_steps who o (x ∷ xs) = AbandonStep who o ∷ abandon_steps who (o + 1) xs
 
--- the steps, where each restart is replaced by an abandonment of each session that it drops: m more are declared, those that are still to be dropped from place o on
+-- the steps, if each restart is replaced by an abandonment of each session that it drops: m more are declared, those that are still to be dropped from index o on
 abbrev pub plain_steps : Hash → Schedule → ℕ → ℕ → World → ℕ → List StepOrRestart → List Step
 plain_steps sha s m o w k [] = []
 plain_steps sha s m o w k (Stepped x ∷ xs) = moved_step s.sessions m x ∷ plain_steps sha s m o (world_after sha s w k x) (k + 1) xs
@@ -180,7 +180,7 @@ RestartsAreAbandonments sha = (programs : List Program) (s : Schedule) (xs : Lis
 
 -- ---- what holds of runs with restarts
 
--- Where the premises hold of a run with restarts, the events of each session are those of one walk
+-- If the assumptions hold of a run with restarts, the events of each session are those of one walk
 abbrev pub SessionsFollowWalksOverRestarts : Hash → Type 0
 SessionsFollowWalksOverRestarts sha = (programs : List Program) (s : Schedule) (xs : List StepOrRestart) → AreCompiled sha s.graphs programs → IsSchedule sha s → All (IsStepOrRestart sha s) xs →
     let w = run_with_restarts sha programs s xs in
@@ -194,7 +194,7 @@ events_at who log = flat_map (λ l. events_of_outcome l.outcome) (filter (λ l. 
 abbrev pub NoneJoinsTwiceOverRestarts : Hash → Type 0
 NoneJoinsTwiceOverRestarts sha = (programs : List Program) (s : Schedule) (xs : List StepOrRestart) (who : Name) → IsTrue (joins_once [] (events_at who (run_with_restarts sha programs s xs).log))
 
--- Where the premises hold of a run with restarts, a receipt from an honest sender was given by bytes that this sender sent before, in that session and role
+-- If the assumptions hold of a run with restarts, a receipt from an honest sender was given by bytes that this sender sent before, in that session and role
 abbrev pub ReceiptsHaveSendsOverRestarts : Hash → Type 0
 ReceiptsHaveSendsOverRestarts sha = (programs : List Program) (s : Schedule) (xs : List StepOrRestart) → AreCompiled sha s.graphs programs → IsSchedule sha s → All (IsStepOrRestart sha s) xs →
     let w = run_with_restarts sha programs s xs in
@@ -202,13 +202,13 @@ ReceiptsHaveSendsOverRestarts sha = (programs : List Program) (s : Schedule) (xs
     (l : Logged) (who : Name) (bs : List ℕ) (f : Frame) (cast : Cast) → IsTaken w l who bs f → cast_of_session f.sid w.log ≡ Some cast →
     honest_role s cast f.sender ≡ true → WasSent w l.number (principal cast f.sender) bs f
 
--- Where no two hashed texts of a run with restarts have one digest, all events of a sid are of one cast and one graph, each of the role that this cast gives the principal
+-- If no two hashed texts of a run with restarts have one digest, all events of a sid are of one cast and one graph, each of the role that this cast gives the principal
 abbrev pub SessionsHaveOneCastOverRestarts : Hash → Type 0
 SessionsHaveOneCastOverRestarts sha = (programs : List Program) (s : Schedule) (xs : List StepOrRestart) → AreCompiled sha s.graphs programs → IsSchedule sha s → All (IsStepOrRestart sha s) xs →
     let w = run_with_restarts sha programs s xs in
     CollisionFree sha (hashed s w) → (l : Logged) (who : Name) (e : Event) → HadEvent w l who e → IsOfCast sha s w l who e
 
--- Where no two hashed texts of a run with restarts have one digest, all events of a principal in one session are of one role, restarts between them or not
+-- If no two hashed texts of a run with restarts have one digest, all events of a principal in one session are of one role, restarts between them or not
 abbrev pub NoneTakesTwoRolesOverRestarts : Hash → Type 0
 NoneTakesTwoRolesOverRestarts sha = (programs : List Program) (s : Schedule) (xs : List StepOrRestart) → AreCompiled sha s.graphs programs → IsSchedule sha s → All (IsStepOrRestart sha s) xs →
     let w = run_with_restarts sha programs s xs in
@@ -239,7 +239,7 @@ pub record ShowsLastStepsInLife (s : Schedule) (w : World) (g : Graph) (cast : C
   pub items : map bare (filter (λ i. honest_role s cast i.role) f.items) ≡ map bare (last_of (λ i. i.role) (after_last (λ i. i.role) f.receiver (honest_items f.sid w.log)))
   pub held : (prefix : List Item) (i : Item) (rest : List Item) → f.items ≡ prefix ++ i ∷ rest → honest_role s cast i.role ≡ true → HeldInLife w g cast f.sid i (commitments g (before ++ prefix ++ i ∷ []))
 
--- Where the premises hold of a run with restarts, what a frame shows of honest senders that a step of it accepts is what they last did up to that step, and the receiver holds what they held
+-- If the assumptions hold of a run with restarts, what a frame shows of honest senders that a step of it accepts is what they last did up to that step, and the receiver holds what they held
 abbrev pub FramesShowLastStepsOverRestarts : Hash → Type 0
 FramesShowLastStepsOverRestarts sha = (programs : List Program) (s : Schedule) (xs : List StepOrRestart) (x : Step) (ys : List StepOrRestart) (who : Name) (bs : List ℕ) (f : Frame) (l : Logged) (cast : Cast) (g : Graph) →
     AreCompiled sha s.graphs programs → IsSchedule sha s → All (IsStepOrRestart sha s) (xs ++ Stepped x ∷ ys) → Premises sha s (run_with_restarts sha programs s (xs ++ Stepped x ∷ ys)) →
@@ -250,6 +250,6 @@ FramesShowLastStepsOverRestarts sha = (programs : List Program) (s : Schedule) (
 
 -- ---- the headline
 
--- The headline over restarts: where the premises hold, each session follows one walk, and, whatever holds, no honest principal joins a pair of sid and role twice in its whole life
+-- The headline over restarts: if the assumptions hold, each session follows one walk, and, whatever holds, no honest principal joins a pair of sid and role twice in its whole life
 abbrev pub HeadlineOverRestarts : Hash → Type 0
 HeadlineOverRestarts sha = SessionsFollowWalksOverRestarts sha × NoneJoinsTwiceOverRestarts sha

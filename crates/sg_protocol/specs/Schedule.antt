@@ -59,7 +59,7 @@ pub record Craft : Type 0 where
   pub openings : List Opening
   pub seal : Source
 
--- a step of a schedule. A session is a place in the list of those declared
+-- a step of a schedule. A session is an index in the list of those declared
 pub data Step : Type 0 where
   StartStep : (who : Name) (session : ℕ) → Step
   ActStep : (who : Name) (session label : ℕ) (values : Map Value) → Step

@@ -33,7 +33,7 @@ shown_to g r items = tags_left (map (item_of g) (evidence_for (λ i. i.role) r (
 
 -- ---- the own item
 
--- the tag of a text under the key that I share with the principal of role r, or under no bytes where I share none
+-- the tag of a text under the key that I share with the principal of role r, or under no bytes if I share none
 abbrev pub tag_for : Hash → Keyring → Cast → ℕ → List ℕ → List ℕ
 tag_for sha keys c r text = cut c.version (hmac sha (unwrap_or (key_of keys (principal c r)) []) text)
 
@@ -59,11 +59,11 @@ own_item sha keys p s label written =
 
 -- ---- the frame
 
--- the opening of x, where the written ones take precedence
+-- the opening of x: the written ones take precedence
 abbrev pub opening_of : Session → List Opening → ℕ → Option Opening
 opening_of s written x = option_or (opening_in written x) (known s x)
 
--- the frame before its tag: the evidence for the receiver, what it reads, and the cast exactly where it has no item yet
+-- the frame before its tag: the evidence for the receiver, what it reads, and the cast exactly if it has no item yet
 abbrev pub plain_frame : Program → Session → Item → List Opening → Frame
 plain_frame p s i written =
     let to = receiver (shape p.graph) i.label in

@@ -23,7 +23,7 @@ RunsGoByStep sha = (programs : List Program) (s : Schedule) (x : Step) → run s
 abbrev pub is_taken : Schedule → Step → Bool
 is_taken s x = option_map_or (is_honest s) (who_of x) true
 
--- Where each step is a craft or an honest principal's, the log has them all, and their numbers are their places, from 1 on
+-- If each step is a craft or an honest principal's, the log has them all, and their numbers are their indices, from 1 on
 abbrev pub LogsAreNumbered : Hash → Type 0
 LogsAreNumbered sha = (programs : List Program) (s : Schedule) → list_all (is_taken s) s.steps ≡ true → map (λ l. l.number) (run sha programs s).log ≡ range_from 1 (length s.steps)
 
@@ -43,7 +43,7 @@ FitsFrame (Answered a) frame = frame ≡ frame_in a
 FitsFrame Crafted frame = ⊤
 FitsFrame NoFrame frame = frame ≡ None
 
--- what was recorded fits what came of the step: of an answer the frame that it sends, if it sends one, and nothing where there was no frame to deliver
+-- what was recorded fits the outcome of the step: of an answer the frame that it sends, if it sends one, and nothing if there was no frame to deliver
 abbrev pub FitsOutcome : Logged → Type 0
 FitsOutcome l = FitsFrame l.outcome l.frame
 

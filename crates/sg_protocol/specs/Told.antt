@@ -39,7 +39,7 @@ session_of_call sha n (Deliver bytes) = option_and_then (session_of_frame n) (re
 abbrev pub graph_of_call : Hash → Node → Call → Option Graph
 graph_of_call sha n c = option_map (λ (x : Program × Session). x.0.graph) (session_of_call sha n c)
 
--- ---- what is told of an answer
+-- ---- what an answer names
 
 -- the answer is an event, or a refusal that names a variable
 abbrev pub names_numbers : Answer → Bool
@@ -83,7 +83,7 @@ abbrev pub GivesVariables : Call → Type 0
 GivesVariables (Act sid label values confounders) = AllByRecursion (λ x. x < 256) (keys_of values)
 GivesVariables c = ⊤
 
--- What any node answers to such a call is told by the graph of the call, where its programs are programs
+-- What any node answers to such a call has its names in the graph of the call, if its programs are programs
 abbrev pub AnswersAreTold : Hash → Type 0
 AnswersAreTold sha = (n : Node) (c : Call) → All (IsProgram sha) n.programs → GivesVariables c → names_numbers (answer sha n c) ≡ true → IsTold sha n c (answer sha n c)
 
@@ -101,7 +101,7 @@ pub record IsAnswered (sha : Hash) (programs : List Program) (s : Schedule) (l :
 abbrev pub EntriesAreAnswered : Hash → Type 0
 EntriesAreAnswered sha = (programs : List Program) (s : Schedule) (l : Logged) (c : Call) → Contains (run sha programs s).log l → l.call ≡ Some c → IsAnswered sha programs s l c
 
--- Each entry of a run that names a role, a label or a variable is told by the graph of its call
+-- Each entry of a run that names a role, a label or a variable has its names in the graph of its call
 abbrev pub EntriesAreTold : Hash → Type 0
 EntriesAreTold sha = (programs : List Program) (s : Schedule) → AreCompiled sha s.graphs programs → IsSchedule sha s → (l : Logged) (c : Call) → Contains (run sha programs s).log l → l.call ≡ Some c →
     (a : IsAnswered sha programs s l c) → names_numbers (answer sha (node_of a.past) c) ≡ true → IsTold sha (node_of a.past) c (answer sha (node_of a.past) c)
@@ -113,14 +113,14 @@ pub record IsOfOneGraph (sha : Hash) (s : Schedule) (w : World) (n : Node) (a : 
   pub event : (e : Event) → Contains (events_of_answer a) e → cast_of_session x.sid w.log ≡ Some x.cast
   pub live : Contains n.live x → cast_of_session x.sid w.log ≡ Some x.cast
 
--- Where no two hashed texts of a run have one digest, each such entry is told by the graph of the one cast of its session
+-- If no two hashed texts of a run have one digest, each such entry has its names in the graph of the one cast of its session
 abbrev pub EntriesHaveOneGraph : Hash → Type 0
 EntriesHaveOneGraph sha = (programs : List Program) (s : Schedule) → AreCompiled sha s.graphs programs → IsSchedule sha s →
     let w = run sha programs s in
     CollisionFree sha (hashed s w) → (l : Logged) (c : Call) → Contains w.log l → l.call ≡ Some c → (a : IsAnswered sha programs s l c) → names_numbers (answer sha (node_of a.past) c) ≡ true →
     (t : IsTold sha (node_of a.past) c (answer sha (node_of a.past) c)) → IsOfOneGraph sha s w (node_of a.past) (answer sha (node_of a.past) c) t.program t.session
 
--- what is told of the steps of a run
+-- where the entries of a run have their names
 pub record StepsAreTold (sha : Hash) : Type 0 where
   pub at_nodes : AnswersAreTold sha
   pub answered : EntriesAreAnswered sha

@@ -22,7 +22,7 @@ turn_in programs s = option_and_then (λ p. if at_turn p.graph s then Some (plac
 abbrev pub turn_of : Node → List ℕ → Option ℕ
 turn_of n sid = first_some (map (turn_in n.programs) (sessions_with n.live sid))
 
--- Where no two hashed texts of a run have one digest, it is that of the session with the sid
+-- If no two hashed texts of a run have one digest, it is that of the session with the sid
 abbrev pub TurnIsOfSession : Hash → Type 0
 TurnIsOfSession sha = (programs : List Program) (s : Schedule) → AreCompiled sha s.graphs programs → IsSchedule sha s →
     let w = run sha programs s in

@@ -120,7 +120,7 @@ abbrev pub receipt : Frame → Event
 receipt f = Received f.sid f.receiver (unwrap_or (last_label f.items) 0) (last_time f.items) (map (λ o. (o.variable, o.value)) f.openings)
     (option_map_or (λ c. true) f.join false)
 
--- the event, where no row holds
+-- the event, if no row holds
 abbrev pub decided : Event → Option Refusal → Answer
 decided e None = Happened e
 decided e (Some r) = NotDelivered r

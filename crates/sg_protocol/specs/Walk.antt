@@ -42,7 +42,7 @@ pub data Act : Type 0 where
 abbrev pub stored : Map (Option Value) → List ℕ → Map (Option Value)
 stored store xs = map (λ x. (x, unwrap_or (value_at store x) None)) xs
 
--- the act, where the role is honest
+-- the act, if the role is honest
 abbrev pub act_if : Bool → Act → List Act
 act_if true a = a ∷ []
 act_if false a = []

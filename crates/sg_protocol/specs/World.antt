@@ -16,7 +16,7 @@ pub data Outcome : Type 0 where
   Crafted : Outcome
   NoFrame : Outcome
 
--- a step that was taken: its number, the principal and the call if there is one, what came of it, the frame recorded, and what was noted
+-- a step that was taken: its number, the principal and the call if there is one, the outcome, the frame recorded, and what was noted
 pub record Logged : Type 0 where
   pub number : ℕ
   pub who : Option Name
@@ -76,7 +76,7 @@ bytes_of w (Flipped n at) = option_map (flipped at) (frame_at w n)
 bytes_of w (Cut n len) = option_map (take len) (frame_at w n)
 bytes_of w (Bytes bs) = Some bs
 
--- the call that step k makes at a node, or None where there is no such frame
+-- the call that step k makes at a node, or None if there is no such frame
 abbrev pub call_of : Hash → Schedule → World → ℕ → Step → Option Call
 call_of sha s w k (StartStep who n) = option_map Start (cast_of s n)
 call_of sha s w k (ActStep who n label values) = Some (Act (sid_at sha s n) label values (map (λ (v : ℕ × Value). confounder k v.0) values))

@@ -17,14 +17,14 @@ use Rattle.sg_reach.proofs.Cases.{less_or}
 abbrev one_if_there : {A : Type 0} → Option A → ℕ
 one_if_there o = cond (is_some o) 1 0
 
--- one more is there where an entry is put in an index that had none
+-- one more is there if an entry is put in an index that had none
 pub count-set : {A : Type 0} (xs : List (Option A)) (i : ℕ) (x : A) → i < length xs → get_or xs i None ≡ None → count_by is_some (set xs i (Some x)) ≡ suc (count_by is_some xs)
 count-set {A} xs i x h n =
     let e : sum_by (one_if_there {A = A}) (set xs i (Some x)) + one_if_there (get_or xs i None) ≡ sum_by one_if_there xs + 1 = sum_by-set one_if_there xs i (Some x) None h in
     let e' : sum_by (one_if_there {A = A}) (set xs i (Some x)) + 0 ≡ sum_by one_if_there xs + 1 = rw n at e in
     omega arith
 
--- not all indices are taken where one is free
+-- not all indices are taken if one is free
 pub count_free : {A : Type 0} (xs : List (Option A)) (i : ℕ) (x : A) → i < length xs → get_or xs i None ≡ None → count_by is_some xs < length xs
 count_free xs i x h n =
     let more = count-set xs i x h n in
@@ -32,7 +32,7 @@ count_free xs i x h n =
     let same = length-set xs i (Some x) in
     omega (arith, more, most, same)
 
--- none is there where each place has none
+-- none is there if each slot has none
 pub count-none : {A : Type 0} (xs : List (Option A)) → ((i : ℕ) → get_or xs i None ≡ None) → count_by is_some xs ≡ 0
 count-none [] h = refl
 count-none {A} (x ∷ xs) h =
@@ -40,7 +40,7 @@ count-none {A} (x ∷ xs) h =
     let rest = count-none xs (λ i. h (suc i)) in
     sum_by-cons (one_if_there {A = A}) x xs ∙ rw (first, rest) refl
 
--- a list of none has none at each place
+-- a list of none has none in each slot
 pub get_or-none : {A : Type 0} (size i : ℕ) (none : Option A) → none ≡ None → get_or (replicate size none) i None ≡ None
 get_or-none size i none same =
     elim (less_or i size) [
@@ -84,7 +84,7 @@ walk_still g m past found n w k zero last none x = x
 walk_still g m past found n w k (suc i) last none x =
     (x.0, x.1, x.2, rw (found_other found n (source g last) w (found_differs found n (source g last) none (found_of_edges found (source g last) i x.3))) (x.3))
 
--- where what was left is done, or is still left, the search goes on with what is still left
+-- if what was left is done, or is still left, the search goes on with what is still left
 pub search_with : (g : Shape) (left left' : ℕ → Type 0) (s : Search) → IsSearch g left s
     → ((e : ℕ) → e < length g.edges → is_in (sender g e) s.past ≡ false → left e → IsFound s.found (target g e) ⊎ left' e) → IsSearch g left' s
 search_with g left left' s x h = record {

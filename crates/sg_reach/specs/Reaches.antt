@@ -25,7 +25,7 @@ pub record Closure : Type 0 where
 abbrev pub IsWithin : Closure → ℕ → Type 0
 IsWithin c n = Reaches (shape c.graph) c.from c.past n
 
--- the least node in the closure that has the role, or none where there is none
+-- the least node in the closure that has the role, or none if there is none
 abbrev pub IsFirstOf : Closure → ℕ → Option ℕ → Type 0
 IsFirstOf c r (Some n) = (n < length c.graph.nodes) × (role_at (shape c.graph) n ≡ r) × IsWithin c n × ((k : ℕ) → k < n → role_at (shape c.graph) k ≡ r → IsWithin c k → ⊥)
 IsFirstOf c r None = (n : ℕ) → role_at (shape c.graph) n ≡ r → IsWithin c n → ⊥

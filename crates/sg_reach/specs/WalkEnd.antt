@@ -28,7 +28,7 @@ IsFoundBy g m past found n (suc k) last =
 abbrev pub AreWalks : Shape → ℕ → List ℕ → List (Option WalkEnd) → Type 0
 AreWalks g m past found = (n : ℕ) (f : WalkEnd) → found_at found n ≡ Some f → IsFoundBy g m past found n f.edges f.last
 
--- where an edge leaves a node that was found and has none of the roles, its target was found too, except for edges of which `but` holds
+-- if an edge leaves a node that was found and has none of the roles, its target was found too, except for edges of which `but` holds
 abbrev pub IsClosedBut : Shape → List ℕ → List (Option WalkEnd) → (ℕ → Type 0) → Type 0
 IsClosedBut g past found but = (e : ℕ) → e < length g.edges → IsFound found (source g e) → is_in (sender g e) past ≡ false → IsFound found (target g e) ⊎ but e
 

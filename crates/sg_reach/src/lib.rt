@@ -2,7 +2,7 @@
 //!
 //! A walk from a node passes each node before its end. `Reach::new` finds the closure of a node and a set of roles, the nodes at which a
 //! walk from the node ends that passes no node of these roles, in time proportional to the edges that it follows. For each node the
-//! closure tells whether the node is in it, and gives such a walk.
+//! closure says whether the node is in it, and gives such a walk.
 //!
 //! Only the walks that are returned take memory.
 #![tactic(auto)]

@@ -34,7 +34,7 @@ impl<'g> Model for Reach<'g> {
 }
 
 impl<'g> Reach<'g> {
-    /// The nodes that can be reached from the node by walks that pass no node of these roles. Where the node has one of the roles,
+    /// The nodes that can be reached from the node by walks that pass no node of these roles. If the node has one of the roles,
     /// it alone is reached.
     pub fn new(graph: &'g Graph, from: NodeId, past: RoleSet) -> Reach<'g>
         requires { from < length graph.now.nodes }
@@ -82,7 +82,7 @@ impl<'g> Reach<'g> {
         found[node.0 as usize].is_some()
     }
 
-    /// The least reached node of the role, or `None` where none is reached.
+    /// The least reached node of the role, or `None` if none is reached.
     pub fn first_of(&self, role: Role) -> Option<NodeId>
         ensures { IsFirstOf self.now role result }
     {

@@ -3,7 +3,7 @@ ghost use Rattle.std.specs.Prelude.{◌≡◌, ◌+◌, ◌<◌, ℕ, get_or, le
 
 use sg_base::{Label, NodeId, RoleSet};
 
-/// A walk to a node: the number of its edges, and its last label, which means nothing where it has none.
+/// A walk to a node: the number of its edges, and its last label, which means nothing if it has none.
 #[derive(Debug, Clone, Copy)]
 pub struct WalkEnd {
     pub edges: u16,

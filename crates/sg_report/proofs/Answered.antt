@@ -1,4 +1,4 @@
--- What is told of a node's answer that sends no frame.
+-- What is reported of a node's answer that sends no frame.
 use Rattle.std.proofs.Common.{◌≡◌, ◌≢◌, ℕ, Option, Some, None, option_map, Result, Err, refl, sym, ◌∙◌, ap, subst}
 use Rattle.sg_protocol.specs.Calls as Protocol
 use Rattle.sg_protocol.specs.Calls.{Answer}
@@ -14,7 +14,7 @@ use Rattle.sg_node.specs.declared.fault.Refusal.TheVariants as refusals
 use Rattle.sg_report.specs.Reported.{Reported, NotStarted, NotActed, NotDelivered, reported_answer}
 use Rattle.sg_protocol.specs.Run.{frame_in}
 
--- the answer is one that sends nothing, and this is told of it
+-- the answer is one that sends nothing, and this is reported of it
 abbrev pub SendsNothing : ℕ → Answer → Option Reported → Type 0
 SendsNothing number a told = (told ≡ Some (reported_answer number a)) × (None ≡ frame_in a)
 
@@ -22,7 +22,7 @@ SendsNothing number a told = (told ≡ Some (reported_answer number a)) × (None
 abbrev pub Given : {F : Type 0} → Option F → Type 0
 Given {F} o = (f : F) × (o ≡ Some f)
 
--- what is told of a fault
+-- what is reported of a fault
 refused : {F : Type 0} (number : ℕ) (a : Answer) (g : F → Answer) (t : F → Reported) (o : Option F) → ((f : F) → reported_answer number (g f) ≡ t f) → ((f : F) → frame_in (g f) ≡ None) → Given o
     → IsAnswer a (option_map g o) → SendsNothing number a (option_map t o)
 refused number a g t o told frame f h =

@@ -11,7 +11,7 @@ use Rattle.sg_report.specs.Reported.{Reported, Happened, Sends, Abandoned, Craft
 abbrev pub graph_or_none : Option Graph → Graph
 graph_or_none graph = unwrap_or graph (record { name = []; roles = []; variables = []; nodes = []; edges = [] })
 
--- what came of a step, in a session of this name. Numbers have their names by the graph
+-- the outcome of a step, in a session of this name. Numbers have their names by the graph
 abbrev pub reported_text : (session : List ℕ) → Graph → Reported → List ℕ
 reported_text session g (Happened e) = event_text session g e ++ event_values g e
 reported_text session g (Sends e to frame) = event_text session g e ++ sent_to to frame ++ event_values g e

@@ -1,4 +1,4 @@
--- What came of a step, as the program holds it, as what is told of it.
+-- The outcome of a step, as the program holds it, as what is reported of it.
 use Rattle.std.specs.Prelude.{Option, Some, option_map}
 use Rattle.sg_node.specs.Faults.{start_fault, act_fault, refusal}
 use Rattle.sg_report.specs.Reported.{Reported, Happened, Sends, Abandoned, Crafted, NotStarted, NotActed, NotAbandoned, NotDelivered, NoFrame}
@@ -6,7 +6,7 @@ use Rattle.sg_report.specs.declared.outcome.Outcome.{Outcome}
 use Rattle.sg_report.specs.declared.outcome.Outcome.TheVariants as held
 use Rattle.sg_walk.specs.Model.{event_of}
 
--- what is told of an outcome. None for `OutOfMemory`, which is the fault of no outcome
+-- what is reported of an outcome. None for `OutOfMemory`, which is the fault of no outcome
 abbrev pub outcome_of : Outcome → Option Reported
 outcome_of (held.Started e) = Some (Happened (event_of e))
 outcome_of (held.Sent e to frame) = Some (Sends (event_of e) to frame)

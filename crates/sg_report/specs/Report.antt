@@ -1,4 +1,4 @@
--- The report of a replay: a line for each step, the two premises, and the walk of each session with an event.
+-- The report of a replay: a line for each step, the two assumptions, and the walk of each session with an event.
 use Rattle.std.specs.Prelude.{◌≡◌, ℕ, ◌+◌, Bool, true, false, ◌&&◌, if◌then◌else◌, List, [], ◌∷◌, ◌++◌, map, filter, flat_map, codes, Option, Some, None, unwrap_or, is_none, bytes_eq, All}
 use Rattle.std.specs.Fmt.{decimal}
 use Rattle.std.specs.Option.{option_map_or}
@@ -13,7 +13,7 @@ use Rattle.sg_report.specs.Reported.{Reported}
 
 -- ---- what is reported
 
--- a step: the principal, or None for a craft; the sid of the session that its line names, if it names one; the graph by which it names numbers; and what came of it
+-- a step: the principal, or None for a craft; the sid of the session that its line names, if it names one; the graph by which it names numbers; and the outcome
 pub record StepLine : Type 0 where
   pub who : Option Name
   pub session : Option (List ℕ)
@@ -26,7 +26,7 @@ pub record Forgery : Type 0 where
   pub one : Name
   pub two : Name
 
--- the steps; the declared sessions with their sids; the graph, the honest roles and the events of each session; and the premises
+-- the steps; the declared sessions with their sids; the graph, the honest roles and the events of each session; and the assumptions
 pub record Account : Type 0 where
   pub lines : List StepLine
   pub declared : List (Name × List ℕ)
@@ -55,7 +55,7 @@ abbrev pub lines_from : KnownSessions → ℕ → List StepLine → List ℕ
 lines_from m k [] = []
 lines_from m k (l ∷ ls) = line m k l ++ lines_from m (k + 1) ls
 
--- ---- the premises
+-- ---- the assumptions
 
 -- whether no tag of honest principals was forged
 abbrev pub unforged_line : Option Forgery → List ℕ
@@ -71,7 +71,7 @@ collision_line false = codes "premise collision-free broken\n"
 abbrev pub premise_lines : Option Forgery → (collision_free : Bool) → List ℕ
 premise_lines forged collision_free = unforged_line forged ++ collision_line collision_free
 
--- both premises hold
+-- both assumptions hold
 abbrev pub premises_hold : Account → Bool
 premises_hold a = is_none a.forged && a.collision_free
 
@@ -88,7 +88,7 @@ walk_of a w = walk_line (name_in (met a) w.sid) (a.graph_of w.sid) (a.honest_in 
 
 -- ---- the report
 
--- the text with these walks, which stand there where both premises hold
+-- the text with these walks, which stand there if both assumptions hold
 abbrev pub report_text : Account → List SessionWalk → List ℕ
 report_text a walks = lines_from (met a) 1 a.lines ++ premise_lines a.forged a.collision_free ++ (if premises_hold a then flat_map (walk_of a) walks else [])
 
@@ -105,7 +105,7 @@ pub record AreWalks (a : Account) (walks : List SessionWalk) : Type 0 where
   pub sessions : map (λ w. w.sid) walks ≡ sids_met (met a)
   pub explain : All (Explains a) walks
 
--- the text of the steps and the premises, and where both hold of walks that explain the sessions
+-- the text of the steps and the assumptions, and if both hold of walks that explain the sessions
 pub record IsReport (a : Account) (text : List ℕ) : Type 0 where
   pub walks : List SessionWalk
   pub right : premises_hold a ≡ true → AreWalks a walks

@@ -16,8 +16,8 @@ use sg_text::{put_event, put_event_values, put_sent_to};
 use sg_walk::Event;
 use std::alloc::Global;
 
-/// The line of a step: its number, counted from 1, the principal, and what came of it, in a session of this name. Where a role, a
-/// label or a variable is told by its number, the graph has to be given that has it. A craft is nobody's. A node's `OutOfMemory` is
+/// The line of a step: its number, counted from 1, the principal, and the outcome, in a session of this name. If a role, a
+/// label or a variable is named by its number, the graph has to be given that has it. A craft is nobody's. A node's `OutOfMemory` is
 /// the call's.
 pub fn report_line(
     alloc: Global,
@@ -67,7 +67,7 @@ fn put_whom(out: &mut ByteOut, who: &[u8], outcome: &Outcome) -> Result<(), OutO
     }
 }
 
-// Writes what came of a step.
+// Writes the outcome of a step.
 fn put_reported(
     out: &mut ByteOut,
     session: &[u8],

@@ -1,4 +1,4 @@
-//! What came of a step.
+//! The outcome of a step.
 ghost use Rattle.std.specs.Prelude.{◌≡◌, option_and_then, option_map};
 ghost use Rattle.sg_protocol.specs.Calls.{sid_of};
 ghost use Rattle.sg_report.specs.Outcome.{outcome_of};
@@ -8,7 +8,7 @@ use sg_base::{Name, Sid};
 use sg_node::{ActFault, Refusal, StartFault};
 use sg_walk::{Event, sid_of};
 
-/// What came of a step. No fault in it is `OutOfMemory`.
+/// The outcome of a step. No fault in it is `OutOfMemory`.
 #[derive(Debug, Drop)]
 pub enum Outcome {
     /// The principal started a session.
@@ -43,7 +43,7 @@ pub enum Outcome {
     NoFrame,
 }
 
-/// The session of the event that an outcome tells, if it tells one.
+/// The session of the event of an outcome, if it has one.
 pub fn sid_reported(outcome: &Outcome) -> Option<Sid>
     ensures told { result ≡ option_and_then sid_reported (outcome_of outcome.now) }
     ensures event { result ≡ option_map sid_of (option_and_then event_reported (outcome_of outcome.now)) }

@@ -1,4 +1,4 @@
-//! The lines of the two premises.
+//! The lines of the two assumptions.
 ghost use Rattle.std.specs.Prelude.{◌≡◌, ◌++◌, ◌∷◌, [], OnOk, Some, codes};
 ghost use Rattle.std.specs.Option.{option_copied, option_map};
 ghost use Rattle.sg_report.specs.Model.{forgery_of};
@@ -18,7 +18,7 @@ pub struct Forgery {
     pub two: Name,
 }
 
-/// Writes the two lines that say whether the premises hold.
+/// Writes the two lines that say whether the assumptions hold.
 pub fn put_premises(
     out: &mut ByteOut,
     forged: Option<&Forgery>,

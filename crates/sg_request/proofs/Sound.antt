@@ -17,7 +17,7 @@ use Rattle.sg_request.specs.declared.request.Request.TheVariants.{Start, Act, Ab
 use Rattle.sg_request.specs.Request.{session, version, start_form, act_form, receive_form, session_form, quit_form, short_form, form, request_words, session_word, is_request, is_session}
 use Rattle.sg_request.proofs.WordLaws.{session_is, version_is, cast_is}
 
--- the words are those of the request, and each place holds what it may hold
+-- the words are those of the request, and each field holds what it may hold
 pub record Says (ws : WordsLeft) (r : Request) : Type 0 where
   pub words : ws ≡ request_words r
   pub indices : is_request r ≡ true

@@ -85,7 +85,7 @@ form (w ∷ ws) =
 abbrev pub content : (line : List ℕ) → List ℕ
 content line = without_last 13 line
 
--- what a line asks for, which has come without its line feed, or nothing where it is of no form
+-- what a line asks for, which has come without its line feed, or nothing if it is of no form
 abbrev pub request_of : (line : List ℕ) → Option Request
 request_of line = form (words (content line))
 
@@ -115,7 +115,7 @@ is_session n = nat_le 1 n && nat_le n 4294967295
 abbrev pub is_cast : List Name → Bool
 is_cast names = nat_le 2 (length names) && nat_le (length names) most_roles && are_names names
 
--- each place of a request holds what it may hold
+-- each field of a request holds what it may hold
 abbrev pub is_request : Request → Bool
 is_request (Start graph version names) = is_name graph && (version == 1 || version == 2) && is_cast names
 is_request (Act n label values) = is_session n && is_name label && list_all is_given values
@@ -127,7 +127,7 @@ is_request (Turn n) = is_session n
 is_request (Id n) = is_session n
 is_request Quit = true
 
--- the words of the line are those of the request, and each place holds what it may hold
+-- the words of the line are those of the request, and each field holds what it may hold
 pub record Asks (line : List ℕ) (r : Request) : Type 0 where
   pub spelled : words (content line) ≡ request_words r
   pub indices : IsTrue (is_request r)

@@ -16,7 +16,7 @@
 //! needless zero. A line that is of none of these forms asks for nothing.
 //!
 //! What a line asks for stands in `specs/Request`. Values stay as they are written, since the session's graph says of which type they are, and
-//! names stay names: whether there is such a graph, session, label or variable is not asked here. Each byte is read once, or twice where a
+//! names stay names: whether there is such a graph, session, label or variable is not asked here. Each byte is read once, or twice if a
 //! value is tested and then kept.
 #![tactic(auto)]
 

@@ -12,7 +12,7 @@ use sg_sched::word::read_name;
 use sg_sched::{Words, read_assignments, read_cast};
 use std::alloc::Global;
 
-/// What a line asks for, given without its line feed, or `None` where it is of no form. It takes memory for the names of a `start` and for
+/// What a line asks for, given without its line feed, or `None` if it is of no form. It takes memory for the names of a `start` and for
 /// the values of an `act`.
 pub fn read_request<'a>(alloc: Global, line: &'a [u8]) -> Result<Option<Request<'a>>, OutOfMemory>
     ensures { IfOk result (λ o. o ≡ request_of line.now) }

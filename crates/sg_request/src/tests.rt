@@ -88,7 +88,7 @@ fn each_form_is_read_and_what_comes_near_is_not(rt: HostRuntime) -> Result<(), F
     Ok(())
 }
 
-// Whether the line asks for what is spelled with single spaces, or for nothing where that is `-`.
+// Whether the line asks for what is spelled with single spaces, or for nothing if that is `-`.
 fn asks(alloc: Global, line: &[u8], spelled: &[u8]) -> Result<bool, OutOfMemory> {
     let mut out = ByteOut::new(alloc);
     match read_request(alloc, line)? {

@@ -26,7 +26,7 @@ none (e ∷ es) n (suc k) l h q = let a = or_parts (e.source == n) (list_any (λ
 pub goes_on_by : (g : Graph) (n k : ℕ) → k < length g.edges → (source (shape g) k == n) ≡ true → goes_on g n ≡ true
 goes_on_by g n k l h = leads g.edges n k l h
 
--- where none of the first edges and not the next one leaves the node, none of one more does
+-- if none of the first edges and not the next one leaves the node, none of one more does
 pub none_goes_on : (g : Graph) (n k : ℕ) → k < length g.edges → list_any (λ (e : Edge). e.source == n) (take k g.edges) ≡ false → (source (shape g) k == n) ≡ false → list_any (λ (e : Edge). e.source == n) (take (k + 1) g.edges) ≡ false
 none_goes_on g n k l h q = ap (λ j. list_any (λ (e : Edge). e.source == n) (take j g.edges)) (later k) ∙ none g.edges n k l h q
   where

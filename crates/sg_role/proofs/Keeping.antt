@@ -23,7 +23,7 @@ module _ (n : ℕ) (earlier : Map (List ℕ)) (x : Item) (rest later : List Item
       kept_from n earlier (x ∷ rest ++ later) ≡ record x { delta = in_order n (merge earlier x.delta) } ∷ kept_from n [] (rest ++ later)
   kept_once h = rw (has-append (λ (i : Item). i.role) x.role rest later ∙ h) refl
 
--- ---- a list that is made of them: what is in it and what is still kept of the items from a place on is all that is kept
+-- ---- a list that is made of them: what is in it and what is still kept of the items from an index on is all that is kept
 
 module _ (n : ℕ) (items later : List Item) (at : ℕ) (i : Item) (l : at < length items) (e : i ≡ get_or items at i) (list : List Item) (earlier : Map (List ℕ)) (all : List Item)
     (inv : list ++ kept_from n earlier (drop at items ++ later) ≡ all) where

@@ -1,4 +1,4 @@
--- Numbers from 0 on, what stands at a place of a list, and what is kept of one that grows.
+-- Numbers from 0 on, what stands at an index of a list, and what is kept of one that grows.
 use Rattle.std.proofs.Common.{◌≡◌, ℕ, zero, suc, ◌+◌, ◌<◌, ◌≤◌, Bool, true, false, not, nat_lt, List, [], ◌∷◌, ◌++◌, map, length, take, drop, get_or, slice_get, refl, ◌∙◌, ap, Some, None, option_map, position, if◌then◌else◌, arith, inl, inr}
 use Rattle.std.specs.List.{prefix_len}
 use Rattle.std.proofs.lemmas.Bool.{cases_Bool}
@@ -15,11 +15,11 @@ const_more a i = ap (map (λ (x : ℕ). a)) (below-suc i) ∙ go (below i)
     go [] = refl
     go (x ∷ xs) = ap (λ l. a ∷ l) (go xs)
 
--- what is told of each number below one more
+-- what is given for each number below one more
 pub map_below : {A : Type 0} (f : ℕ → A) (i : ℕ) → map f (below (i + 1)) ≡ map f (below i) ++ f i ∷ []
 map_below f i = map_below_more f i
 
--- ---- places
+-- ---- indices
 
 pub take_over : {A : Type 0} (xs : List A) (at : ℕ) → length xs ≤ at → take at xs ≡ xs
 take_over [] zero l = refl
@@ -27,7 +27,7 @@ take_over [] (suc at) l = refl
 take_over (x ∷ xs) zero l = absurd (omega (arith, l))
 take_over (x ∷ xs) (suc at) l = ap (λ r. x ∷ r) (take_over xs at (omega (arith, l)))
 
--- where more is left, something stands at the place
+-- if more is left, something stands at the index
 pub drop_more : {A : Type 0} (xs : List A) (at : ℕ) → at < length xs → (x : A) × (ys : List A) × (drop at xs ≡ x ∷ ys)
 drop_more [] at l = absurd (omega (arith, l))
 drop_more (x ∷ xs) zero l = (x, xs, refl)

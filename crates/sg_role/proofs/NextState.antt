@@ -93,7 +93,7 @@ module _ (p : Program) (ip : IsProgram real p) (h : Held) (mine : h.role ≡ p.r
       };
     }
 
-    -- where no row holds, the next state is one at the role's turn
+    -- if no row holds, the next state is one at the role's turn
     pub turn_next : (keys : Keyring) → f.version ≡ h.cast.version → first_some (rows_from keys p h f) ≡ None → HoldsTurn (record { program = p; held = held_after p.graph h (Took f) })
     turn_next keys v none =
         let s = b.reachable.session in

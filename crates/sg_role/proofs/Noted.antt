@@ -120,7 +120,7 @@ module _ (keys : Keyring) (p : Program) (h : Held) (f : Frame) where
   abbrev its_hashed : List (List ℕ)
   its_hashed = map (commitment_text_of h.sid) (hashed_from p.graph h.sid (overwritten_by h.kept.commitments f.items) f.openings)
 
-  -- what is noted where the verdict is row k
+  -- what is noted if the verdict is row k
   abbrev pub NotedAt : ℕ → Notes → Notes → Type 0
   NotedAt k old new = new ≡ with_notes old (notes_from keys p h f k)
 

@@ -1,4 +1,4 @@
--- What is held is the same where its parts are.
+-- What is held is the same if its parts are.
 use Rattle.std.proofs.Common.{◌≡◌}
 use Rattle.sg_protocol.specs.Representation.{Held}
 

@@ -6,7 +6,7 @@ use Rattle.sg_protocol.specs.Frame.{Frame, IsTag, tag_len}
 use Rattle.sg_protocol.specs.Spelling.{IsInRange, HasSpelling, spelling, body}
 use Rattle.sg_model.specs.Bytes.{AreBytes}
 
--- the front of the bytes and the tag are the frame with this tag
+-- the prefix of the bytes and the tag are the frame with this tag
 pub tag_put : (f : Frame) (bytes tag : List ℕ) (len : ℕ) → tag_len f.version ≤ length bytes → len ≡ length bytes - tag_len f.version → take len bytes ≡ body f →
     take len bytes ++ take (length bytes - len) tag ≡ spelling (record f { tag = tag })
 tag_put f bytes tag len l e b = ap (λ z. z ++ take (length bytes - len) tag) b ∙ ap (λ n. body f ++ take n tag) (left (length bytes) (tag_len f.version) len l e)

@@ -1,4 +1,4 @@
--- What is shown and kept, place by place.
+-- What is shown and kept, item by item.
 use Rattle.std.proofs.Common.{◌≡◌, ℕ, zero, suc, ◌+◌, ◌-◌, length-drop, slice_set, slice_get, if◌then◌else◌, ◌<◌, ◌≤◌, ◌==◌, ◌||◌, Bool, true, false, List, [], ◌∷◌, ◌++◌, map, filter, filter_map, length, drop, take, get_or, refl, sym, ◌∙◌, ap, Option, Some, None, option_map, arith, inl, inr, add-one, append_assoc, append-nil}
 use Rattle.std.specs.List.{cons_option, list_any}
 use Rattle.std.proofs.lemmas.Bool.{eqb-true, eq-eqb, ne_eqb, or_parts}
@@ -24,7 +24,7 @@ pub after_none : (xs : List Item) (k : ℕ) → has (λ (i : Item). i.role) k xs
 after_none [] k h = refl
 after_none (y ∷ ys) k h = let p = or_parts (y.role == k) (has (λ (i : Item). i.role) k ys) h in rw (p.1, p.0) refl
 
--- where the role has an item at the front or later, the front one doesn't come after the last
+-- if the role has an item at the front or later, the front one doesn't come after the last
 pub after_step : (x : Item) (rest : List Item) (k : ℕ) → has (λ (i : Item). i.role) k (x ∷ rest) ≡ true → after_last (λ (i : Item). i.role) k (x ∷ rest) ≡ after_last (λ (i : Item). i.role) k rest
 after_step x rest k h = elim (cases_Bool (has (λ (i : Item). i.role) k rest)) [
   | inl q ↦ rw q refl

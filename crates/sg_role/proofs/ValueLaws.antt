@@ -85,7 +85,7 @@ none_above g label n vs x a v l = sym (bad_unwritten g label vs x unwritten) ∙
     unwritten : is_in x (writes g label) ≡ false
     unwritten = elim (cases_Bool (is_in x (writes g label))) [ inl e ↦ absurd (let m : x < n = number_in n (writes g label) x a e in omega (arith, l, m)) | inr e ↦ e ]
 
--- ---- what is told of each
+-- ---- what is said of each
 
 pub all_suc : {A B : Type 0} (P : B → Type 0) (f : A → B) (xs : List A) (at : ℕ) (x : A) → at < length xs → x ≡ get_or xs at x → AllByRecursion P (map f (take at xs)) → P (f x) → AllByRecursion P (map f (take (suc at) xs))
 all_suc P f [] at x l e a p = absurd (omega (arith, l))

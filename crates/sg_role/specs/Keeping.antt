@@ -4,7 +4,7 @@ use Rattle.sg_model.specs.Last.{Map, has, merge}
 use Rattle.sg_model.specs.Lists.{in_order}
 use Rattle.sg_protocol.specs.Frame.{Item}
 
--- the last item of each sender, with what was written since the one before it in the order of n variables, where the first takes over what was written earlier
+-- the last item of each sender, with what was written since the one before it in the order of n variables; the first takes over what was written earlier
 abbrev pub kept_from : ℕ → Map (List ℕ) → List Item → List Item
 kept_from n earlier [] = []
 kept_from n earlier (x ∷ xs) =

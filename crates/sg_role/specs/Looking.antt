@@ -94,7 +94,7 @@ rows_from keys p h f =
 abbrev pub found_items : Keyring → Held → List Item → List Note
 found_items keys h items = map (λ (c : Item × List ℕ). note_of keys.me (principal h.cast (c.0).role) c.1) (take_while (has_item_tag real keys (bare h)) (texts_from h h.kept.commitments items))
 
--- what is noted where the verdict is row k
+-- what is noted if the verdict is row k
 abbrev pub notes_from : Keyring → Program → Held → Frame → ℕ → Notes
 notes_from keys p h f k = record {
   made = [];

@@ -32,12 +32,12 @@ abbrev pub frame_made : Sent → Name × List ℕ
 frame_made (Waiting a e f) = f
 frame_made (Ended d e f) = f
 
--- the role waits for a turn with this state where it may return, and otherwise has ended
+-- the role waits for a turn with this state if it may return, and otherwise has ended
 abbrev pub WaitsOrEnds : Bool → RoleState → Sent → Type 0
 WaitsOrEnds returns state (Waiting a e f) = (returns ≡ true) × (a ≡ state)
 WaitsOrEnds returns state (Ended d e f) = returns ≡ false
 
--- the role is at its turn with this state where the place leads on, and otherwise has ended
+-- the role is at its turn with this state if the place leads on, and otherwise has ended
 abbrev pub TurnsOrEnds : Bool → RoleState → Taken → Type 0
 TurnsOrEnds leads_on state (Turn t) = (leads_on ≡ true) × (t ≡ state)
 TurnsOrEnds leads_on state (Done d) = leads_on ≡ false

@@ -15,7 +15,7 @@ use sg_frame::Item;
 use std::alloc::Global;
 use std::slice::from_ref;
 
-/// The kept items with the role's own one, where the graph has `count` variables.
+/// The kept items with the role's own one, if the graph has `count` variables.
 pub(crate) fn items_with(
     alloc: Global,
     count: u8,
@@ -39,7 +39,7 @@ pub(crate) fn shown_to(alloc: Global, items: &[Item], to: Role) -> Result<Seq<It
     Ok(list)
 }
 
-// The place after the last item of a role.
+// The index after the last item of a role.
 #[tactic(auto, using(crate::proofs::Showing::after_none, crate::proofs::Showing::after_step))]
 fn index_after(items: &[Item], role: Role) -> usize
     ensures there { result ≤ length items.now }
@@ -98,7 +98,7 @@ pub(crate) fn vars_of(alloc: Global, set: VarSet) -> Result<Vec<Var>, OutOfMemor
     Ok(list)
 }
 
-/// The openings of these variables, where the written ones take precedence.
+/// The openings of these variables: the written ones take precedence.
 pub(crate) fn openings_of(
     alloc: Global,
     vars: &[Var],
@@ -126,7 +126,7 @@ pub(crate) fn take_over(openings: &mut Vec<Option<Opening>>, mut written: Vec<Op
     }
 }
 
-// Puts an opening at its variable's place.
+// Puts an opening at its variable's index.
 #[tactic(auto, using(crate::proofs::Showing::set_beyond))]
 fn put(openings: &mut Vec<Option<Opening>>, opening: Opening)
     ensures { openings.new.items ≡ slice_set openings.old.items opening.variable (Some opening) }

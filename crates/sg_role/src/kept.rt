@@ -78,7 +78,7 @@ impl<'p> KeptState<'p> {
         })
     }
 
-    /// The principal of a role, or `None` where the role isn't one of the cast. It takes no memory.
+    /// The principal of a role, or `None` if the role isn't one of the cast. It takes no memory.
     #[tactic(auto, using(crate::proofs::Lists::got, crate::proofs::Lists::not_got))]
     pub fn principal(&self, role: Role) -> Option<Name>
         ensures there { IfSome result (λ n. nat_lt role (length self.now.cast.names) ≡ true) }

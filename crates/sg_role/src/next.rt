@@ -25,7 +25,7 @@ use sg_walk::Event;
 use std::alloc::Global;
 use std::rc::Rc;
 
-/// What is kept after a frame that shows what the role can be shown, where these are the commitments with its items.
+/// What is kept after a frame that shows what the role can be shown, if these are the commitments with its items.
 pub(crate) fn after_frame<'p>(
     alloc: Global,
     kept: &KeptState<'p>,
@@ -110,7 +110,7 @@ fn values_shown(alloc: Global, openings: &[Opening]) -> Result<Seq<(Var, Value)>
 
 // ---- items
 
-/// The items that are kept of these and, after them, of more, where the graph has `count` variables.
+/// The items that are kept of these and, after them, of more, if the graph has `count` variables.
 pub(crate) fn kept_with(
     alloc: Global,
     count: u8,
@@ -125,7 +125,7 @@ pub(crate) fn kept_with(
     Ok(list)
 }
 
-// Puts the items that have no later one of their sender at the end of a list, where this was written before them and these come later. It
+// Puts the items that have no later one of their sender at the end of a list, if this was written before them and these come later. It
 // gives what was written since the last of them.
 fn keep_each(
     alloc: Global,
@@ -150,7 +150,7 @@ fn keep_each(
     Ok(earlier)
 }
 
-// An item from a place on, or a later one, is of the role.
+// An item from an index on, or a later one, is of the role.
 fn comes_again(items: &[Item], from: usize, later: &[Item], role: Role) -> bool
     requires { from ≤ length items.now }
     ensures { result ≡ (has (λ i. i.role) role (drop from items.now) || has (λ i. i.role) role later.now) }
@@ -217,7 +217,7 @@ pub(crate) fn has_role(items: &[Item], role: Role) -> bool
 
 // ---- openings
 
-// The openings of `count` variables, where those that are shown take precedence.
+// The openings of `count` variables: those that are shown take precedence.
 #[tactic(auto, using(crate::proofs::Lists::map_below))]
 fn openings_with(
     alloc: Global,
@@ -248,7 +248,7 @@ fn opening_with(
     }
 }
 
-/// The opening of a variable, where those that are shown take precedence.
+/// The opening of a variable: those that are shown take precedence.
 pub(crate) fn opening_of<'a>(
     openings: &'a [Option<Opening>],
     shown: &'a [Opening],

@@ -243,7 +243,7 @@ pub(crate) fn name_of(cast: &SharedCast, role: Role) -> Name
     cast.get().names()[role.0 as usize]
 }
 
-/// The tag of a text under the key shared with a principal, or under no bytes where none is shared, as the version sends it; and the two
+/// The tag of a text under the key shared with a principal, or under no bytes if none is shared, as the version sends it; and the two
 /// that share a key.
 pub(crate) fn tag_to<'k>(
     keys: &'k Keyring,

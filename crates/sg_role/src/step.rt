@@ -237,7 +237,7 @@ fn untagged(
     })
 }
 
-// The cast, where the role has no item yet.
+// The cast, if the role has no item yet.
 fn join_for(kept: &KeptState, to: Role) -> Result<Option<SharedCast>, OutOfMemory>
     ensures { IfOk result (λ join. join ≡ (if has (λ j. j.role) to kept.now.items.items then None else Some kept.now.cast)) }
 {
@@ -288,7 +288,7 @@ fn seal(
     Ok(Sealed::seal(peer, with_tag(bytes, len, &made)))
 }
 
-// The bytes with the prefix of a tag in the place of what stands from there on.
+// The bytes with a prefix of a tag in the place of what stands from there on.
 fn with_tag(mut bytes: Vec<u8>, from: usize, tag: &Tag) -> Vec<u8>
     requires from { from ≤ length bytes.items }
     requires fits { length bytes.items ≤ from + 32 }
@@ -299,7 +299,7 @@ fn with_tag(mut bytes: Vec<u8>, from: usize, tag: &Tag) -> Vec<u8>
     bytes
 }
 
-// Puts the prefix of a tag in the place of what stands from there on.
+// Puts a prefix of a tag in the place of what stands from there on.
 fn put_tag(bytes: &mut [u8], from: usize, tag: &Tag)
     requires from { from ≤ length bytes.old }
     requires fits { length bytes.old ≤ from + 32 }

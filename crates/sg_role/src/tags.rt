@@ -62,7 +62,7 @@ fn text_of_frame(alloc: Global, frame: &Frame, bytes: &[u8]) -> Result<Vec<u8>, 
     frame_text(alloc, frame.version, body)
 }
 
-// Whether this is the tag of a text under the key shared with a principal, or under no bytes where none is shared; and the two that share
+// Whether this is the tag of a text under the key shared with a principal, or under no bytes if none is shared; and the two that share
 // a key.
 fn is_tag<'k>(
     keys: &'k Keyring,
@@ -82,7 +82,7 @@ fn is_tag<'k>(
     }
 }
 
-/// The note of a text for the principal of a keyring and a peer, where the two may have been found as a pair.
+/// The note of a text for the principal of a keyring and a peer, if the two may have been found as a pair.
 pub(crate) fn note_for(
     alloc: Global,
     keys: &Keyring,

@@ -35,7 +35,7 @@ impl<'p> Model for Turn<'p> {
 }
 
 impl<'p> Turn<'p> {
-    /// The first turn of the role that starts the graph. It gives both back exactly where the ticket is of another session or role, the
+    /// The first turn of the role that starts the graph. It gives both back exactly if the ticket is of another session or role, the
     /// role isn't the start node's, or it has sent a step. It takes no memory.
     pub fn begin(ticket: Ticket, before: Before<'p>) -> Result<Turn<'p>, (Ticket, Before<'p>)>
         ensures fits { IsErr result ↔ (¬ ((ticket ≡ (before.entry.held.sid, before.entry.held.role))

@@ -140,7 +140,7 @@ fn is_out_of_order(values: &[(Var, Value)], var: Var) -> bool
     false
 }
 
-// The variable stands after the place, at which one stands that is not less.
+// The variable stands after the index, at which one stands that is not less.
 fn represents_after(values: &[(Var, Value)], at: usize, var: Var) -> bool
     requires { at < length values.now }
     ensures { is_out_of_order var (keys_of (values_of (drop at values.now))) ≡ (result || is_out_of_order var (keys_of (values_of (drop (at + 1) values.now)))) }

@@ -22,7 +22,7 @@ use sg_program::Program;
 use sg_vis::{Seen, ViewId};
 use std::alloc::Global;
 
-/// The number of the view that a frame shows, where its items have the roles and tags, and its openings the variables, that go with it.
+/// The number of the view that a frame shows, if its items have the roles and tags, and its openings the variables, that go with it.
 pub(crate) fn find_view(alloc: Global, kept: &KeptState, frame: &Frame) -> Result<ViewId, Refusal>
     requires { HasSpelling frame.now }
     ensures found { IfOk result (λ id. slice_get (state_of kept.now).program.views id

@@ -35,7 +35,7 @@ impl<'p> Model for Await<'p> {
 }
 
 impl<'p> Await<'p> {
-    /// The first wait of a role that doesn't start the graph. It gives both back exactly where the ticket is of another session or role,
+    /// The first wait of a role that doesn't start the graph. It gives both back exactly if the ticket is of another session or role,
     /// the role has sent a step, or it is the start node's. It takes no memory.
     pub fn join(ticket: Ticket, before: Before<'p>) -> Result<Await<'p>, (Ticket, Before<'p>)>
         ensures fits { IsErr result ↔ (¬ ((ticket ≡ (before.entry.held.sid, before.entry.held.role))
@@ -58,7 +58,7 @@ impl<'p> Await<'p> {
         &self.before
     }
 
-    /// Takes a frame that was accepted. It gives both back exactly where the frame was looked at by a role that held something else. It
+    /// Takes a frame that was accepted. It gives both back exactly if the frame was looked at by a role that held something else. It
     /// takes no memory.
     pub fn accept(
         self,
@@ -76,7 +76,7 @@ impl<'p> Await<'p> {
         }
     }
 
-    /// Takes a frame that was accepted where the role held what it holds. It takes no memory.
+    /// Takes a frame that was accepted if the role held what it holds. It takes no memory.
     pub fn accept_unchecked(self, accepted: Accepted<'p>) -> (Event, Taken<'p>)
         requires fits { accepted.before ≡ self.held }
         ensures event { event_of result.0 ≡ accepted.entry.event }

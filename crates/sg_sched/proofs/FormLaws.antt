@@ -71,7 +71,7 @@ name_ok n h = rw h refl
 
 -- ---- forms
 
--- the words of the line are those of what it says, and each place holds what it may hold
+-- the words of the line are those of what it says, and each field holds what it may hold
 pub record Fits (ws : WordsLeft) (s : LineContent) : Type 0 where
   pub words : ws ≡ line_words s
   pub form : is_form s ≡ true

@@ -50,7 +50,7 @@ never_closed [] (y ∷ ys) c r a p e = cc
 never_closed (x ∷ xs) [] c r a p e = contradicts (and_left (not (closes x)) _ a) (ap (λ l. not (closes l)) (head_same e) ∙ ap not p)
 never_closed (x ∷ xs) (y ∷ ys) c r a p e = never_closed xs ys c r (and_right (not (closes x)) _ a) p (tail_same e)
 
--- two blocks at the same index have the same text
+-- two blocks at the same position have the same text
 pub one_text : (before : List Item) (block block' rest rest' : List Line) (text text' : List ℕ) → (b : IsBlock before block text) (b' : IsBlock before block' text') → block ++ rest ≡ block' ++ rest' → text ≡ text'
 one_text before block block' rest rest' text text' b b' e =
     let all : b.opening ∷ (b.inner ++ b.closing ∷ rest) ≡ b'.opening ∷ (b'.inner ++ b'.closing ∷ rest') = sym (laid before block rest text b) ∙ e ∙ laid before block' rest' text' b' in

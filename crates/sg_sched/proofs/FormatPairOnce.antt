@@ -58,7 +58,7 @@ prefix_edge : {before all : List Item} {ls : List Line} → Prefix before ls all
 prefix_edge Done h = h
 prefix_edge (More {before = b} {new = n} a f) h = prefix_edge f (edge_kept b n h)
 
--- where an edge is declared, the edges make the graph `pair`
+-- if an edge is declared, the edges make the graph `pair`
 pair_of : (is : List Item) → some_edge is ≡ true → has_text (codes "pair") (graph_names (graphs_of (edges is))) ≡ true
 pair_of [] h = absurd (cc)
 pair_of (EdgeItem e ∷ is) h = refl
@@ -90,7 +90,7 @@ edge_then before all _ more line label from to (More {rest = r} (Say {line = l} 
     inside i None = i
     inside i (Some x) = x
 
--- no block of a graph named `pair` is right where an edge is declared
+-- no block of a graph named `pair` is right if an edge is declared
 no_pair : (before all : List Item) (ls block rest : List Line) (text : List ℕ) (g : Graph) → Prefix before ls all → some_edge before ≡ true → IsBlock before block text → SpellsGraph text g → g.name ≡ codes "pair" → ls ≡ block ++ rest → ⊥
 no_pair before all _ block rest text g Done h b spells named e = never (e ∙ laid before block rest text b)
   where

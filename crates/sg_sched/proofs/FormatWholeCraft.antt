@@ -16,7 +16,7 @@ use Rattle.sg_sched.proofs.FormatItemReading.{items_said, items_complete}
 
 -- ---- the end
 
--- the source, where no word is left
+-- the source, if no word is left
 abbrev pub none_left : TagSource → List Word → Option TagSource
 none_left s [] = Some s
 none_left s (w ∷ ws) = None

@@ -73,7 +73,7 @@ names_more prefix t parts h =
 pub names_end : (prefix : List (List ℕ)) → all_differ prefix ≡ true → names_with prefix [] ≡ Some prefix
 names_end prefix h = ap (λ l. if all_differ l then Some l else None) (append-nil prefix) ∙ ap (λ b. if b then Some prefix else None) h
 
--- the same, where a name was read from the first part
+-- the same, if a name was read from the first part
 pub read_twice : (all : Option (List (List ℕ))) (prefix parts rest : List (List ℕ)) (t name : List ℕ) → all ≡ names_with prefix parts → parts ≡ t ∷ rest → name ≡ t → has_text name prefix ≡ true → None ≡ all
 read_twice all prefix parts rest t name a p n h =
     sym (a ∙ ap (names_with prefix) p ∙ names_twice prefix t rest (subst (λ x. has_text x prefix ≡ true) n h))

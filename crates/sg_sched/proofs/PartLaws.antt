@@ -141,7 +141,7 @@ session_sound ws s h =
 
 -- ---- acts
 
--- a byte before the front
+-- a byte before the prefix
 abbrev in_front : ℕ → Word × Word → Word × Word
 in_front c p = (c ∷ p.0, p.1)
 
@@ -149,7 +149,7 @@ split_before : (mark c : ℕ) (cs f b : Word) → (o : Option (Word × Word)) �
 split_before mark c cs f b None ih h = none_some h
 split_before mark c cs f b (Some p) ih h = ap (λ (r : Word). c ∷ r) (ih p.0 p.1 refl) ∙ ap (λ (q : Word × Word). q.0 ++ mark ∷ q.1) (some_same h)
 
--- what is found before an empty front
+-- what is found before an empty prefix
 abbrev found_first : Word → Option (Word × Word)
 found_first cs = Some ([], cs)
 

@@ -10,7 +10,7 @@ use Rattle.sg_model.specs.Names.{Name}
 
 -- ---- the last mark
 
--- where what is behind an index is split, the whole is
+-- if what is behind an offset is split, the whole is
 pub split_prefix : (mark n : ℕ) (w prefix back : Word) → n ≤ length w → split_last mark (drop n w) ≡ Some (prefix, back) → split_last mark w ≡ Some (take n w ++ prefix, back)
 split_prefix mark zero w prefix back l h = h
 split_prefix mark (suc n) [] prefix back l h = absurd (omega arith)

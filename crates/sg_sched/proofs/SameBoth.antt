@@ -20,7 +20,7 @@ same_both a b = eq-value.it a b
 pub same_both_is : (one two : Name) (k : PairKey) → same_both (record { one = one; two = two }) (both_of k) ≡ is_of one two k
 same_both_is one two k = λ i. same_is one i k.one && same_is two i k.two
 
--- the set has a pair where a key of the list is of it
+-- the set has a pair if a key of the list is of it
 pub any_both : (one two : Name) (keys : List PairKey) → list_any (same_both (record { one = one; two = two })) (map both_of keys) ≡ list_any (is_of one two) keys
 any_both one two [] = refl
 any_both one two (k ∷ ks) = λ i. same_both_is one two k i || any_both one two ks i

@@ -6,7 +6,7 @@ use Rattle.sg_sched.specs.Format.Said.{Word}
 use Rattle.sg_sched.specs.Format.Reading.{split_at, split_step}
 use Rattle.sg_sched.proofs.TextLaws.{index, index_yes, index_no}
 
--- what stands before index n and behind it, where there is such an index
+-- what stands before offset n and behind it, if there is such an offset
 abbrev pub split_there : ℕ → Word → Option (Word × Word)
 split_there n w = if nat_lt n (length w) then Some (take n w, drop (n + 1) w) else None
 
@@ -39,13 +39,13 @@ drop_twice zero w = refl
 drop_twice (suc n) [] = let next : suc n + 1 ≡ suc (n + 1) = omega arith in rw next refl
 drop_twice (suc n) (c ∷ cs) = let next : suc n + 1 ≡ suc (n + 1) = omega arith in rw next (drop_twice n cs)
 
--- where there is no mark
+-- if there is no mark
 pub split_none : (mark n : ℕ) (w : Word) → n ≡ index mark w → length (drop n w) < 1 → split_at mark w ≡ None
 split_none mark n w e h =
     let there : nat_lt n (length w) ≡ false = grind (arith, common_steps) in
     splits mark w ∙ ap (λ m. split_there m w) (sym e) ∙ ap (λ b. if b then Some (take n w, drop (n + 1) w) else None) there
 
--- where there is one
+-- if there is one
 pub split_some : (mark n : ℕ) (w : Word) → n ≡ index mark w → 1 ≤ length (drop n w) → split_at mark w ≡ Some (take n w, take (length (drop n w) - 1) (drop 1 (drop n w)))
 split_some mark n w e h =
     let there : nat_lt n (length w) ≡ true = grind (arith, common_steps) in

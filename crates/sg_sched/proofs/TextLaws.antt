@@ -6,7 +6,7 @@ use Rattle.std.proofs.lemmas.List.{length-take-le, take_all}
 use Rattle.std.proofs.lemmas.List.Splits.{slice_split-cons_yes, slice_split-cons_no}
 use Rattle.sg_sched.specs.Text.{lines, words}
 
--- the index of the first mark
+-- the offset of the first mark
 abbrev pub index : ℕ → List ℕ → ℕ
 index mark bs = position_or_len (λ b. b == mark) bs
 
@@ -84,7 +84,7 @@ words_after (c ∷ cs) = by (c == 32) refl (words_after cs)
     by true e ih = words_yes c cs _ (index_yes 32 c cs e) (ap full (slice_split-cons_yes (λ b. b == 32) c cs e))
     by false e ih = words_no c cs _ _ (index_no 32 c cs e) ih
 
--- the first word and the words after it, where the text begins with no space
+-- the first word and the words after it, if the text begins with no space
 pub words_first : (bs : List ℕ) → index 32 bs ≢ 0 → index 32 bs ≤ length bs → words bs ≡ take (index 32 bs) bs ∷ words (drop (index 32 bs) bs)
 words_first bs h in_range = ap full (parts_first 32 bs) ∙ kept ∙ ap (λ ws. take (index 32 bs) bs ∷ ws) (words_after bs)
   where

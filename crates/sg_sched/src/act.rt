@@ -44,7 +44,7 @@ pub fn read_assignment<'a>(
     }
 }
 
-/// Each word that is left as `VAR=VALUE`, with a written value that spells one, or `None` where a word isn't so.
+/// Each word that is left as `VAR=VALUE`, with a written value that spells one, or `None` if a word isn't so.
 pub fn read_assignments<'a>(
     alloc: Global,
     words: &mut Words<'a>,

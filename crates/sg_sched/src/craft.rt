@@ -117,7 +117,7 @@ impl Model for CraftItem {
     ghost view = { λ i. record { label = i.label; time = i.time; delta = i.delta; tags = map tag_of i.tags } };
 }
 
-/// Where a crafted tag comes from. Where what is copied isn't there, it is 32 zero bytes.
+/// Where a crafted tag comes from. If what is copied isn't there, it is 32 zero bytes.
 #[derive(Debug, Drop)]
 pub enum Source {
     /// It is made under the key of these two principals.

@@ -59,7 +59,7 @@ fn read_committed<'a>(alloc: Global, word: &'a [u8]) -> Result<Option<Committed<
     }
 }
 
-/// Takes the word `first` off, where it is the next one.
+/// Takes the word `first` off, if it is the next one.
 fn take_word(first: &[u8], words: &mut Words) -> bool
     ensures there { result ≡ true → words.old ≡ first.now ∷ words.new }
     ensures other { result ≡ false → (words.new ≡ words.old) × (is_next first.now words.old ≡ false) }
@@ -289,7 +289,7 @@ fn take_nonce(words: &mut Words) -> Option<Option<u64>>
     Some(Some(nonce))
 }
 
-/// 2 to 16 names with commas between them, equal ones allowed, or `None` where the word isn't so.
+/// 2 to 16 names with commas between them, equal ones allowed, or `None` if the word isn't so.
 #[tactic(auto, unfolding(crate::specs::Format::CraftReading::cast))]
 pub fn read_cast(alloc: Global, word: &[u8]) -> Result<Option<Seq<Name>>, OutOfMemory>
     ensures { IfOk result (λ o. o ≡ cast word.now) }

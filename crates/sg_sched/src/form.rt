@@ -111,7 +111,7 @@ fn take_names(alloc: Global, words: &mut Words) -> Result<Option<NameSet>, OutOf
     }
 }
 
-/// The version of a session's frames: 1, or 2 where the word `v2` stands.
+/// The version of a session's frames: 1, or 2 if the word `v2` stands.
 #[tactic(auto, unfolding(crate::specs::Format::Reading::version))]
 fn take_version(words: &mut Words) -> Option<u8>
     ensures { version words.old ≡ taken result words.new }

@@ -18,7 +18,7 @@
 //!
 //! What bytes spell, and their first wrong line, stands in `specs/Format`. Here are the types of a schedule and the reading of each single
 //! line by its form, exactly: what is read is what the words say, and what the words of a form say is read. Each byte is read once, or
-//! twice where a value is tested and then kept. `sg_sched_text` reads whole texts.
+//! twice if a value is tested and then kept. `sg_sched_text` reads whole texts.
 #![tactic(auto)]
 
 mod act;

@@ -46,7 +46,7 @@ impl Pair {
         self.graph.as_ref()
     }
 
-    /// The graph as a list, which is empty where there are no edges.
+    /// The graph as a list, which is empty if there are no edges.
     pub fn into_list(self, alloc: Global) -> Result<Seq<Graph>, OutOfMemory>
         ensures { IfOk result (λ graphs. graphs ≡ graphs_of self) }
     {
@@ -165,7 +165,7 @@ fn add_node(graph: &mut Graph, number: u8) -> Result<(), OutOfMemory>
     }
 }
 
-// The fault where a part isn't added because memory ran out.
+// The fault if a part isn't added because memory ran out.
 fn want(fault: AddFault) -> OutOfMemory
     requires { fault ≡ AddFault.OutOfMemory }
 {

@@ -34,7 +34,7 @@ fn is_ascii(text: &[u8]) -> bool
     text.iter().all(|byte| *byte < 128)
 }
 
-/// What a line with these words says, or `None` where it is of no form.
+/// What a line with these words says, or `None` if it is of no form.
 #[tactic(auto, unfolding(crate::specs::Format::Form::form))]
 pub fn read_line<'a>(alloc: Global, mut words: Words<'a>) -> Result<Option<Line<'a>>, OutOfMemory>
     ensures { IfOk result (λ line. option_map said line ≡ form words.entry) }
@@ -68,7 +68,7 @@ pub fn read_line<'a>(alloc: Global, mut words: Words<'a>) -> Result<Option<Line<
     }
 }
 
-/// What a line says, or `None` where it is of no form: there is nothing that its words say, with each place as it may be.
+/// What a line says, or `None` if it is of no form: there is nothing that its words say, with each field as it may be.
 pub fn read_said<'a>(alloc: Global, line: &'a [u8]) -> Result<Option<Line<'a>>, OutOfMemory>
     ensures { IfOk result (λ o. MatchOption o ((s : LineContent) → SaysLine line.now s → ⊥) (λ l. SaysLine line.now (said l))) }
 {

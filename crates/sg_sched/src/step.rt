@@ -60,7 +60,7 @@ pub enum What {
 pub enum Change {
     /// It stays as it is.
     Whole,
-    /// The lowest bit of the byte at this offset changes; nothing does where there is no such byte.
+    /// The lowest bit of the byte at this offset changes; nothing does if there is no such byte.
     Flip(u32),
     /// Its first bytes are left, this many of them or all.
     Cut(u32),

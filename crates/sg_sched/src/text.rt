@@ -5,7 +5,7 @@ ghost use Rattle.sg_sched.specs.Text.{lines, content, words};
 
 use std::marker::Model;
 
-/// The index of the first byte `mark`, or the length where there is none.
+/// The offset of the first byte `mark`, or the length if there is none.
 pub(crate) fn index_of(mark: u8, bytes: &[u8]) -> usize
     ensures first { result ≡ position_or_len (λ b. b == mark) bytes.now }
     ensures within { result ≤ length bytes.now }

@@ -11,7 +11,7 @@ use hex::FromHexError;
 use sg_base::{Chars, CharsFault, OutOfMemory, Value, read_number};
 use std::alloc::{AllocError, Global};
 
-/// The value that a word spells: a text where it begins with `"`, otherwise a number.
+/// The value that a word spells: a text if it begins with `"`, otherwise a number.
 pub fn read_value(alloc: Global, word: &[u8]) -> Result<Option<Value>, OutOfMemory>
     ensures { IfOk result (λ o. option_map value_of o ≡ spelled_value word.now) }
 {
@@ -58,7 +58,7 @@ fn read_text(alloc: Global, text: &[u8]) -> Result<Option<Value>, OutOfMemory>
     as_text(alloc, &bytes)
 }
 
-/// The text of these bytes, where they are UTF-8 and at most 1,024.
+/// The text of these bytes, if they are UTF-8 and at most 1,024.
 fn as_text(alloc: Global, bytes: &[u8]) -> Result<Option<Value>, OutOfMemory>
     ensures { IfOk result (λ o. option_map value_of o ≡ as_text bytes.now) }
 {

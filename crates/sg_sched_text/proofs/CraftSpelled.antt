@@ -61,7 +61,7 @@ indices_differ m n ns hm hn other e =
     let yes : bytes_eq m n ≡ true = ap (bytes_eq m) (sym same) ∙ bytes_refl m in
     absurd (let z = ap not yes in cc)
 
--- what rises rises, where it is declared
+-- what rises rises, if it is declared
 risen : (ns ds : List Name) → rise ns ds ≡ true → list_all (λ n. has_text n ds) ns ≡ true → rises_from 0 (map (λ n. index n ds) ns) ≡ true
 risen ns ds r h = sym (ap (λ b. if b then rises_from 0 (map (λ n. index n ds) ns) else true) h) ∙ r
 

@@ -20,7 +20,7 @@ use Rattle.sg_sched_text.proofs.SessionsDeclared.{casts}
 pub casts_kept : (bytes : List ℕ) (r : ScheduleReader) (rest : List ℕ) → HasRead bytes r rest → HaveCasts (length (graphs_declared r.past)) r.past.sessions
 casts_kept bytes r rest s = subst (λ (p : SoFar). HaveCasts (length (graphs_declared p)) p.sessions) (sym s.keeps.past) (casts s.keeps.declared)
 
--- where nothing is left, the bytes spell the schedule that is kept
+-- if nothing is left, the bytes spell the schedule that is kept
 pub spelled : (bytes : List ℕ) (r : ScheduleReader) (rest : List ℕ) → HasRead bytes r rest → length rest ≤ 0 → (t : Schedule) → t ≡ schedule_declared real r.past → SpellsSchedule real bytes t
 spelled bytes r rest s h t e = record {
   items = s.items;

@@ -1,4 +1,4 @@
--- The first place of what passes a test, and what stands there.
+-- The first index of what passes a test, and what stands there.
 use Rattle.std.proofs.Common.{◌≡◌, ℕ, suc, ◌+◌, Bool, true, false, ◌||◌, List, [], ◌∷◌, ◌++◌, map, length, refl, sym, ap, ◌∙◌, arith, cond, if◌then◌else◌}
 use Rattle.std.specs.Prelude.{Option, Some, None, position, is_some, option_map, option_and_then, unwrap_or, slice_get, find, nat_lt, bytes_eq}
 use Rattle.std.specs.List.{list_any, position_from, position_or_len}
@@ -70,7 +70,7 @@ known f None false h = refl
 known f (Some i) true h = refl
 known f (Some i) false h = absurd (cc)
 
--- what is made of the index of a name, where the name is there
+-- what is made of the index of a name, if the name is there
 pub known_index : {A : Type 0} (f : ℕ → A) (n : List ℕ) (ns : List (List ℕ)) → option_map f (position (bytes_eq n) ns) ≡ (if has_text n ns then Some (f (index n ns)) else None)
 known_index f n ns = known f (position (bytes_eq n) ns) (has_text n ns) (some_index (bytes_eq n) ns)
 

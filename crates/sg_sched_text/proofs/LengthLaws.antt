@@ -77,7 +77,7 @@ frame_is g s c =
     let k = tag_taken s.version in
     omega (arith, a, b, d, e, h, i, k)
 
--- the frame is short where the session is declared
+-- the frame is short if the session is declared
 pub short_is : (g : Option Graph) (s : Session) (c : CraftContent) (o : Option Session) → o ≡ Some s → nat_le (frame_len s c) 60000 ≡ is_short g o c
 short_is g s c o e = ap (λ n. nat_le n 60000) (sym (frame_is g s c)) ∙ ap (λ o. is_short g o c) (sym e)
 

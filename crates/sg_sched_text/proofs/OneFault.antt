@@ -1,4 +1,4 @@
--- Bytes have one first fault at most, and none where they spell a schedule.
+-- Bytes have one first fault at most, and none if they spell a schedule.
 use Rattle.std.proofs.Common.{◌≡◌, ℕ, suc, ◌+◌, Bool, true, false, not, ◌||◌, List, [], ◌∷◌, ◌++◌, length, refl, sym, ap, ◌∙◌, subst, append_assoc, append-nil}
 use Rattle.std.specs.Prelude.{Option, Some, None, Result, Err, codes, bytes_eq}
 use Rattle.std.proofs.lemmas.List.Elements.{filter_map-append}
@@ -30,7 +30,7 @@ use Rattle.sg_sched.proofs.FormatPairOnce.{no_pair_at}
 use Rattle.sg_sched_text.proofs.RightLines.{right}
 use Rattle.sg_sched_text.proofs.SamePast.{prefix, same_past, wrong_ends, edge_ends, some_edges, pair_named, pair_ends}
 
--- ---- no block of the name `pair` where an edge is declared
+-- ---- no block of the name `pair` if an edge is declared
 
 no_graph_made : (items : List Item) (said : LineContent) (g : Graph) → made items said ≡ Some (GraphItem g) → ⊥
 no_graph_made items SaidBlock g e = cc
@@ -94,7 +94,7 @@ no_pair_block (Next {items = items} d (Show {g = g} b spells fresh)) some =
     let same = edges_same items (GraphItem g) refl in
     shown_no_pair items g fresh (λ none. some (same ∙ none)) (no_pair_block d (λ none. some (same ∙ none)))
 
--- ---- one fault at one place
+-- ---- one fault at one position
 
 some_kind : {k j : Kind} → Some k ≡ Some j → k ≡ j
 some_kind {k = k} e = ap inside e
@@ -121,7 +121,7 @@ open_or_block : (before : List Item) (opening : Line) (inner block rest : List L
 open_or_block before opening inner block rest text op b e =
     never_closed inner b.inner b.closing rest op.open_yet b.closed (sym (append-nil inner) ∙ tail_same (e ∙ laid before block rest text b))
 
--- two blocks at one place have as many lines
+-- two blocks at one position have as many lines
 same_length : (before : List Item) (block block' rest rest' : List Line) (text text' : List ℕ) → IsBlock before block text → IsBlock before block' text' → block ++ rest ≡ block' ++ rest' → length block ≡ length block'
 same_length before block block' rest rest' text text' b b' e =
     let all = tail_same (sym (laid before block rest text b) ∙ e ∙ laid before block' rest' text' b') in
@@ -179,7 +179,7 @@ module _ (before : List Item) where
   same_wrong these these' rest rest' _ _ (SameGraph {text = t} b spells same) (SameGraph {text = t'} b' spells' same') e =
       record { count = same_length before these these' rest rest' t t' b b' e; kind = refl }
 
-  -- no line is wrong where a block of a graph named `pair` stands behind edge lines
+  -- no line is wrong if a block of a graph named `pair` stands behind edge lines
   wrong_or_pair : (these rest block rest' : List Line) (k : Kind) (text : List ℕ) (g : Graph) → IsWrong before these rest k → IsBlock before block text → SpellsGraph text g → g.name ≡ codes "pair" → NoPair before
       → these ++ rest ≡ block ++ rest' → ⊥
   wrong_or_pair _ rest block rest' _ text g (OfNoForm {line = l} no_skip none) b spells named free e = no_form before l b.opening _ _ none b.opened.opens (e ∙ laid before block rest' text b)
@@ -225,7 +225,7 @@ one_fault bytes n m k _ (AtIt w) (AtEdge p) = absurd (wrong_and_pair (lines byte
 one_fault bytes n m _ j (AtEdge p) (AtIt w) = absurd (wrong_and_pair (lines bytes) m n j w p)
 one_fault bytes n m _ _ (AtEdge p) (AtEdge q) = (two_pairs (lines bytes) n m p q, refl)
 
--- and none where they spell a schedule
+-- and none if they spell a schedule
 pub no_schedule : (sha : Hash) (bytes : List ℕ) (n : ℕ) (k : Kind) (s : Schedule) → IsFirstFault bytes n k → SpellsSchedule sha bytes s → ⊥
 no_schedule sha bytes n k s (AtIt w) spells = not_both sha bytes s n k spells w
 no_schedule sha bytes n _ s (AtEdge p) spells = no_pair_at sha bytes s n spells p

@@ -1,4 +1,4 @@
--- Two ways to read the same lines come to the same index, if neither goes on.
+-- Two ways to read the same lines come to the same position, if neither goes on.
 use Rattle.std.proofs.Common.{◌≡◌, ℕ, true, List, [], ◌∷◌, ◌++◌, refl, sym, ap, ◌∙◌, subst, append_assoc, append-nil}
 use Rattle.std.specs.Prelude.{codes}
 use Rattle.std.proofs.lemmas.List.Elements.{filter_map-append}
@@ -28,7 +28,7 @@ use Rattle.sg_sched.proofs.FormatNotBoth.{behind}
 pub prefix : {right : List Line} {items : List Item} → Declare right items → Prefix [] right items
 prefix {right = right} {items = items} d = subst (λ ls. Prefix [] ls items) (append-nil right) (of_declare d [] items Done)
 
--- ---- the same index
+-- ---- the same position
 
 -- no way to these items goes on from here
 abbrev pub Ends : List Item → List Line → List Item → Type 0
@@ -65,7 +65,7 @@ edges_stay : {before all : List Item} {ls : List Line} → Prefix before ls all 
 edges_stay Done h e = h e
 edges_stay (More {before = b} {new = n} a f) h e = edges_stay f (λ none. h (left_empty (edges b) (edges n) (sym (filter_map-append as_edge b n) ∙ none))) e
 
--- where no edge is declared, a way ends at an edge line
+-- if no edge is declared, a way ends at an edge line
 pub edge_ends : (items : List Item) (line : Line) (rest : List Line) (label : Name) (from to : ℕ) → SaysLine line (SaidEdge label from to) → (all : List Item) → edges all ≡ [] → Ends items (line ∷ rest) all
 edge_ends items line rest label from to says all none new _ later (Skip {line = l} s) e ls f = not_skipped line (SaidEdge label from to) says (subst (λ l. is_skipped l ≡ true) (sym (head_same e)) s)
 edge_ends items line rest label from to says all none _ _ later (Say {line = l} {said = t} {item = i} says' right makes) e ls f =
@@ -98,12 +98,12 @@ pair_among : (es : List Edge) → (es ≡ [] → ⊥) → has_text (codes "pair"
 pair_among [] h = absurd (h refl)
 pair_among (e ∷ es) h = refl
 
--- where an edge is declared, so is a graph named `pair`
+-- if an edge is declared, so is a graph named `pair`
 pub pair_named : (items : List Item) → (edges items ≡ [] → ⊥) → has_text (codes "pair") (graph_names (graphs items)) ≡ true
 pair_named items h = ap (has_text (codes "pair")) (names_append (blocks items) (graphs_of (edges items)))
     ∙ later_text (codes "pair") (graph_names (blocks items)) (graph_names (graphs_of (edges items))) (pair_among (edges items) h)
 
--- where an edge is declared, a way ends at a block of a graph named `pair`
+-- if an edge is declared, a way ends at a block of a graph named `pair`
 pub pair_ends : (items : List Item) (block rest : List Line) (text : List ℕ) (g : Graph) → (edges items ≡ [] → ⊥) → IsBlock items block text → SpellsGraph text g → g.name ≡ codes "pair" → (all : List Item)
     → Ends items (block ++ rest) all
 pair_ends items block rest text g some b spells named all new _ later (Skip {line = l} s) e ls f = skip_or_show items l block later rest text s b (sym e)

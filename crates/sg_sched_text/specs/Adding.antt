@@ -97,7 +97,7 @@ start_step past who session = option_map (StartStep who) (session_index past ses
 abbrev pub abandon_step : SoFar → Name → Name → Option Step
 abandon_step past who session = option_map (AbandonStep who) (session_index past session)
 
--- the values of an act, where all its variables are the graph's
+-- the values of an act, if all its variables are the graph's
 abbrev pub known_values : Option Graph → List Assignment → Option (Map Value)
 known_values g vs = if list_all (λ v. knows_variable g v.variable) vs then Some (values g vs) else None
 

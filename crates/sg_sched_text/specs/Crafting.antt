@@ -1,4 +1,4 @@
--- The step of a craft, part by part, where all its names are declared.
+-- The step of a craft, part by part, if all its names are declared.
 use Rattle.std.specs.Prelude.{ℕ, suc, ◌+◌, ◌*◌, nat_lt, Bool, true, not, ◌&&◌, if◌then◌else◌, List, [], ◌∷◌, length, position, bytes_eq, Option, Some, None, option_map, option_and_then, unwrap_or}
 use Rattle.std.specs.Option.{option_map_or}
 use Rattle.sg_model.specs.Last.{Map}

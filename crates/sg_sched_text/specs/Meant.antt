@@ -14,7 +14,7 @@ pub record SameDeclared (s t : Schedule) : Type 0 where
   pub sessions : s.sessions ≡ t.sessions
 
 -- It is one as the protocol has them, its graphs have two roles or more, and it has at most 200,000 steps.
--- Each of them can be taken where the same is declared, whatever steps come before it
+-- Each of them can be taken if the same is declared, whatever steps come before it
 pub record IsMeant (s : Schedule) : Type 0 where
   pub schedule : IsSchedule real s
   pub roles : All HasRoles s.graphs

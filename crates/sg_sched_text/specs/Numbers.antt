@@ -1,4 +1,4 @@
--- What lines give by names, made numbers where all names are declared.
+-- What lines give by names, made numbers if all names are declared.
 use Rattle.std.specs.Prelude.{ℕ, ◌-◌, List, [], ◌∷◌, filter_map, position, bytes_eq, Option, Some, option_map, option_and_then}
 use Rattle.sg_model.specs.Last.{Map}
 use Rattle.sg_model.specs.Lists.{range_from, value_at}

@@ -11,7 +11,7 @@ use Rattle.sg_sched_text.specs.declared.stop.Stop.{Stop}
 use Rattle.sg_sched_text.specs.declared.stop.Stop.TheVariants.{Wrong, OutOfMemory}
 use Rattle.sg_sched_text.specs.Adding.{Added}
 
--- a kind that is told
+-- a kind that is reported
 abbrev pub kind_of : Kind → Format.Kind
 kind_of Form = Format.Form
 kind_of Unknown = Format.Unknown

@@ -17,7 +17,7 @@ pub(crate) struct Block<'a> {
     pub rest: &'a [u8],
 }
 
-/// The block whose text begins here, or `None` where no line closes it.
+/// The block whose text begins here, or `None` if no line closes it.
 #[tactic(auto, using(crate::proofs::BlockLaws::begun, crate::proofs::BlockLaws::onward, crate::proofs::BlockLaws::found, crate::proofs::BlockLaws::nowhere, crate::proofs::BlockLaws::line_len))]
 pub(crate) fn split_block(bytes: &[u8]) -> Option<Block<'_>>
     requires { length bytes.now < 2 ^ 32 }

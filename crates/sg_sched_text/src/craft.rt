@@ -1,4 +1,4 @@
-//! Crafts: what is made of their words, where all names are declared.
+//! Crafts: what is made of their words, if all names are declared.
 ghost use Rattle.std.specs.Prelude.{◌≡◌, map, position, bytes_eq, option_map, option_copied, IfOk, IfSome, IsTrue};
 ghost use Rattle.std.specs.List.{list_all};
 ghost use Rattle.sg_base.specs.Model.{value_of};

@@ -52,7 +52,7 @@ impl Declared {
         self.add_step(false, true, step)
     }
 
-    // Whether the frame has at most 60,000 bytes, where the session is declared.
+    // Whether the frame has at most 60,000 bytes, if the session is declared.
     fn is_short(&self, craft: &CraftLine<'_>) -> Result<bool, OutOfMemory>
         requires { IsTrue (is_craft craft.now) }
         ensures { IfOk result (λ b. b ≡ is_short (graph_for craft.now.session self.now) (session_named craft.now.session self.now) craft.now) }

@@ -2,7 +2,7 @@
 ghost use Rattle.sg_sched_text.specs.Laws.{FaultsAreOne, SchedulesAreOne, WrongIsNoSchedule};
 ghost use Rattle.sg_sched_text.specs.Meant.{SpelledIsMeant};
 
-/// Bytes spell one schedule at most, have one first wrong line at most and one kind of fault there, and have none where they spell a
+/// Bytes spell one schedule at most, have one first wrong line at most and one kind of fault there, and have none if they spell a
 /// schedule. So an answer of `read_schedule` that isn't `OutOfMemory` is the only one that its contract allows.
 pub fn answers_are_one()
     ensures schedule { SchedulesAreOne }

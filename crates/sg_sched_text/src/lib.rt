@@ -9,10 +9,10 @@
 //! the same however many stand before it: graphs and sessions are found by their names, sessions also by what no two of them have in common,
 //! pairs of principals in both orders.
 //!
-//! A block ends at its first line `}`. Its text is read by `sg_parse`, and its fault is told at that line. One fault is told at an earlier
+//! A block ends at its first line `}`. Its text is read by `sg_parse`, and its fault is reported at that line. One fault is reported at an earlier
 //! line than that at which it shows: a block of a graph named `pair` after edge lines is the fault of the first edge line.
 //!
-//! `laws` says what holds of all bytes: they spell one schedule at most, have one first wrong line at most, and none where they spell a
+//! `laws` says what holds of all bytes: they spell one schedule at most, have one first wrong line at most, and none if they spell a
 //! schedule. So an answer that isn't `OutOfMemory` is the only one that the bytes allow. What bytes spell is a schedule as the protocol has
 //! them, so each law about runs holds of what is read.
 #![tactic(auto)]

@@ -1,4 +1,4 @@
-//! Whether what follows each other in a craft rises by its numbers, where all of its names are declared.
+//! Whether what follows each other in a craft rises by its numbers, if all of its names are declared.
 ghost use Rattle.std.specs.Prelude.{◌≡◌, ◌&&◌, option_copied};
 ghost use Rattle.std.specs.List.{list_all};
 ghost use Rattle.sg_sched.specs.Format.Faults.{rise, rises, variables, tag_roles};

@@ -93,7 +93,7 @@ impl Sessions {
         }
     }
 
-    /// Adds a session of a new name that is like no other, where there are fewer than 100,000.
+    /// Adds a session of a new name that is like no other, if there are fewer than 100,000.
     pub fn add(&mut self, name: Name, like: Like) -> Result<(), OutOfMemory>
         requires new_name { has_text name (map (λ s. s.name) self.old) ≡ false }
         requires room { length self.old < most_declared }

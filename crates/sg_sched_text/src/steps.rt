@@ -23,7 +23,7 @@ use std::alloc::Global;
 const MOST_STEPS: usize = 200_000;
 
 impl Declared {
-    /// A step, or `None` where it has a name that isn't declared.
+    /// A step, or `None` if it has a name that isn't declared.
     #[tactic(auto, unfolding(crate::specs::Adding::add_step))]
     pub fn add_step(&mut self, repeated: bool, honest: bool, step: Option<Step>) -> Result<(), Stop>
         ensures { Takes (add_step self.old repeated honest (option_map step_of step)) self.new result }
@@ -56,7 +56,7 @@ impl Declared {
         self.add_step(false, honest, step)
     }
 
-    // The step, or `None` where the session isn't declared.
+    // The step, or `None` if the session isn't declared.
     fn start_step(&self, who: Name, session: &Name) -> Option<Step>
         ensures { option_map step_of result ≡ start_step self.now who session.now }
     {
@@ -73,7 +73,7 @@ impl Declared {
         self.add_step(false, honest, step)
     }
 
-    // The step, or `None` where the session isn't declared.
+    // The step, or `None` if the session isn't declared.
     fn abandon_step(&self, who: Name, session: &Name) -> Option<Step>
         ensures { option_map step_of result ≡ abandon_step self.now who session.now }
     {
@@ -107,7 +107,7 @@ impl Declared {
         self.add_step(repeated, honest, step)
     }
 
-    // The step of an act, or `None` where a name isn't declared.
+    // The step of an act, or `None` if a name isn't declared.
     fn act_step(
         &self,
         who: Name,
@@ -160,7 +160,7 @@ fn what_of(alloc: Global, what: &Delivered<'_>) -> Result<What, OutOfMemory>
     }
 }
 
-// The bytes of digits, or none where they are none.
+// The bytes of digits, or none if they are none.
 fn bytes_of(alloc: Global, digits: &[u8]) -> Result<Vec<u8>, OutOfMemory>
     ensures { IfOk result (λ bytes. bytes.items ≡ bytes_of digits.now) }
 {

@@ -17,7 +17,7 @@ use sg_sched::index::var_index;
 use sg_sched::{Assignment, read_value};
 use std::alloc::Global;
 
-/// What is given to variables of the graph, or `None` where a variable isn't one of them.
+/// What is given to variables of the graph, or `None` if a variable isn't one of them.
 #[tactic(auto, using(crate::proofs::ValueLaws::as_many, crate::proofs::ValueLaws::by_numbers))]
 pub fn known_values(
     alloc: Global,
@@ -33,7 +33,7 @@ pub fn known_values(
     }
 }
 
-// The number of each variable, or `None` where one isn't the graph's.
+// The number of each variable, or `None` if one isn't the graph's.
 fn numbers(
     alloc: Global,
     graph: &Graph,

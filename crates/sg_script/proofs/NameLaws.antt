@@ -1,4 +1,4 @@
--- Names in their indices in a graph.
+-- Names and their indices in a graph.
 use Rattle.std.proofs.Common.{◌≡◌, ℕ, ◌<◌, List, length, bytes_eq, position, refl}
 use Rattle.std.specs.Prelude.{Option, Some, None, IsSome, IsTrue, IfSome, ◌↔◌}
 use Rattle.sg_graph.specs.Parts.{variable_names, node_names, edge_names, edge_name}

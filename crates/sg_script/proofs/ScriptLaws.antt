@@ -1,4 +1,4 @@
--- A script is read exactly where its bytes spell it.
+-- A script is read exactly if its bytes spell it.
 use Rattle.std.proofs.Common.{◌≡◌, ◌≢◌, ℕ, ◌+◌, Bool, true, false, ◌⊎◌, inl, inr, List, [], ◌∷◌, map, Option, Some, None, Result, Ok, Err, IfOk, IfErr, if◌then◌else◌, refl, sym, ap, ◌∙◌, codes}
 use Rattle.toml.specs.Data.{Data, Members, get_member}
 use Rattle.sg_keys.specs.KeyFile.{document, has_keys_alone, tables_of}
@@ -50,7 +50,7 @@ both_steps (Ok xs) (Ok ys) s h =
     let whole : record { starts = xs; choices = ys } ≡ s = cc in
     (ap (λ (t : Script). Ok t.starts) whole, ap (λ (t : Script). Ok t.choices) whole)
 
--- the list of starts is there where nothing else is
+-- the list of starts is there if nothing else is
 starts_there : (table : Members) (ds : List Data) → starts_of table ≡ Some ds → (has_keys_alone is_script_key table ≡ true) × (tables_of (get_member (codes "start") table) ≡ Some ds)
 starts_there table ds h = by (has_keys_alone is_script_key table) refl h
   where
@@ -90,7 +90,7 @@ spells_from_read programs bytes s h = spells_document programs bytes s (document
 pub read_from_spells : (programs : List Program) (bytes : List ℕ) (s : Script) → SpellsScript programs bytes s → script_file programs bytes ≡ Ok s
 read_from_spells programs bytes s (table, e, t) = ap (answer_to programs) e ∙ table_answers programs table s t
 
--- an answer that is right unless memory ran out is the script where one is spelled
+-- an answer that is right unless memory ran out is the script if one is spelled
 pub answered : (r f : Result Script ScriptFault) (s : Script) → IfOk r (λ s. f ≡ Ok s) → IfErr r (λ e. e ≢ OutOfMemory → f ≡ Err e) → f ≡ Ok s → (r ≡ Ok s) ⊎ (r ≡ Err OutOfMemory)
 answered (Ok t) f s ok fault h = inl (sym ok ∙ h)
 answered (Err NotToml) f s ok fault h = absurd (let e : f ≡ Err NotToml = fault (λ s. cc) in cc)

@@ -1,4 +1,4 @@
--- What is said of bytes that are no script.
+-- The text for bytes that are no script.
 use Rattle.std.specs.Prelude.{ℕ, List, ◌++◌, codes}
 use Rattle.std.specs.Fmt.{decimal}
 use Rattle.sg_script.specs.declared.fault.ScriptFault.{ScriptFault}

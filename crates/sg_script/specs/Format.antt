@@ -23,7 +23,7 @@ abbrev pub between : ℕ → ℕ → ℤ → Option ℕ
 between least most (pos n) = if nat_le least n && nat_le n most then Some n else None
 between least most z = None
 
--- the number of an entry, or one that stands for it where it is missing
+-- the number of an entry, or one that stands for it if it is missing
 abbrev pub number_or : ℕ → ℕ → ℕ → Option Data → Option ℕ
 number_or missing least most None = Some missing
 number_or missing least most (Some d) = option_and_then (between least most) (as_integer d)
@@ -32,7 +32,7 @@ number_or missing least most (Some d) = option_and_then (between least most) (as
 abbrev pub name_of : Data → Option Name
 name_of d = option_and_then name (as_str d)
 
--- a list of what is there, where each is there
+-- a list of what is there, if each is there
 abbrev pub all_there : {A : Type 0} → List (Option A) → Option (List A)
 all_there [] = Some []
 all_there (None ∷ os) = None
@@ -63,7 +63,7 @@ spelled_value (integer z) = Some (IntValue z)
 spelled_value (string s) = if nat_le (length s) most_text_bytes then Some (TextValue s) else None
 spelled_value _ = None
 
--- what a variable is given, where its name is a key: itself with its value, or nothing where that is no value
+-- what a variable is given, if its name is a key: itself with its value, or nothing if that is no value
 abbrev pub given : List Name → Members → ℕ → Option (Option (ℕ × Value))
 given names table x = option_map (λ d. option_map (λ v. (x, v)) (spelled_value d)) (get_member (get_or names x []) table)
 
@@ -72,7 +72,7 @@ abbrev pub values_in : List Name → Members → Option (Map Value)
 values_in names table =
     if has_keys_alone (λ k. is_some (number_of names k)) table then all_there (filter_map (given names table) (below (length names))) else None
 
--- the values of an entry, none where they are missing
+-- the values of an entry, none if they are missing
 abbrev pub values_or_none : List Name → Option Data → Option (Map Value)
 values_or_none names None = Some []
 values_or_none names (Some d) = option_and_then (values_in names) (as_table d)
@@ -83,7 +83,7 @@ values_or_none names (Some d) = option_and_then (values_in names) (as_table d)
 abbrev pub is_start_key : List ℕ → Bool
 is_start_key k = (bytes_eq k (codes "graph") || bytes_eq k (codes "cast")) || bytes_eq k (codes "version")
 
--- a start of its parts, where a program of its graph is there
+-- a start of its parts, if a program of its graph is there
 abbrev pub start_from : List Program → Option Name → Option ℕ → Option (List Name) → Option Start
 start_from programs (Some n) (Some v) (Some c) = if is_some (graph_named programs n) then Some (record { graph = n; version = v; cast = c }) else None
 start_from programs _ _ _ = None
@@ -155,13 +155,13 @@ abbrev pub then_with : {A B : Type 0} → Result A ScriptFault → (A → Result
 then_with (Ok x) next = next x
 then_with (Err fault) next = Err fault
 
--- what is there from this number on, where each is there, or the fault of the first number at which it isn't
+-- what is there from this number on, if each is there, or the fault of the first number at which it isn't
 abbrev pub each_from : {A : Type 0} → (ℕ → ScriptFault) → ℕ → List (Option A) → Result (List A) ScriptFault
 each_from fault i [] = Ok []
 each_from fault i (None ∷ os) = Err (fault i)
 each_from fault i (Some x ∷ os) = then_with (each_from fault (i + 1) os) (λ xs. Ok (x ∷ xs))
 
--- the entries of a list of tables, counted from 1. Where it is none, the fault has number 0
+-- the entries of a list of tables, counted from 1. If it is none, the fault has number 0
 abbrev pub entries : {A : Type 0} → (ℕ → ScriptFault) → (Data → Option A) → Option (List Data) → Result (List A) ScriptFault
 entries fault read None = Err (fault 0)
 entries fault read (Some ds) = each_from fault 1 (map read ds)

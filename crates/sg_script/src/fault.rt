@@ -8,13 +8,13 @@ pub enum ScriptFault {
     /// The bytes are not TOML.
     NotToml,
     /// A key of the start is missing, is not allowed, or has a value that isn't what it must be; or there is no program of its
-    /// graph. It has number 0 where a key stands beside `start` and `choice`, or where `start` isn't a list of tables.
+    /// graph. It has number 0 if a key stands beside `start` and `choice`, or if `start` isn't a list of tables.
     BadStart {
         /// The number of the start, from 1 on, or 0.
         number: usize,
     },
     /// A key of the choice is missing, is not allowed, or has a value that isn't what it must be; or there is no program of its
-    /// graph, or that graph doesn't have the node, the label or a variable. It has number 0 where `choice` isn't a list of tables.
+    /// graph, or that graph doesn't have the node, the label or a variable. It has number 0 if `choice` isn't a list of tables.
     BadChoice {
         /// The number of the choice, from 1 on, or 0.
         number: usize,

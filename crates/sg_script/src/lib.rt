@@ -14,13 +14,13 @@
 //! times = 1
 //! ```
 //!
-//! A start is a session that the principal begins. Its cast has 2 to 16 names; its `version` is 1 or 2, and 1 where it is missing. A
+//! A start is a session that the principal begins. Its cast has 2 to 16 names; its `version` is 1 or 2, and 1 if it is missing. A
 //! choice says which step is taken at a node, what is written, and how often it may be taken: its `values` may be missing, and then
 //! nothing is written, and so may `times`, and then it is taken once. There are no other keys, and `start` and `choice` may be missing
 //! altogether.
 //!
 //! A script is read beside the programs that the principal has: a graph is known by its name there, and nodes, labels and variables by
-//! their names in that graph. What is read has numbers in their index. Of all faults that a script has, the first is told: what stands
+//! their names in that graph. What is read has numbers in their index. Of all faults that a script has, the first is reported: what stands
 //! beside `start` and `choice`, or a `start` that is no list of tables; then the starts in order; then a `choice` that is no list of
 //! tables; then the choices in order. `laws` says that bytes spell one script at most.
 #![tactic(auto)]

@@ -33,7 +33,7 @@ pub(crate) fn name_of(value: &Value) -> Option<Name>
     read_name(value.as_str()?)
 }
 
-// The number, where it is neither too small nor too large.
+// The number, if it is neither too small nor too large.
 fn between(least: u32, most: u32, number: i64) -> Option<u32>
     ensures { result ≡ between least most number }
 {
@@ -44,14 +44,14 @@ fn between(least: u32, most: u32, number: i64) -> Option<u32>
     }
 }
 
-// The number that a value is, where it is neither too small nor too large.
+// The number that a value is, if it is neither too small nor too large.
 fn number_in(least: u32, most: u32, value: &Value) -> Option<u32>
     ensures { result ≡ option_and_then (between least most) (as_integer (view value.now)) }
 {
     between(least, most, value.as_integer()?)
 }
 
-/// The number at a key, or `missing` where there is none.
+/// The number at a key, or `missing` if there is none.
 pub(crate) fn number_or(
     table: &Table,
     key: &str,

@@ -17,7 +17,7 @@ use sg_graph::Graph;
 use std::alloc::{AllocError, Global};
 use toml::{Table, Value as Entry};
 
-/// What the variables of a graph are given at `values`, in rising order; none where it is missing.
+/// What the variables of a graph are given at `values`, in rising order; none if it is missing.
 pub(crate) fn values_at(
     alloc: Global,
     graph: &Graph,
@@ -69,7 +69,7 @@ fn all_given(
     Ok(Some(values))
 }
 
-// What a variable is given, where its name is a key.
+// What a variable is given, if its name is a key.
 fn given(
     alloc: Global,
     graph: &Graph,

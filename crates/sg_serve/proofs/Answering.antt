@@ -1,4 +1,4 @@
--- What a line came to, by what came of its request.
+-- What a line came to, by the outcome of its request.
 use Rattle.std.proofs.Common.{◌≡◌, ◌⊎◌, ⊎_elim, inl, inr, ℕ, Bool, true, false, List, [], ◌∷◌, Option, Some, None, is_some, Result, Ok, Err, OnOk, refl, sym, ap, ◌∙◌, subst}
 use Rattle.sg_base.specs.declared.address.Addr.{Addr}
 use Rattle.sg_base.specs.Outside.{HasRisen}
@@ -59,7 +59,7 @@ receipt_random : (got limited : Bool) (r : Run) → (receipt got limited r).1.0.
 receipt_random true limited r = takes_random r.serving (received limited r.coming).0
 receipt_random false limited r = refl
 
--- where there is no frame, it doesn't matter whether the link takes it
+-- if there is no frame, it doesn't matter whether the link takes it
 same_quiet : (line : List ℕ) (frames : List (Addr × List ℕ)) → frames ≡ [] → given true (record { line = line; frames = frames }) ≡ given false (record { line = line; frames = frames })
 same_quiet line [] e = refl
 same_quiet line (f ∷ fs) e = absurd (cc)

@@ -75,7 +75,7 @@ holds_on old new may_leave h same keeps =
       images = λ image left. subst (Represents image) (sym later.3) (h.images image (ap is_some (sym same) ∙ left.0, left.1));
     }
 
--- ---- the join of what came of it
+-- ---- the join of the outcome
 
 told_join : (n : ℕ) (a : Answer) → join_reported (reported_answer n a) ≡ join_in a
 told_join n (Protocol.Happened e) = refl
@@ -98,7 +98,7 @@ module _ (sv : Server) (may_leave : List ℕ → Type 0) (told : Option Reported
   join_is : joined ≡ join_in given
   join_is = ap (option_and_then join_reported) h.is_told ∙ told_join h.number given
 
-  -- where there is no ledger
+  -- if there is no ledger
   pub holds_none : sv.ledger ≡ None → HoldsJoins sv may_leave
   holds_none e = record {
     past = past_after real h.past h.call;
@@ -108,7 +108,7 @@ module _ (sv : Server) (may_leave : List ℕ → Type 0) (told : Option Reported
     images = λ image left. absurd (let z = ap is_some (sym e) ∙ left.0 in cc);
   }
 
-  -- where there is one
+  -- if there is one
   module _ (l : OpenLedger) (e : sv.ledger ≡ Some l) where
     has : l ≡ working (node_of h.past).joins
     has = h.ledger l e

@@ -59,9 +59,9 @@ abandoned sv new pl n sid told graph (Ok step) at asked h =
     λ s st. subst (λ (y : Reply). HasReplied new step y) (of_some s n sid (λ x. calls s (Abandon x)) (sym (at s.play st.player))) (h s (Abandon sid) (called_quiet sv pl s (Abandon sid) told graph st (asked s.play st.player)) refl)
 abandoned sv new pl n sid told graph (Err f) at asked h = tt
 
--- ---- words
+-- ---- random bytes
 
--- the words that are left are no part of what is represented
+-- the random bytes that are left are no part of what is represented
 pub less_represents : (sv : Server) (n : ℕ) (s : Serving) → RepresentsServing sv s → RepresentsServing sv (less n s)
 less_represents sv n s st = record {
   player = record {

@@ -25,11 +25,11 @@ falls_on a b c f g = record {
 pub falls_of : {A : Type 0} (old new : Counts) (r : Result A ServeFault) → TellsFaults old new r → NoFall old new
 falls_of old new r h = record { link = h.link_falls; out = h.out_falls; disk = h.disk_falls }
 
--- where it answered
+-- if it answered
 pub went : {A : Type 0} (old new : Counts) (a : A) → NoFall old new → TellsFaults old new (Ok a)
 went old new a f = record { link_falls = f.link; out_falls = f.out; disk_falls = f.disk; write_failed = λ e. absurd (cc); disk_failed = λ e. absurd (cc) }
 
--- where memory ran out or the input failed
+-- if memory ran out or the input failed
 not_write : {A : Type 0} (f : ServeFault) (r : Result A ServeFault) → (f ≡ OutOfMemory) ⊎ (f ≡ InputFailed) → r ≡ Err f → r ≡ Err WriteFailed → ⊥
 not_write f r (inl is) e w = cc
 not_write f r (inr is) e w = cc
@@ -47,7 +47,7 @@ other old new r f is e h = record {
   disk_failed = λ w. absurd (not_disk f r is e w);
 }
 
--- what a later part of a call tells, the call tells
+-- what a later part of a call reports, the call reports
 pub later_tells : {A : Type 0} (old mid new : Counts) (r : Result A ServeFault) → NoFall old mid → TellsFaults mid new r → TellsFaults old new r
 later_tells old mid new r f h = record {
   link_falls = let a = f.link in let b = h.link_falls in omega (arith, a, b);

@@ -24,7 +24,7 @@ pub replied_as : (images : List ℕ → Type 0) (s t : Serving) (sv : Server) (a
 replied_as images s t sv a b (Ok step) j e h = subst (λ (x : Reply). HasReplied sv step x) e h
 replied_as images s t sv a b (Err fault) j e h = λ image left. ⊎_elim (λ x. inl (subst (Represents image) j x)) (λ x. inr (subst (λ (y : Reply). Represents image (joins_of y.0)) e x)) (h image left)
 
--- on Ok, and where it failed
+-- on Ok, and if it failed
 pub replied_so : (images : List ℕ → Type 0) (s : Serving) (sv : Server) (a : Reply) (r : Result Step ServeFault) → IfOk r (λ step. HasReplied sv step a) → RepresentEither images s a → Replied images s sv a r
 replied_so images s sv a (Ok step) h all = h
 replied_so images s sv a (Err fault) h all = all

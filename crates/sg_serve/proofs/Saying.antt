@@ -52,7 +52,7 @@ pub graph_none : {A : Type 0} (xs : List (Option (Bor A))) (now : List (Option A
 graph_none {A} xs now i v l =
     sym (ap (λ (o : Option (Option A)). unwrap_or o None) (ap (λ (ys : List (Option A)). slice_get ys i) (sym v) ∙ slice_get-map option_copied xs i ∙ ap (option_map option_copied) (slice_get_past xs i l)))
 
--- there is a value where there is one that it comes of
+-- there is a value if there is one that it comes of
 pub some_same : {A B : Type 0} (r : Option (Bor A)) (o : Option B) (f : B → A) → option_copied r ≡ option_map f o → is_some r ≡ is_some o
 some_same None None f e = refl
 some_same None (Some b) f e = absurd (cc)

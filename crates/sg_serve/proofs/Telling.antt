@@ -1,4 +1,4 @@
--- What a server represents once it has told what came of a call.
+-- What a server represents once it has reported the outcome of a call.
 use Rattle.std.proofs.Common.{◌≡◌, ◌≤◌, ◌<◌, ℕ, ◌+◌, Bool, true, false, if◌then◌else◌, List, [], ◌∷◌, ◌++◌, length, Option, Some, None, option_map, IfSome, refl, sym, ap, ◌∙◌, subst}
 use Rattle.std.proofs.lemmas.Bool.{le-ltb, lt-ltb}
 use Rattle.std.specs.Option.{option_map_or}
@@ -37,7 +37,7 @@ one_graph p g gs l = sym (ap (λ (b : Bool). if b then gs ++ g ∷ [] else gs) (
 
 -- ---- the frame
 
--- the frame has the number that is told of it
+-- the frame has the number that is reported of it
 frame_is : (keys : Keyring) (n number : ℕ) (a : Answer) (told : Option Reported) (frame : Option (Addr × (Name × List ℕ))) → told ≡ Some (reported_answer n a) → ((e : Event) (to : Name) (k : ℕ) → told ≡ Some (Report.Sends e to k) → number ≡ k) → frame ≡ addressed keys (sealed_in a)
     → option_map (as_sent number) frame ≡ option_map (as_sent n) (addressed keys (sealed_in a))
 frame_is keys n number (Protocol.Happened e) told frame t h is = ap (option_map (as_sent number)) is
@@ -53,7 +53,7 @@ posted_made : (n : ℕ) (frame : Option (Addr × (Name × List ℕ))) → posted
 posted_made n None = refl
 posted_made n (Some f) = refl
 
--- ---- a call was told
+-- ---- a call was reported
 
 module _ (sv : Server) (pl : Player) (s : Serving) (c : Call) (told : Option Reported) (graph : Option Graph) (frame : Option (Addr × (Name × List ℕ))) (left : Option (List ℕ)) (h : HasCalled sv s c told graph frame) (leaves : left ≡ sid_left c) where
   -- the number of a frame

@@ -1,4 +1,4 @@
--- What holds of each run, in the subject's words.
+-- What holds of each run, in the subject's terms.
 use Rattle.std.specs.Prelude.{◌≡◌, ℕ, Bool, List, Some, Contains}
 use Rattle.sg_input.specs.Lines.{Line, Whole}
 use Rattle.sg_ledger.specs.Format.{Join}
@@ -22,6 +22,6 @@ pub record IsOfNode (keys : Keyring) (programs : List Program) (first : List Joi
 abbrev pub RunsAreOfNodes : Type 0
 RunsAreOfNodes = (keys : Keyring) (programs : List Program) (first : List Join) (coming : List Coming) (random : List (List ℕ)) (lines : List (Line × Bool)) → IsOfNode keys programs first (with_lines (opening keys programs first coming random) lines)
 
--- A frame that is sent again makes no call, takes no word, and changes nothing of the state
+-- A frame that is sent again makes no call, takes no random bytes, and changes nothing of the state
 abbrev pub AgainChangesNothing : Type 0
 AgainChangesNothing = (took : Bool) (r : Run) (bytes : List ℕ) (n : ℕ) → request_of bytes ≡ Some (Again n) → (with_line took r (Whole bytes)).serving ≡ r.serving

@@ -27,12 +27,12 @@ abbrev pub unsent_line : (frames : List (Addr × List ℕ)) → (line : List ℕ
 unsent_line [] line = line
 unsent_line (f ∷ fs) line = unsent_text line
 
--- what is given of an answer, where the link takes its frame and where it doesn't
+-- what is given of an answer, if the link takes its frame and if it doesn't
 abbrev pub given : (took : Bool) → Step → Step
 given true step = step
 given false step = record { line = unsent_line step.frames step.line; frames = [] }
 
--- one failure more, where the link doesn't do what it is asked
+-- one failure more, if the link doesn't do what it is asked
 abbrev pub failures_after : (took : Bool) → ℕ → ℕ
 failures_after true n = n
 failures_after false n = n + 1
@@ -43,7 +43,7 @@ gives took r reply = record r { serving = reply.0; answers = r.answers ++ given 
 
 -- ---- a line
 
--- what a wait for the next delivery comes to, with a limit of time or without one, where the link gives it and where it fails
+-- what a wait for the next delivery comes to, with a limit of time or without one, if the link gives it and if it fails
 abbrev pub receipt : (took limited : Bool) → Run → Run × Reply
 receipt true limited r = let x = received limited r.coming in (record r { coming = x.1 }, takes r.serving x.0)
 receipt false limited r = (r, says r.serving failed_text)

@@ -34,7 +34,7 @@ pub record RepresentsServing (sv : Server) (s : Serving) : Type 0 where
   pub graphs : sv.graphs ≡ s.graphs
   pub last : sv.last ≡ s.last
 
--- the node represents a past that was told; and the ledger, if there is one, works and has the node's joins, which each image represents
+-- the node represents a valid past; and the ledger, if there is one, works and has the node's joins, which each image represents
 pub record HoldsJoins (sv : Server) (may_leave : List ℕ → Type 0) : Type 0 where
   pub past : Past
   pub represents : RepresentsPast sv.player.node past
@@ -42,7 +42,7 @@ pub record HoldsJoins (sv : Server) (may_leave : List ℕ → Type 0) : Type 0 w
   pub ledger : (l : OpenLedger) → sv.ledger ≡ Some l → l ≡ record { joins = sv.player.node.joins; failed = false }
   pub images : AllRepresent (images_if (is_some sv.ledger) may_leave) sv.player.node.joins
 
--- the node has been asked one more call, and this came of it; the ledger, if there is one, has the joins from before
+-- the node has been asked one more call, and this is the outcome; the ledger, if there is one, has the joins from before
 pub record HasAskedNode (sv : Server) (may_leave : List ℕ → Type 0) (told : Option Reported) : Type 0 where
   pub past : Past
   pub call : Call
@@ -58,7 +58,7 @@ pub record HasAskedNode (sv : Server) (may_leave : List ℕ → Type 0) (told : 
 abbrev pub LedgerHas : Server → List Join → Type 0
 LedgerHas sv joins = (l : OpenLedger) → sv.ledger ≡ Some l → l.joins ≡ joins
 
--- the player has asked its node this call, and this came of it, which is not told yet
+-- the player has asked its node this call, and this is the outcome, which is not reported yet
 pub record HasCalled (sv : Server) (s : Serving) (c : Call) (told : Option Reported) (graph : Option Graph) (frame : Option (Addr × (Name × List ℕ))) : Type 0 where
   pub asked : HasAsked sv.player s.play c told graph (frames_made frame)
   pub told_before : IsTold s.play.past
@@ -72,7 +72,7 @@ pub record HasReplied (sv : Server) (step : Step) (reply : Reply) : Type 0 where
   pub represents : RepresentsServing sv reply.0
   pub is_step : step ≡ reply.1
 
--- each image represents the joins before a reply, or for those after it
+-- each image represents the joins before a reply, or those after it
 abbrev pub RepresentEither : (images : List ℕ → Type 0) → Serving → Reply → Type 0
 RepresentEither images s reply = (image : List ℕ) → images image → Represents image (joins_of s) ⊎ Represents image (joins_of reply.0)
 

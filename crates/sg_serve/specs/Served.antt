@@ -16,7 +16,7 @@ use Rattle.sg_serve.specs.declared.fault.ServeFault.TheVariants.{InputFailed, Wr
 use Rattle.sg_serve.specs.Serving.{Serving}
 use Rattle.sg_serve.specs.Lines.{Run, with_line, with_lines, until_quit}
 
--- what the sink and the link tell: the bytes written, the frames sent, what is to come, and how often calls of the link failed
+-- what is known of the sink and the link: the bytes written, the frames sent, what is to come, and how often calls of the link failed
 pub record Outside : Type 0 where
   pub written : Option (List ℕ)
   pub sent : Option (List (Addr × List ℕ))
@@ -33,7 +33,7 @@ pub record Gave (old new : Outside) (r : Run) : Type 0 where
   pub frames : Appends old.sent new.sent (frames_of r.answers)
   pub failed : RoseBy r.failures old.failed new.failed
 
--- and the words that are left, and what is to come, are as it says
+-- and the random bytes that are left, and what is to come, are as it says
 pub record Agrees (old new : Outside) (random : Option (List (List ℕ))) (r : Run) : Type 0 where
   pub gave : Gave old new r
   pub random_left : random ≡ Some (r.serving).play.random
@@ -62,7 +62,7 @@ joins_kept ledger = option_map_or (λ l. l.joins) ledger []
 abbrev pub images_if : (kept : Bool) → (may_leave : List ℕ → Type 0) → List ℕ → Type 0
 images_if kept may_leave image = IsTrue kept × may_leave image
 
--- each image represents the joins so far, or for those with the next line's
+-- each image represents the joins so far, or those with the next line's
 abbrev pub RepresentBetween : (images : List ℕ → Type 0) → Run → (rest : List Line) → Type 0
 RepresentBetween images r [] = AllRepresent images (joins_of r.serving)
 RepresentBetween images r (line ∷ lines) = (image : List ℕ) → images image → Represents image (joins_of r.serving) ⊎ ((took : Bool) × Represents image (joins_of (with_line took r line).serving))
@@ -102,7 +102,7 @@ opening keys programs first coming random = record {
   failures = 0;
 }
 
--- a run of these lines: the first of them up to the end that is asked for were answered, where it ended well all of these
+-- a run of these lines: the first of them up to the end that is asked for were answered, if it ended well all of these
 pub record Served (old new : Outside) (random : Option (List (List ℕ))) (images : List ℕ → Type 0) (start : Run) (lines : List Line) (result : Result (Unit {0}) ServeFault) : Type 0 where
   pub prefix : List (Line × Bool)
   pub rest : List Line

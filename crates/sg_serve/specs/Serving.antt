@@ -28,7 +28,7 @@ use Rattle.sg_sched.specs.Format.Items.{labels_of}
 use Rattle.sg_sched.specs.Format.Said.{Assignment}
 use Rattle.sg_script.specs.Script.{Start as ScriptStart}
 
--- how far it has come: its node's past with the words that are left, which is a play without choices; the graph of each session, in the order of their first events; and the last frames
+-- how far it has come: its node's past with the random bytes that are left, which is a play without choices; the graph of each session, in the order of their first events; and the last frames
 pub record Serving : Type 0 where
   pub play : Play
   pub graphs : List (Option Graph)
@@ -54,7 +54,7 @@ repeats s f = (s, record { line = again_text f.number f.to; frames = (f.at, f.by
 abbrev pub sids_of : Play → List (List ℕ)
 sids_of p = sids_met (met_in p.past.calls)
 
--- of session n by its sid, where there is one
+-- of session n by its sid, if there is one
 abbrev pub of_session : Serving → (n : ℕ) → (List ℕ → Reply) → Reply
 of_session s n reply = option_map_or reply (slice_get (sids_of s.play) (n - 1)) (says s (unknown_text n))
 
@@ -68,7 +68,7 @@ is_live p sid = is_some (live_with (node_of p.past) sid)
 
 -- ---- calls
 
--- the graphs of sessions, with this one where a session more has begun
+-- the graphs of sessions, with this one if a session more has begun
 abbrev pub graphs_with : Play → Option Graph → List (Option Graph) → List (Option Graph)
 graphs_with p graph graphs = if nat_lt (length graphs) (length (sids_of p)) then graphs ++ graph ∷ [] else graphs
 
@@ -104,17 +104,17 @@ last_after p c last = last_of (called p c) (session_in p c) (frame_made p c) las
 abbrev pub calls : Serving → Call → Reply
 calls s c = (record { play = called s.play c; graphs = graphs_after s.play c s.graphs; last = last_after s.play c s.last }, step_in s.play c)
 
--- without so many words
+-- without so many random bytes
 abbrev pub less : ℕ → Serving → Serving
 less n s = record s { play = without n s.play }
 
 -- ---- each request
 
--- a start, with the next word as its nonce, where there is a program of its graph's name
+-- a start, with the next sixteen random bytes as its nonce, if there is a program of its graph's name
 abbrev pub starts : Serving → ScriptStart → Reply
 starts s start = option_map_or (λ p. calls (less 1 s) (Start (cast_of_start s.play.past.programs start (next_random s.play.random)))) (find (is_named start.graph) s.play.past.programs) (says s (wrong_text Unknown))
 
--- an act of these values, with a word to hide each of them
+-- an act of these values, with a confounder to hide each of them
 abbrev pub acts : Serving → (sid : List ℕ) → (label : ℕ) → Map Value → Reply
 acts s sid label values = calls (less (length values) s) (Act sid label values (next_confounders (length values) s.play.random))
 

@@ -25,7 +25,7 @@ use sg_sched_text::{differ, known_values};
 use sg_script::ScriptStart;
 
 impl<'p> Server<'p> {
-    // Starts a session, with the next word as its nonce.
+    // Starts a session, with the next sixteen random bytes as its nonce.
     pub(crate) fn start<R: Fresh, D: Disk>(
         &mut self,
         start_of: &ScriptStart,
@@ -130,7 +130,7 @@ impl<'p> Server<'p> {
         }
     }
 
-    // Acts in a session with these values, with a word to hide each of them.
+    // Acts in a session with these values, with a confounder to hide each of them.
     fn act_with<R: Fresh>(
         &mut self,
         sid: Sid,

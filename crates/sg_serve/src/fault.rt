@@ -1,7 +1,7 @@
 //! Why a run ends early.
 use thiserror::Error;
 
-/// Why a run ends early. What was answered are whole answers to the first lines, except where a write failed.
+/// Why a run ends early. What was answered are whole answers to the first lines, except if a write failed.
 #[derive(Debug, Clone, Copy, PartialEq, Eq, Error)]
 pub enum ServeFault {
     /// The input failed. No line was begun.

@@ -6,7 +6,7 @@ pub fn runs_are_of_nodes()
     ensures { RunsAreOfNodes }
 {}
 
-/// A frame that is sent again makes no call, takes no word, and changes nothing of the state.
+/// A frame that is sent again makes no call, takes no random bytes, and changes nothing of the state.
 pub fn again_changes_nothing()
     ensures { AgainChangesNothing }
 {}

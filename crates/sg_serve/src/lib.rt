@@ -2,7 +2,7 @@
 //!
 //! The application writes a line, the principal does one step and answers with one line, before it reads the next one. It starts sessions,
 //! acts in them, leaves them, and takes deliveries from the link, as the lines ask; a frame goes to the address that the keyring has for its
-//! receiver. Where the link doesn't take a frame, the answer says so, and the step is done all the same: the last frame of a session can be
+//! receiver. If the link doesn't take a frame, the answer says so, and the step is done all the same: the last frame of a session can be
 //! sent again. A line that is of no form, or names what isn't there, is answered so and changes nothing. With a ledger, the join of a call is
 //! kept before its frame goes out and its answer is written.
 //!

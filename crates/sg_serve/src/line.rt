@@ -20,7 +20,7 @@ use sg_script::ScriptStart;
 use sg_wait::TimedLink;
 
 impl<'p> Server<'p> {
-    // What a line is answered, given without its line feed, or as nothing where it is too long. There is no answer to one that asks for the end.
+    // What a line is answered, given without its line feed, or as nothing if it is too long. There is no answer to one that asks for the end.
     pub(crate) fn answer<L: TimedLink, R: Fresh, D: Disk>(
         &mut self,
         line: Option<&[u8]>,

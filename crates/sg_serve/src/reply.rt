@@ -36,7 +36,7 @@ impl Reply {
         Reply { text, frame }
     }
 
-    // Sends the frame, if there is one, and then writes the answer, which says so where the link doesn't take the frame. It takes no
+    // Sends the frame, if there is one, and then writes the answer, which says so if the link doesn't take the frame. It takes no
     // memory.
     pub fn give<L: TimedLink, O: Sink>(&self, link: &mut L, out: &mut O) -> Result<(), ServeFault>
         ensures link_bound { L.bound link.new ≡ L.bound link.old }

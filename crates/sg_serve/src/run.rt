@@ -68,7 +68,7 @@ impl<'p> Server<'p> {
         Err(ServeFault::OutOfMemory)
     }
 
-    // Answers a line, given without its line feed, or as nothing where it is too long, and says whether it is another than one that asks for
+    // Answers a line, given without its line feed, or as nothing if it is too long, and says whether it is another than one that asks for
     // the end.
     fn serve_line<L: TimedLink, R: Fresh, O: Sink, D: Disk>(
         &mut self,
@@ -106,7 +106,7 @@ impl<'p> Server<'p> {
 /// Serves an application over a link: answers each line of its input in order, each before it reads the next one, up to the line that asks
 /// for the end or the end of the input. The node was made with these keys and programs, and with the joins of the ledger, if there is one,
 /// which was opened from this disk; it was not asked anything yet. Each pair that it joins is added to the ledger before anything of it is
-/// told. It ends early where the input fails, an answer is not written whole, the disk fails or memory runs out; a link that fails is an
+/// written or sent. It ends early if the input fails, an answer is not written whole, the disk fails or memory runs out; a link that fails is an
 /// answer.
 pub fn serve<'p, I: Input, L: TimedLink, R: Fresh, O: Sink, D: Disk>(
     alloc: Global,
@@ -133,7 +133,7 @@ pub fn serve<'p, I: Input, L: TimedLink, R: Fresh, O: Sink, D: Disk>(
     // Without a ledger nothing is asked of the disk.
     ensures untouched { IsNone ledger → disk.new ≡ disk.old }
 
-    // Where the input, the link and the source tell what is to come: what was written and sent is what the lines of the input come to, up to
+    // If it is known what is to come of the input, the link and the source: what was written and sent is what the lines of the input come to, up to
     // where it ended, and what a crash leaves of the disk is the ledger with the joins of their calls.
     ensures served { (bytes : List ℕ) (coming : List Coming) (random : List (List ℕ)) → I.coming input.old ≡ Some bytes → L.coming link.old ≡ Some coming → R.random fresh.old ≡ Some random
         → Served (record { written = O.written out.old; sent = L.sent link.old; coming = L.coming link.old; failed = L.faults link.old })

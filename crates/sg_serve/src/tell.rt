@@ -1,4 +1,4 @@
-//! What is done with what came of a call: its join is kept, its line told, and its frame remembered.
+//! What is done with the outcome of a call: its join is kept, its line written, and its frame remembered.
 ghost use Rattle.std.specs.Prelude.{◌≡◌, ◌≤◌, ◌⊎◌, ℕ, List, None, Some, IfErr, IfOk, IfSome, OnErr, IsNone, OnOk, is_some, option_map};
 ghost use Rattle.std.specs.Option.{option_copied, option_map_or};
 ghost use Rattle.sg_again.specs.LastFrames.{sent};
@@ -28,7 +28,7 @@ use sg_ledger::{Disk, Ledger};
 use sg_report::{Outcome, sid_reported};
 
 impl<'p> Server<'p> {
-    // Keeps the join of what came of a call that makes no frame and leaves no session, if it is one, and then tells what came of it.
+    // Keeps the join of the outcome of a call that makes no frame and leaves no session, if it is one, and then reports the outcome.
     pub(crate) fn join<D: Disk>(
         &mut self,
         outcome: &Outcome,
@@ -52,7 +52,7 @@ impl<'p> Server<'p> {
         }
     }
 
-    // Adds the join of what came of a call to the ledger, if there is one, and if it is one. The ledger has all joins of the node from before
+    // Adds the join of the outcome of a call to the ledger, if there is one, and if it is one. The ledger has all joins of the node from before
     // the call, so it doesn't have this one, and it isn't full.
     fn keep_join<D: Disk>(&mut self, outcome: &Outcome, disk: &mut D) -> Result<(), ServeFault>
         requires asked { HasAskedNode self.old (D.may_leave disk.old) (outcome_of outcome.now) }
@@ -77,7 +77,7 @@ impl<'p> Server<'p> {
         }
     }
 
-    // Tells what came of a call, by the graph of the call, and remembers the frame that it made, if it made one.
+    // Reports the outcome of a call, by the graph of the call, and remembers the frame that it made, if it made one.
     pub(crate) fn tell(
         &mut self,
         left: &Option<Sid>,
@@ -99,7 +99,7 @@ impl<'p> Server<'p> {
         Ok(Reply::new(line, copy))
     }
 
-    // The line of what came of a call.
+    // The line of the outcome of a call.
     fn tell_line(
         &mut self,
         left: &Option<Sid>,
@@ -177,7 +177,7 @@ fn session_of(left: &Option<Sid>, outcome: &Outcome) -> Option<Sid>
     }
 }
 
-// The number of the frame that an outcome tells, or 0 where it tells none.
+// The number of the frame that an outcome has, or 0 if it has none.
 fn number_of(outcome: &Outcome) -> u32
     ensures { (e : Event) (to : Name) (number : ℕ) → outcome_of outcome.now ≡ Some (Sends e to number) → result ≡ number }
 {

@@ -23,7 +23,7 @@ not_equal a b differs = elim (eqb_tells a b) [ inl (e, is) ↦ absurd (differs i
 abbrev pub with_left : (ℕ → List ℕ) → ℕ → List ℕ → ℕ → List ℕ
 with_left left conn bytes other = if conn == other then bytes else left other
 
--- the frames of pieces, where each connection has something left in which no message is whole
+-- the frames of pieces, if each connection has something left in which no message is whole
 abbrev pub follow : (ℕ → List ℕ) → List (ℕ × List ℕ) → List (List ℕ)
 follow left [] = []
 follow left (p ∷ ps) =
@@ -108,12 +108,12 @@ arrivals-left lefts ps =
     brings-follow (numbered 0 lefts ++ ps) [] (λ conn. []) (λ conn. sym frames-nil.1)
     ∙ follow-numbered lefts 0 (λ conn. []) (λ conn. rest_of (get_or lefts conn [])) ps (λ conn h. refl) (λ conn h. absurd (omega (arith, h))) (λ conn h. ap (λ k. rest_of (get_or lefts k [])) (omega arith))
 
--- where no connection has a whole message left
+-- if no connection has a whole message left
 pub flat_none : (lefts : List (List ℕ)) → ((conn : ℕ) → ¬ BeginsMessage (get_or lefts conn [])) → flat_map frames_of lefts ≡ []
 flat_none [] none = refl
 flat_none (x ∷ xs) none = rw ((frames-none x (none 0)).0, flat_none xs (λ conn. none (suc conn))) refl
 
--- where one alone may have some
+-- if one alone may have some
 pub flat_one : (lefts : List (List ℕ)) (n : ℕ) (bytes : List ℕ) → n < length lefts → ((conn : ℕ) → conn ≢ n → ¬ BeginsMessage (get_or lefts conn [])) → flat_map frames_of (set lefts n bytes) ≡ frames_of bytes
 flat_one [] n bytes within none = absurd (omega (arith, within))
 flat_one (x ∷ xs) zero bytes within none =

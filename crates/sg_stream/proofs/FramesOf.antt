@@ -14,20 +14,20 @@ decides-le : (a b : ℕ) → Decides (nat_le a b) (a ≤ b)
 decides-le a b =
     elim (leb_tells a b) [ inl (e, h) ↦ (λ _. h, λ _. e) | inr (e, h) ↦ (λ t. absurd (cc), λ l. absurd (omega arith)) ]
 
--- what the test tells
+-- what the test says
 decides-begins : (bytes : List ℕ) → Decides (begins_message bytes) ((to_be_bytes w32 (first_length bytes) ≡ take 4 bytes) × ((0 < first_length bytes) × ((first_length bytes ≤ 60000) × (4 + first_length bytes ≤ length bytes))))
 unfolding begins_message
 decides-begins bytes =
     Decides-and _ _ (bytes_eq-Decides _ _) (Decides-and _ _ (Decides-ltb _ _) (Decides-and _ _ (decides-le _ _) (decides-le _ _)))
 
--- it says yes where the bytes begin with a message
+-- it says yes if the bytes begin with a message
 begins-message : (frame rest : List ℕ) → IsFrame frame → begins_message (message frame ++ rest) ≡ true
 begins-message frame rest is =
     let n : first_length (message frame ++ rest) ≡ length frame = spelled-message frame rest is in
     let long : 4 + length frame ≤ length (message frame ++ rest) = omega (arith, length-append frame rest) in
     (decides-begins (message frame ++ rest)).1 (rw n refl, (rw n is.some, (rw n is.fits, rw n long)))
 
--- and no where they don't
+-- and no if they don't
 begins-none : (bytes : List ℕ) → (¬ BeginsMessage bytes) → begins_message bytes ≡ false
 begins-none bytes none =
     false_from_ne_true (begins_message bytes) (λ t.
@@ -68,7 +68,7 @@ frames-message frame rest is =
     let more = same_within (suc (suc (suc (length (frame ++ rest))))) (length rest) rest (omega (arith, length-append frame rest)) (omega arith) in
     rw (t, first, back) (ap (λ fs. frame ∷ fs) more.0, more.1)
 
--- where no message begins there is none
+-- if no message begins there is none
 pub frames-none : (bytes : List ℕ) → (¬ BeginsMessage bytes) → (frames_of bytes ≡ []) × (rest_of bytes ≡ bytes)
 unfolding frames_of rest_of
 frames-none [] none = (refl, refl)

@@ -55,7 +55,7 @@ Apart conn held = WhereTold held (λ t. (list_any (λ c. c == conn) t.open_ones 
 abbrev pub ended : ℕ → Addr → List ℕ → Option Traffic → Option Traffic
 ended conn to bytes held = option_map (after_close conn) (option_map (after_give conn bytes) (option_map (after_connect conn to) held))
 
--- what was told then
+-- what was known then
 abbrev after_all : ℕ → Addr → List ℕ → Traffic → Traffic
 after_all conn to bytes t = record { coming = t.coming; given = record { conn = conn; to = to; bytes = bytes } ∷ t.given; open_ones = t.open_ones }
 

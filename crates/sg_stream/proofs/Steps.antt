@@ -123,13 +123,13 @@ pub others_same : (lefts : List (List ℕ)) (last : ℕ) (bytes : List ℕ) → 
 others_same lefts last bytes others conn differs =
     rw (get_or-set_other lefts last conn bytes [] differs) (others conn differs)
 
--- places with nothing in them
+-- slots with nothing in them
 pub empty_there : (n conn : ℕ) → get_or {A = List ℕ} (replicate n []) conn [] ≡ []
 empty_there zero conn = refl
 empty_there (suc n) zero = refl
 empty_there (suc n) (suc conn) = empty_there n conn
 
--- where nothing is left and nothing comes there are no frames to come
+-- if nothing is left and nothing comes there are no frames to come
 nothing_left : (u : Unread) → IsIdle u → arrivals (pieces_of u ++ []) ≡ []
 nothing_left u idle =
     ap (λ k. arrivals ((numbered 0 u.lefts ++ k) ++ [])) idle.none_kept

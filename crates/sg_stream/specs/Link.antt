@@ -43,7 +43,7 @@ pub record IsIdle (u : Unread) : Type 0 where
   pub parts : (conn : ℕ) → IsPart (slice_index_or u.lefts conn [])
   pub none_kept : u.kept ≡ []
 
--- the frames to come, where the traffic is told: those of what was not given yet, followed by the pieces to come
+-- the frames to come, if the traffic is known: those of what was not given yet, followed by the pieces to come
 abbrev pub to_come : Unread → Option Traffic → Option (List (List ℕ))
 to_come u held = option_map (λ t. arrivals (pieces_of u ++ t.coming)) held
 
@@ -51,11 +51,11 @@ to_come u held = option_map (λ t. arrivals (pieces_of u ++ t.coming)) held
 abbrev pub gone_out : List Writer → List (Addr × List ℕ)
 gone_out given = flat_map (λ w. map (λ f. (w.to, f)) (frames_of w.bytes)) (reverse given)
 
--- the frames that went out, where the traffic is told
+-- the frames that went out, if the traffic is known
 abbrev pub sent_of : Option Traffic → Option (List (Addr × List ℕ))
 sent_of held = option_map (λ t. gone_out t.given) held
 
--- at least `count` pieces were taken, where the traffic is told
+-- at least `count` pieces were taken, if the traffic is known
 abbrev pub TakenOff : ℕ → Option Traffic → Option Traffic → Type 0
 TakenOff count old new = (t : Traffic) → old ≡ Some t → (after : Traffic) × (new ≡ Some after) × (count + length after.coming ≤ length t.coming)
 
@@ -69,7 +69,7 @@ pub record Wrote (to : Addr) (bytes : List ℕ) (old new : Traffic) : Type 0 whe
   pub coming : new.coming ≡ old.coming
   pub open_ones : new.open_ones ≡ old.open_ones
 
--- the same, where the traffic is told
+-- the same, if the traffic is known
 abbrev pub WroteTold : Addr → List ℕ → Option Traffic → Option Traffic → Type 0
 WroteTold to bytes old new = WhereTold old (λ t. (after : Traffic) × (new ≡ Some after) × Wrote to bytes t after)
 

@@ -41,6 +41,6 @@ after_give conn piece t = record t { given = given_to conn piece t.given }
 abbrev pub after_close : ℕ → Traffic → Traffic
 after_close conn t = record t { coming = without conn t.coming; open_ones = filter (λ c. not (c == conn)) t.open_ones }
 
--- where the traffic is told, it has this
+-- if the traffic is known, it has this
 abbrev pub WhereTold : Option Traffic → (Traffic → Type 0) → Type 0
 WhereTold held P = (t : Traffic) → held ≡ Some t → P t

@@ -4,7 +4,7 @@ ghost use Rattle.sg_stream.specs.Calls.{ReaderCall, MayHappen, fed, given};
 ghost use Rattle.sg_stream.specs.Framed.{IsFrame, messages, BeginsBad, BeginsMessage, Framed};
 
 /// Over any list of calls of a new reader, the messages of the frames that `next` gave, in order, and then the bytes not taken are the
-/// pieces joined. Where no message begins the bytes not taken, as after a `next` that gave none or told a bad length, these frames and
+/// pieces joined. If no message begins the bytes not taken, as after a `next` that gave none or reported a bad length, these frames and
 /// these bytes are what the joined pieces consist of, and no other frames and bytes are: so where the pieces are cut doesn't matter. What
 /// may happen is what the clauses of `feed` and `next` leave.
 pub fn cutting_does_not_matter()

@@ -1,8 +1,8 @@
 //! Connections, as a trait: pieces of bytes come in from some and are given to others.
 //!
-//! A piece that comes in bears its connection's number, and no two open connections have the same number. What connections hold is told
-//! by those in memory and not by those of the system, so the clauses on it speak of what is told. At which address they wait, all
-//! connections tell.
+//! A piece that comes in bears its connection's number, and no two open connections have the same number. What connections hold is known
+//! of those in memory and not of those of the system, so the clauses on it speak of what is known. At which address they wait is known of
+//! all.
 ghost use Rattle.std.specs.Prelude.{◌≡◌, ◌==◌, ◌<◌, ◌≤◌, ℕ, [], ◌∷◌, true, false, Option, Some, take, drop, length, OnErr, OnOk, IfOk, IfSome, IfNone};
 ghost use Rattle.std.specs.Option.{option_map};
 ghost use Rattle.std.specs.List.{list_any};
@@ -21,10 +21,10 @@ pub trait Conns {
     /// The address at which they wait, or `None` before they are opened.
     ghost bound: { Self → Option Addr };
 
-    /// What the connections hold, where it is told.
+    /// What the connections hold, if it is known.
     ghost held: { Self → Option Traffic };
 
-    /// Waits for connections at an address from now on. Where it fails, it waits where it did before.
+    /// Waits for connections at an address from now on. If it fails, it waits where it did before.
     fn open(&mut self, at: Addr) -> Result<(), Failed>
         ensures never_falls { faults self.old ≤ faults self.new }
         ensures failed { OnErr result (HasRisen (faults self.old) (faults self.new)) }

@@ -44,7 +44,7 @@ impl Model for Incoming {
 }
 
 impl Incoming {
-    /// Places for 256 connections, with nothing in them.
+    /// Slots for 256 connections, with nothing in them.
     pub(crate) fn new(alloc: Global) -> Result<Incoming, OutOfMemory>
         ensures { IfOk result (λ c. c ≡ record { lefts = replicate 256 []; kept = [] }) }
     {
@@ -55,7 +55,7 @@ impl Incoming {
         })
     }
 
-    /// Takes the next frame that is whole, or gives `None` where none is. A connection with a bad length is told, and what it has left is
+    /// Takes the next frame that is whole, or gives `None` if none is. A connection with a bad length is reported, and what it has left is
     /// dropped. If memory runs out, what was kept stays.
     pub(crate) fn next(&mut self, alloc: Global) -> Result<Option<Vec<u8>>, Unwhole>
         ensures frame { IfOk result (λ found. IfSome found (λ f. IsFrame f.items)) }
@@ -72,7 +72,7 @@ impl Incoming {
         self.next_left(alloc)
     }
 
-    /// Takes a piece in, where nothing is left to give. An empty one ends its connection, and what that has left is dropped. It takes no
+    /// Takes a piece in, if nothing is left to give. An empty one ends its connection, and what that has left is dropped. It takes no
     /// memory.
     pub(crate) fn put(&mut self, alloc: Global, conn: u8, piece: Vec<u8>)
         requires { IsIdle self.old }

@@ -49,7 +49,7 @@ impl<C> Model for StreamLink<C> {
 }
 
 impl<C: Conns> StreamLink<C> {
-    /// A link over connections, with places for 256 of them and a count of its own of 0. If memory runs out, the connections come back.
+    /// A link over connections, with slots for 256 of them and a count of its own of 0. If memory runs out, the connections come back.
     pub fn new(alloc: Global, conns: C) -> Result<StreamLink<C>, (C, OutOfMemory)>
         ensures link { IfOk result (λ l. l ≡ record { conns = conns; unread = record { lefts = replicate 256 []; kept = [] }; faults = 0 }) }
         ensures back { IfErr result (λ e. e.0 ≡ conns) }
@@ -96,8 +96,8 @@ impl<C: Conns> Link for StreamLink<C> {
         self.conns.open(at)
     }
 
-    /// The next frame. It takes pieces until a message is whole, none where one is whole already, and gives `None` at the end of all. It
-    /// fails where the connections fail, and where 1,000,000 pieces were taken and no message became whole.
+    /// The next frame. It takes pieces until a message is whole, none if one is whole already, and gives `None` at the end of all. It
+    /// fails if the connections fail, and if 1,000,000 pieces were taken and no message became whole.
     fn recv(&mut self, alloc: Global) -> Result<Option<Vec<u8>>, LinkFault>
         ensures never_falls { C.faults self.old.conns ≤ C.faults self.new.conns }
         ensures kept_bound { C.bound self.new.conns ≡ C.bound self.old.conns }
@@ -213,7 +213,7 @@ fn whole_frame<C: Conns>(
     }
 }
 
-// Takes the next piece, and then the next frame that is whole: `None` where there was no piece, and `Some(None)` where no frame is whole yet.
+// Takes the next piece, and then the next frame that is whole: `None` if there was no piece, and `Some(None)` if no frame is whole yet.
 fn take_piece<C: Conns>(
     alloc: Global,
     conns: &mut C,

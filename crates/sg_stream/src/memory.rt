@@ -136,7 +136,7 @@ impl Conns for MemConns {
         }
     }
 
-    /// It fails where a connection is open for writing, where there is no room for one, and at the calls that are to fail.
+    /// It fails if a connection is open for writing, if there is no room for one, and at the calls that are to fail.
     fn connect(&mut self, to: Addr) -> Result<u8, Failed>
         ensures cause { IsErr result ↔ IsTrue (fails_next self.old.plan || nat_lt 0 (length self.old.traffic.open_ones) || not (nat_lt 0 self.old.room)) }
         ensures number { IfOk result (λ conn. conn ≡ 255) }
@@ -158,7 +158,7 @@ impl Conns for MemConns {
         }
     }
 
-    /// It takes as many bytes as there is room for, and fails where there is none, where the connection is not open, and at the calls
+    /// It takes as many bytes as there is room for, and fails if there is none, if the connection is not open, and at the calls
     /// that are to fail.
     fn give(&mut self, conn: u8, piece: &[u8]) -> Result<usize, Failed> {
         self.plan.call(true)?;
@@ -174,7 +174,7 @@ impl Conns for MemConns {
     }
 }
 
-// Puts a connection at the end, where there is room.
+// Puts a connection at the end, if there is room.
 fn put_last(closed: &mut Vec<(Addr, MemSink)>, writer: (Addr, MemSink))
     requires { length closed.old.items < vec_capacity closed.old }
     ensures items { closed.new.items ≡ closed.old.items ++ writer ∷ [] }
@@ -197,7 +197,7 @@ fn remove_pieces(pieces: &mut VecDeque<(u8, Seq<u8>)>, conn: u8)
     }
 }
 
-// Removes the piece at a place, and tells whether it is empty.
+// Removes the piece at an index, and returns whether it is empty.
 fn remove_at(pieces: &mut VecDeque<(u8, Seq<u8>)>, at: usize) -> bool
     requires { at < length pieces.old.items }
     ensures items { pieces.new.items ≡ remove pieces.old.items at }

@@ -29,7 +29,7 @@ pub enum StreamFault {
 
 /// Takes the frames off a stream of bytes that comes in pieces. A clause sees the bytes that were not taken.
 ///
-/// Taken bytes stay in their place until they are at least half of what is held, so that the work is in proportion to the bytes
+/// Taken bytes stay where they are until they are at least half of what is held, so that the work is in proportion to the bytes
 /// however they are cut.
 #[derive(Debug, Drop)]
 pub struct StreamReader {
@@ -76,7 +76,7 @@ impl StreamReader {
         }
     }
 
-    /// Takes the next frame off the front, with its length, or gives `None` where no message is there whole. Once the bytes begin with
+    /// Takes the next frame off the front, with its length, or gives `None` if no message is there whole. Once the bytes begin with
     /// a bad length, every call is refused. It takes memory only for a frame that it gives; if memory runs out, the bytes are as
     /// before.
     pub fn next(&mut self, alloc: Global) -> Result<Option<Vec<u8>>, StreamFault>
@@ -105,7 +105,7 @@ impl StreamReader {
     }
 }
 
-// The frame whose message begins the bytes, where it is there whole.
+// The frame whose message begins the bytes, if it is there whole.
 fn first_frame(alloc: Global, bytes: &[u8]) -> Result<Option<Vec<u8>>, StreamFault>
     ensures frame { IfOk result (λ found. IfSome found (λ f. IsFrame f.items)) }
     ensures whole { IfOk result (λ found. IfSome found (λ f. 4 + length f.items ≤ length bytes.now)) }
@@ -123,7 +123,7 @@ fn first_frame(alloc: Global, bytes: &[u8]) -> Result<Option<Vec<u8>>, StreamFau
     }
 }
 
-// The length of the frame whose message begins the bytes, where it is there whole.
+// The length of the frame whose message begins the bytes, if it is there whole.
 fn frame_length(bytes: &[u8]) -> Result<Option<usize>, StreamFault>
     ensures there { IfOk result (λ found. IfSome found (λ len. (0 < len) × (len ≤ most_frame_bytes) × (4 + len ≤ length bytes.now) × (to_be_bytes w32 len ≡ take 4 bytes.now))) }
     ensures none { IfOk result (λ found. IfNone found ((¬ BeginsMessage bytes.now) × ((len : ℕ) → ¬ BeginsBad bytes.now len))) }
@@ -142,7 +142,7 @@ fn frame_length(bytes: &[u8]) -> Result<Option<usize>, StreamFault>
     Ok(Some(len as usize))
 }
 
-// Moves the bytes from a place on to the front, and lets go of those before it.
+// Moves the bytes from an offset on to the front, and lets go of those before it.
 fn remove_prefix(bytes: &mut Vec<u8>, count: usize)
     requires { count ≤ length bytes.old.items }
     ensures { bytes.new.items ≡ drop count bytes.old.items }

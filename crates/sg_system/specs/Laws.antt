@@ -1,4 +1,4 @@
--- The law of standard descriptors, of those in memory and of those that tell nothing.
+-- The law of standard descriptors, of those in memory and of those of which nothing is known.
 use Rattle.std.proofs.Common.{◌≡◌, ℕ, ◌≤◌, List, length, Bool, true, false, sym, ap, subst, true≢false, arith}
 use Rattle.std.specs.Prelude.{None, Some, is_some, unwrap_or}
 use Rattle.sg_system.specs.Memory.{DescriptorsHeld, all_free, if_free}
@@ -18,6 +18,6 @@ few false false false = omega arith
 pub at_most_three : (d : DescriptorsHeld) (all : List ℕ) → Some (all_free d) ≡ Some all → length all ≤ 3
 at_most_three d all is = subst (λ xs. length xs ≤ 3) (ap (λ o. unwrap_or o all) is) (few d.input d.output d.error)
 
--- what is not told is no list
+-- what is not known is no list
 pub never_told : (all : List ℕ) → None ≡ Some all → length all ≤ 3
 never_told all is = absurd (true≢false (ap is_some (sym is)))

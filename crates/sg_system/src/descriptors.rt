@@ -5,12 +5,12 @@ ghost use Rattle.sg_base.specs.Outside.{HasRisen};
 use sg_base::Failed;
 
 /// The standard descriptors of a process: 0, standard input; 1, standard output; 2, standard error (POSIX.1-2017, `unistd.h`). One of the
-/// system tells nothing, so the clauses on which are free speak of what is told.
+/// system are not known, so the clauses on which are free speak of what is known.
 pub trait Descriptors {
     /// How often a call failed.
     ghost faults: { Self → ℕ };
 
-    /// The standard descriptors that are free, in rising order, where they are told.
+    /// The standard descriptors that are free, in rising order, if they are known.
     ghost free: { Self → Option (List ℕ) };
 
     /// Whether none of them is free.
@@ -29,7 +29,7 @@ pub trait Descriptors {
     ghost three: { (descriptors : Self) (all : List ℕ) → free descriptors ≡ Some all → length all ≤ 3 };
 }
 
-/// Opens the null device for reading at each standard descriptor that is free. Where it can't be opened, one of them still is.
+/// Opens the null device for reading at each standard descriptor that is free. If it can't be opened, one of them still is.
 pub fn hold_standard<D: Descriptors>(descriptors: &mut D) -> Result<(), Failed>
     ensures never_falls { D.faults descriptors.old ≤ D.faults descriptors.new }
     ensures failed { OnErr result (HasRisen (D.faults descriptors.old) (D.faults descriptors.new)) }

@@ -1,18 +1,18 @@
-//! Random words of the system.
+//! Random bytes of the system.
 use rand::make_rng;
 use rand_chacha::ChaCha20Rng;
 use rand_core::Rng;
 use sg_base::Fresh;
 use std::random::RandomSource;
 
-/// Random words of a generator that the system seeded. It tells nothing of them: that they are random and differ is trusted.
+/// Random bytes of a generator that the system seeded. They are not known: that they are random and differ is trusted.
 #[derive(Drop)]
 pub struct OsFresh {
     rng: ChaCha20Rng,
 }
 
 impl OsFresh {
-    /// The words of a generator that the system seeds, or `None` where it gives no seed.
+    /// The random bytes of a generator that the system seeds, or `None` if it gives no seed.
     pub fn seeded<R: RandomSource>(rt: &R) -> Option<OsFresh> {
         match make_rng::<ChaCha20Rng, R>(rt) {
             Ok(rng) => Some(OsFresh { rng }),
@@ -39,7 +39,7 @@ mod tests {
     use sg_base::OutOfMemory;
     use std::alloc::Global;
 
-    // The next 64 words of a generator.
+    // The next 64 times sixteen bytes of a generator.
     fn drawn(alloc: Global, fresh: &mut OsFresh) -> Result<Vec<[u8; 16]>, OutOfMemory> {
         let mut draws = Vec::new(alloc);
         for _ in 0..64u8 {
@@ -48,7 +48,7 @@ mod tests {
         Ok(draws)
     }
 
-    // The bits that are 1 in one of the words, and those that are 0 in one.
+    // The bits that are 1 in one of these, and those that are 0 in one.
     fn bits(draws: &[[u8; 16]]) -> (u128, u128) {
         let mut ones = 0u128;
         let mut zeros = 0u128;
@@ -60,7 +60,7 @@ mod tests {
         (ones, zeros)
     }
 
-    // How many of the words are this one.
+    // How many of them are this one.
     fn count(draws: &[[u8; 16]], wanted: &[u8; 16]) -> u32 {
         let mut found = 0u32;
         for draw in draws {

@@ -10,7 +10,7 @@ use std::rt;
 /// The number of Linux for the error of a descriptor that is not open (EBADF; POSIX.1-2017, `errno.h`).
 const NOT_OPEN: i32 = 9;
 
-/// The standard descriptors of this process: standard input, output and error. They tell nothing.
+/// The standard descriptors of this process: standard input, output and error. Which are free is not known.
 #[derive(Drop)]
 pub struct StdDescriptors<R: rt::Files<File = File>, I: AsFd, O: AsFd, E: AsFd> {
     rt: R,
@@ -48,7 +48,7 @@ fn is_open<D: AsFd>(descriptor: &D) -> bool {
     }
 }
 
-// Opens the null device for reading at the lowest free descriptor, and keeps it open where that is a standard one. Whether it is.
+// Opens the null device for reading at the lowest free descriptor, and keeps it open if that is a standard one. Whether it is.
 fn take_lowest<R: rt::Files<File = File>>(rt: &R) -> bool {
     match File::open(rt, "/dev/null") {
         Ok(file) if file.as_raw_fd() <= 2 => {

@@ -1,4 +1,4 @@
-//! The lines of the premises. No run is known in which two texts have one digest.
+//! The lines of the assumptions. No run is known in which two texts have one digest.
 use sg_base::{ByteOut, OutOfMemory};
 use sg_report::{Forgery, put_premises};
 use sg_table::{Calls, hold, name, number};

@@ -1,4 +1,4 @@
-//! Replays of a session of `pair`: what stands of its premises, and its walk.
+//! Replays of a session of `pair`: whether its assumptions hold, and its walk.
 ghost use Rattle.std.specs.Prelude.{IfOk};
 ghost use Rattle.sg_protocol.specs.IsSchedule.{AreCompiled};
 ghost use Rattle.sg_protocol.specs.Texts.{real};

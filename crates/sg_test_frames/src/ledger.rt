@@ -141,7 +141,7 @@ slots 02+$SEVEN+0f+01+$EIGHT+0f 'slot_1
 adds '65535 32*00 32*07 32*07 32*00 32*08 'joined_already,added,joined_already,joined_already,the_ledger_is_full,
 ";
 
-// Makes a ledger in the file "book", and tells whether a disk fails before it is opened, the ledger is made, and a second disk doesn't get
+// Makes a ledger in the file "book", and returns whether a disk fails before it is opened, the ledger is made, and a second disk doesn't get
 // the file while the first one has it.
 fn is_made_for_one(rt: &HostRuntime) -> Result<bool, Fail> {
     let mut disk = FileDisk::new(rt.clone()?);

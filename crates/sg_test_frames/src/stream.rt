@@ -209,7 +209,7 @@ fn put_frame(
     }
 }
 
-// Sends a frame, and puts it where it comes back.
+// Sends a frame, and returns whether it went out. A frame that comes back must be this one.
 fn send<L: Link>(link: &mut L, out: &mut ByteOut, to: Addr, frame: Vec<u8>) -> Option<()> {
     let name = name(b"b")?;
     if frame.is_empty() || frame.len() > 60_000 {

@@ -20,7 +20,7 @@ use Rattle.sg_text.proofs.Firsts.{has_text-filter, has_text-filtered, has_text-f
 abbrev is_other : KnownSessions → List ℕ → Bool
 is_other m sid = not (has_text sid (declared_sids m))
 
--- a sid is among those of all sessions where it is declared or met
+-- a sid is among those of all sessions if it is declared or met
 pub has_text-all_sids : (m : KnownSessions) (sid : List ℕ) → has_text sid (all_sids m) ≡ (has_text sid (declared_sids m) || has_text sid m.events)
 has_text-all_sids m sid =
     list_any-append (bytes_eq sid) (firsts (declared_sids m)) (undeclared m) ∙ ap (λ b. b || has_text sid (undeclared m)) (has_text-firsts sid (declared_sids m)) ∙ by (has_text sid (declared_sids m)) refl
@@ -152,7 +152,7 @@ names-same f g (k ∷ ks) h =
     let rest : map (paired f) ks ≡ map (paired g) ks = names-same f g ks (λ j m. h j (or_right (bytes_eq j k) (has_text j ks) m)) in
     λ i. (k, here i) ∷ rest i
 
--- one more key makes one more entry, where the function agrees with another on the keys before
+-- one more key makes one more entry, if the function agrees with another on the keys before
 names-more : (f g : List ℕ → Name) (ks all : List (List ℕ)) (k : List ℕ) (name : Name) → all ≡ ks ++ k ∷ [] → ((j : List ℕ) → has_text j ks ≡ true → f j ≡ g j) → f k ≡ name
     → map (paired f) all ≡ map (paired g) ks ++ (k, name) ∷ []
 names-more f g ks all k name e h n =

@@ -35,7 +35,7 @@ sids_met m = filter (λ sid. has_text sid m.events) (all_sids m)
 abbrev pub numbered : ℕ → ℕ → Name
 numbered letter n = letter ∷ decimal n
 
--- the first declared name of a session, or a letter and its number among the others, counted from 1. Nothing where there is no such session
+-- the first declared name of a session, or a letter and its number among the others, counted from 1. Nothing if there is no such session
 abbrev pub session_name : (letter : ℕ) → KnownSessions → List ℕ → Name
 session_name letter m sid = option_map_or (λ (d : Name × List ℕ). d.0) (find (λ (d : Name × List ℕ). bytes_eq d.1 sid) m.declared)
     (option_map_or (λ n. numbered letter (n + 1)) (position (bytes_eq sid) (undeclared m)) [])

@@ -23,7 +23,7 @@ abbrev pub value_text : Value → List ℕ
 value_text (IntValue z) = signed_decimal z
 value_text (TextValue t) = 34 ∷ flat_map quoted_byte t ++ 34 ∷ []
 
--- a value, or ? where it is hidden
+-- a value, or ? if it is hidden
 abbrev pub value_or_hidden : Option Value → List ℕ
 value_or_hidden value = option_map_or value_text value (codes "?")
 

@@ -19,12 +19,12 @@ abbrev pub with_commas : List (List ℕ) → List ℕ
 with_commas [] = []
 with_commas (t ∷ ts) = t ++ flat_map (λ u. 44 ∷ u) ts
 
--- what a step writes, between brackets where it is something
+-- what a step writes, between brackets if it is something
 abbrev pub written : Graph → Map (Option Value) → List ℕ
 written g [] = []
 written g (w ∷ ws) = 40 ∷ with_commas (map (write_text g) (w ∷ ws)) ++ 41 ∷ []
 
--- a space and a step, with * where its sender is not honest
+-- a space and a step, with * if its sender is not honest
 abbrev pub step_text : Graph → (honest : ℕ → Bool) → StoredStep → List ℕ
 step_text g honest s = 32 ∷ (if honest (sender (shape g) s.label) then [] else codes "*") ++ edge_name g s.label ++ written g s.writes
 

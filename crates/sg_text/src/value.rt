@@ -96,7 +96,7 @@ pub fn put_values(
     Ok(())
 }
 
-/// Writes a variable and its value, or `?` where it is hidden.
+/// Writes a variable and its value, or `?` if it is hidden.
 pub fn put_assigned(
     out: &mut ByteOut,
     graph: &Graph,

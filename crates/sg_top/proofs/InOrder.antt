@@ -82,7 +82,7 @@ pub refuses : (known : KnownFiles) (f0 f1 : ℕ) (most : ℕ) (file bytes read :
     → EndsAt known f0 f1 most file R e
 refuses known f0 f1 most file bytes read R e same has few r = inr (bytes, has, few, subst (λ b. R b e) same r)
 
--- the program of a file is added, where its bytes were
+-- the program of a file is added, if its bytes were
 pub adds_held : {E : Type 0} (r : Result (Unit {0}) E) (known : KnownFiles) (file bytes read : List ℕ) (before after : List Program) → read ≡ bytes → Has known file (Some bytes) → length bytes ≤ most_program_file
     → OnOk r (Adds (λ p. IsTextOf p read) before after) → OnOk r (Adds (λ p. Holds known most_program_file file (IsTextOf p)) before after)
 adds_held r known file bytes read before after same has few h =

@@ -58,7 +58,7 @@ module _ (programs : List Program) (s : Schedule) where
   stops n w (NoSuchFile file) e l h = absurd h
   stops n w (TooLarge what) e l h = (h.0, record { before = n; begins = l; full = subst IsFull e h.1 })
 
-  -- each step that was taken can be told of
+  -- each step that was taken can be reported
   pub named : (w : Replay) → w ≡ replay_of programs s → CanBeReplayed s → All (CanBeNamed w.schedule) w.schedule.steps
   named w e can = subst (λ (r : Replay). All (CanBeNamed r.schedule) r.schedule.steps) (sym e) can.named
 

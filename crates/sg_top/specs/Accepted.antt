@@ -1,4 +1,4 @@
--- What is said of an accepted graph.
+-- The text for an accepted graph.
 use Rattle.std.specs.Prelude.{ℕ, List, [], ◌∷◌, ◌++◌, flat_map, length, codes}
 use Rattle.std.specs.Fmt.{decimal}
 use Rattle.sg_protocol.specs.Graph.{Graph, role_name}

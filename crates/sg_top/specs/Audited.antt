@@ -1,4 +1,4 @@
--- The answers of audits, in words.
+-- The answers of audits, as text.
 use Rattle.std.specs.Prelude.{◌≡◌, ℕ, Bool, List, [], ◌∷◌, ◌++◌, codes}
 use Rattle.std.specs.Fmt.{decimal}
 use Rattle.sg_model.specs.Lists.{is_in}

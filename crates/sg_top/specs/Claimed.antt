@@ -1,4 +1,4 @@
--- What is said of claims of a graph, which claims are suggested, and how the program ends by it.
+-- What is written of claims of a graph, which claims are suggested, and how the program ends by it.
 use Rattle.std.specs.Prelude.{◌≡◌, ◌≢◌, ℕ, ◌⊎◌, Bool, true, false, ◌&&◌, if◌then◌else◌, List, [], ◌∷◌, ◌++◌, All, Err, codes, length, ⊤}
 use Rattle.sg_claims.specs.Answers.{IsAnswer}
 use Rattle.sg_claims.specs.Suggestions.{AreSuggested}
@@ -114,7 +114,7 @@ OnClaims g claims known faults faults' old new ending =
     ((new ≡ old) × IsUnread most_claims_file claims known faults faults' ending)
     ⊎ Holds known most_claims_file claims (λ bytes. OnClaimsIn g bytes old new ending)
 
--- the claims of a file are decided on the graph of another so: the graph is read and checked first, and where it is refused nothing is written
+-- the claims of a file are decided on the graph of another so: the graph is read and checked first, and if it is refused nothing is written
 abbrev pub DecidesClaims : (graph claims : List ℕ) → KnownFiles → (faults faults' : ℕ) → (old new : Output) → Ending → Type 0
 DecidesClaims graph claims known faults faults' old new ending =
     ((new ≡ old) × EndsAt known faults faults' most_graph_file graph RefusesGraph ending)

@@ -30,7 +30,7 @@ use Rattle.sg_top.specs.declared.ending.Wrong.TheVariants.{Form, Unknown, Twice,
 pub data Ending : Type 0 where
   -- the output is written whole
   Written : Ending
-  -- the words are not in the table of commands
+  -- the arguments are not in the table of commands
   NoCommand : Ending
   -- the bytes are no graph, or a block of them isn't
   NoGraph : ParseFault → Ending
@@ -114,11 +114,11 @@ program_text (Malformed at) = codes "malformed at " ++ decimal at
 program_text (NotTheTable n) = codes "entry " ++ decimal n
 program_text TwiceTaken = codes "twice"
 
--- a byte of a word of the command line: itself, or \x and two digits where it is a control byte, which could end the line or steer a terminal
+-- a byte of an argument of the command line: itself, or \x and two digits if it is a control byte, which could end the line or steer a terminal
 abbrev pub shown_byte : ℕ → List ℕ
 shown_byte b = if nat_lt b 0x20 || (b == 0x7F) then escaped_byte b else b ∷ []
 
--- a word of the command line, as a line on standard error has it
+-- an argument of the command line, as a line on standard error has it
 abbrev pub shown_arg : List ℕ → List ℕ
 shown_arg arg = flat_map shown_byte arg
 
@@ -148,7 +148,7 @@ line_of NoMemory = codes "out of memory\n"
 line_of (NoSuchFile file) = codes "no such file: " ++ shown_arg file ++ 10 ∷ []
 line_of (TooLarge what) = codes "too large: " ++ shown_arg what ++ 10 ∷ []
 
--- ---- the ending that the input has, where nothing fails and memory doesn't run out
+-- ---- the ending that the input has, if nothing fails and memory doesn't run out
 
 -- what the first wrong line of a schedule ends with
 abbrev pub ending_of_line : ℕ → Format.Kind → Ending

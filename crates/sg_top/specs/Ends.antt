@@ -33,20 +33,20 @@ use Rattle.sg_top.specs.Ending.{Ending, Written, NoGraph, NoExpansion, GraphRefu
 use Rattle.sg_top.specs.Replayed.{CanBeReplayed, Reports, IsOverfull}
 use Rattle.sg_top.specs.Driven.{IsOverfullDrive, Sums}
 
--- files, each its name and its bytes, where they are told
+-- files, each its name and its bytes, if they are known
 abbrev pub KnownFiles : Type 0
 KnownFiles = Option (List (List ℕ × List ℕ))
 
--- what a file has, where it is told
+-- what a file has, if it is known
 abbrev pub Has : KnownFiles → List ℕ → Option (List ℕ) → Type 0
 Has known file found = (files : List (List ℕ × List ℕ)) → known ≡ Some files → file_at files file ≡ found
 
--- a place that is written to: its bytes, where they are told, and its count of faults
+-- what is written to: its bytes, if they are known, and its count of faults
 pub record Output : Type 0 where
   pub bytes : Option (List ℕ)
   pub faults : ℕ
 
--- the text is written whole, and no write failed, or a prefix of it where one did, which the count of faults shows
+-- the text is written whole, and no write failed, or a prefix of it if one did, which the count of faults shows
 abbrev pub Writes : (old new : Output) → List ℕ → Ending → Type 0
 Writes old new text Written = Appends old.bytes new.bytes text × (new.faults ≡ old.faults)
 Writes old new text WriteFailed = AppendsPrefix old.bytes new.bytes text × HasRisen old.faults new.faults
@@ -104,7 +104,7 @@ pub record IsCompilation (bytes name text : List ℕ) : Type 0 where
 abbrev pub IsRefusedFor : Graph → (name : List ℕ) → CompileFault → Type 0
 IsRefusedFor g name fault = (fault ≢ OutOfMemory) × (IsRefusal g fault ⊎ ((r : ℕ) × (r < length g.roles) × (role_name g r ≡ name) × IsRefused g r fault))
 
--- a graph without a role of this name is refused: as a graph, or for the role where it is accepted; or memory ran out
+-- a graph without a role of this name is refused: as a graph, or for the role if it is accepted; or memory ran out
 abbrev pub RefusesRole : Graph → (name : List ℕ) → Ending → Type 0
 RefusesRole g name (GraphRefused h fault) = (h ≡ g) × (fault ≢ OutOfMemory) × IsRefusal g fault
 RefusesRole g name (NoRole role) = (role ≡ name) × Accepted g

@@ -14,7 +14,7 @@ use Rattle.sg_top.specs.Ends.{KnownFiles, Output, Writes}
 use Rattle.sg_top.specs.Runs.{Outside, IsUntouched, Takes, TakesAtMost, WaitsAt, CanHavePlayed}
 use Rattle.sg_top.specs.Setup.{RunFiles, Setup, HasSetup, LacksSetup}
 
--- a disk: the name of the file that it is bound to, if it is bound to one, the bytes of this file, where they are told, the images, which are what a crash may leave of it, and its count of faults
+-- a disk: the name of the file that it is bound to, if it is bound to one, the bytes of this file, if they are known, the images, which are what a crash may leave of it, and its count of faults
 pub record Disked : Type 1 where
   pub bound : Option (List ℕ)
   pub seen : Option (List ℕ)
@@ -64,11 +64,11 @@ LacksLedger disk disk' ending = ⊥
 
 -- ---- a run over a ledger
 
--- the play of a setup over these joins, over the first deliveries, at most `most`, and with these random words
+-- the play of a setup over these joins, over the first deliveries, at most `most`, and with these random bytes
 abbrev pub play_over : (opened : List Join) → Setup → (most : ℕ) → (deliveries random : List (List ℕ)) → Play
 play_over opened s most deliveries random = played s.keys s.programs opened s.script (take most deliveries) random
 
--- where the deliveries and the words are told: what was written and sent is what this play writes and sends, up to where it ended, and what a crash leaves of the disk is the ledger with the joins of the play up to there, among them the session and the sender of each frame that was sent
+-- if the deliveries and the random bytes are known: what was written and sent is what this play writes and sends, up to where it ended, and what a crash leaves of the disk is the ledger with the joins of the play up to there, among them the session and the sender of each frame that was sent
 abbrev pub PlaysOver : (opened : List Join) → Setup → (most : ℕ) → (old new : Outside) → (disk' : Disked) → Result (Unit {0}) KeepFault → Type 0
 PlaysOver opened s most old new disk' result = (deliveries random : List (List ℕ)) → (old.link).deliveries ≡ Some deliveries → old.random ≡ Some random
     → Kept (record { written = (old.out).bytes; sent = (old.link).sent }) (record { written = (new.out).bytes; sent = (new.link).sent }) disk'.may_leave (play_over opened s most deliveries random) result
@@ -85,7 +85,7 @@ ending_of_play (Err KeepFaults.DiskFailed) = DiskFailed
 abbrev pub counts : Outside → Disked → Counts
 counts o disk = record { link = (o.link).faults; out = (o.out).faults; disk = disk.faults }
 
--- the play of a setup over the joins of an opened ledger ended so, of which a fault is told only where its count rose
+-- the play of a setup over the joins of an opened ledger ended so, of which a fault is reported only if its count rose
 pub record EndsOver (opened : List Join) (s : Setup) (most : ℕ) (old new : Outside) (disk disk' : Disked) (result : Result (Unit {0}) KeepFault) : Type 0 where
   pub plays : PlaysOver opened s most old new disk' result
   pub faults : TellsFaults (counts old disk) (counts new disk') result

@@ -17,7 +17,7 @@ use Rattle.sg_top.specs.Ending.{Ending, NoMemory, TooLarge}
 abbrev pub replay_of : List Program → Schedule → Replay
 replay_of programs s = record { programs = programs; schedule = s }
 
--- a schedule that can be replayed: it is one as the protocol has them, whose steps can be taken, each of them a craft or an honest principal's, and told of
+-- a schedule that can be replayed: it is one as the protocol has them, whose steps can be taken, each of them a craft or an honest principal's, and reported
 pub record CanBeReplayed (s : Schedule) : Type 0 where
   pub meant : IsMeant s
   pub honest : list_all (is_taken s) s.steps ≡ true

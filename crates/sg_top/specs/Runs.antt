@@ -12,33 +12,33 @@ use Rattle.sg_top.specs.Ending.{Ending, Written, LinkFailed, WriteFailed, NoMemo
 use Rattle.sg_top.specs.Ends.{KnownFiles, Output}
 use Rattle.sg_top.specs.Setup.{RunFiles, Setup, HasSetup, LacksSetup, waits_at}
 
--- a link: the address at which it waits, if it is open, the deliveries to come and the frames sent, where they are told, and its count of faults
+-- a link: the address at which it waits, if it is open, the deliveries to come and the frames sent, if they are known, and its count of faults
 pub record Linked : Type 0 where
   pub bound : Option Addr
   pub deliveries : Option (List (List ℕ))
   pub sent : Option (List (Addr × List ℕ))
   pub faults : ℕ
 
--- what the program acts on: standard output, the link, and the random words to come, where they are told
+-- what the program acts on: standard output, the link, and the random bytes to come, if they are known
 pub record Outside : Type 0 where
   pub out : Output
   pub link : Linked
   pub random : Option (List (List ℕ))
 
--- the steps of the play of a setup over the first deliveries, at most `most`, and with these random words
+-- the steps of the play of a setup over the first deliveries, at most `most`, and with these random bytes
 abbrev pub steps_played : Setup → (most : ℕ) → (deliveries random : List (List ℕ)) → List Step
 steps_played s most deliveries random = (played s.keys s.programs [] s.script (take most deliveries) random).steps
 
--- where the deliveries and the words are told: what was written and sent is what these steps write and send, up to where the play ended
+-- if the deliveries and the random bytes are known: what was written and sent is what these steps write and send, up to where the play ended
 abbrev pub Plays : Setup → (most : ℕ) → (old new : Outside) → Result (Unit {0}) PlayFault → Type 0
 Plays s most old new result = (deliveries random : List (List ℕ)) → (old.link).deliveries ≡ Some deliveries → old.random ≡ Some random
     → Ended (record { written = (old.out).bytes; sent = (old.link).sent }) (record { written = (new.out).bytes; sent = (new.link).sent }) (steps_played s most deliveries random) result
 
--- n deliveries were taken, or all where there were fewer, where they are told
+-- n deliveries were taken, or all if there were fewer, if they are known
 abbrev pub Takes : ℕ → (old new : Option (List (List ℕ))) → Type 0
 Takes n old new = (deliveries : List (List ℕ)) → old ≡ Some deliveries → new ≡ Some (drop n deliveries)
 
--- no more deliveries were taken than this, where they are told
+-- no more deliveries were taken than this, if they are known
 abbrev pub TakesAtMost : ℕ → (old new : Option (List (List ℕ))) → Type 0
 TakesAtMost most old new = (deliveries : List (List ℕ)) → old ≡ Some deliveries → (n : ℕ) × (n ≤ most) × (new ≡ Some (drop n deliveries))
 
@@ -50,7 +50,7 @@ PlayEnds s most old new WriteFailed = Plays s most old new (Err Play.WriteFailed
 PlayEnds s most old new NoMemory = Plays s most old new (Err Play.OutOfMemory) × TakesAtMost most (old.link).deliveries (new.link).deliveries
 PlayEnds s most old new ending = ⊥
 
--- nothing was written or sent, nor was it tried, and no delivery and no word was taken
+-- nothing was written or sent, nor was it tried, and no delivery and no random bytes were taken
 abbrev pub IsUntouched : (old new : Outside) → Type 0
 IsUntouched old new = (new.out ≡ old.out) × (new.link ≡ old.link) × (new.random ≡ old.random)
 

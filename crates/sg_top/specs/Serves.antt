@@ -15,19 +15,19 @@ use Rattle.sg_top.specs.Ends.{KnownFiles, Output}
 use Rattle.sg_top.specs.Ledgers.{Disked, IsBound, IsLeft, IsNotAsked, LacksLedger}
 use Rattle.sg_top.specs.Setup.{HasPrincipal, LacksPrincipal, Principal, waits_at}
 
--- a link that can wait: the address at which it waits, if it is open, what is to come and the frames sent, where they are told, and its count of faults
+-- a link that can wait: the address at which it waits, if it is open, what is to come and the frames sent, if they are known, and its count of faults
 pub record Waited : Type 0 where
   pub bound : Option Addr
   pub coming : Option (List Coming)
   pub sent : Option (List (Addr × List ℕ))
   pub faults : ℕ
 
--- an input: the bytes to come, where they are told, and its count of faults
+-- an input: the bytes to come, if they are known, and its count of faults
 pub record Entered : Type 0 where
   pub bytes : Option (List ℕ)
   pub faults : ℕ
 
--- what a run for an application acts on: standard output, its link, the random words to come, where they are told, and standard input
+-- what a run for an application acts on: standard output, its link, the random bytes to come, if they are known, and standard input
 pub record Application : Type 0 where
   pub out : Output
   pub link : Waited
@@ -61,11 +61,11 @@ pub record IsOpened (at : Addr) (old new : Waited) : Type 0 where
   pub sent : new.sent ≡ old.sent
   pub falls : old.faults ≤ new.faults
 
--- what the sink and the link tell
+-- what is known of the sink and the link
 abbrev pub given : Application → Given
 given o = record { written = (o.out).bytes; sent = (o.link).sent; coming = (o.link).coming; failed = (o.link).faults }
 
--- where the input, the link and the source tell what is to come: what was written and sent is what the lines of the input come to for a principal that joined these pairs before, up to where the run ended, and what a crash leaves of its ledger, if it has one, is the ledger with the joins up to there
+-- if it is known what is to come of the input, the link and the source: what was written and sent is what the lines of the input come to for a principal that joined these pairs before, up to where the run ended, and what a crash leaves of its ledger, if it has one, is the ledger with the joins up to there
 abbrev pub Answers : (kept : Bool) → (opened : List Join) → Principal → (old new : Application) → (disk' : Disked) → Result (Unit {0}) ServeFault → Type 0
 Answers kept opened p old new disk' result = (bytes : List ℕ) (coming : List Coming) (random : List (List ℕ)) → (old.input).bytes ≡ Some bytes → (old.link).coming ≡ Some coming → old.random ≡ Some random
     → Served (given old) (given new) new.random (images_if kept disk'.may_leave) (opening p.keys p.programs opened coming random) (lines_of bytes) result
@@ -74,7 +74,7 @@ Answers kept opened p old new disk' result = (bytes : List ℕ) (coming : List C
 abbrev pub counts : Application → Disked → Counts
 counts o disk = record { link = (o.link).faults; out = (o.out).faults; disk = disk.faults }
 
--- so the run ended, of which a fault is told only where its count rose
+-- so the run ended, of which a fault is reported only if its count rose
 pub record EndsServing (kept : Bool) (opened : List Join) (p : Principal) (old new : Application) (disk disk' : Disked) (result : Result (Unit {0}) ServeFault) : Type 0 where
   pub bound : (new.link).bound ≡ (old.link).bound
   pub answers : Answers kept opened p old new disk' result

@@ -1,4 +1,4 @@
--- What a run is given: the files that its words name, and the keys, the programs and the script that they hold.
+-- What a run is given: the files that its arguments name, and the keys, the programs and the script that they hold.
 use Rattle.std.specs.Prelude.{◌≡◌, ◌≢◌, ℕ, ◌+◌, ◌≤◌, ◌⊎◌, true, false, List, [], ◌∷◌, ◌++◌, length, Some, Err, ⊤}
 use Rattle.std.specs.List.{list_any}
 use Rattle.sg_base.specs.declared.address.Addr.{Addr}
@@ -87,7 +87,7 @@ IsBadProgram before bytes (Malformed at) = IsLoadFault bytes (Load.Malformed at)
 IsBadProgram before bytes (NotTheTable n) = IsLoadFault bytes (Load.NotTheTable n)
 IsBadProgram before bytes Twice = (p : Program) × IsTextOf p bytes × (list_any (clashes p) before ≡ true)
 
--- the bytes are not taken as the program after these, which is told by its number, counted from 1, or by the fault of its graph; or memory ran out
+-- the bytes are not taken as the program after these, which is named by its number, counted from 1, or by the fault of its graph; or memory ran out
 abbrev pub RefusesProgram : List Program → List ℕ → Ending → Type 0
 RefusesProgram before bytes (ProgramRefused n cause) = (n ≡ length before + 1) × IsBadProgram before bytes cause
 RefusesProgram before bytes (GraphRefused g fault) = IsLoadFault bytes (Load.Graph g fault)

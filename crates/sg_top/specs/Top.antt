@@ -18,7 +18,7 @@ use Rattle.sg_wait.specs.declared.coming.Coming.{Coming}
 abbrev pub streamed : {C : Type 0} → (bound : C → Option Addr) → (held : C → Option Traffic) → (faults : C → ℕ) → StreamHeld C → Linked
 streamed {C} bound held faults l = record { bound = bound l.conns; deliveries = to_come l.unread (held l.conns); sent = sent_of (held l.conns); faults = faults l.conns + l.faults }
 
--- what a run for an application acts on beside these: what is to come on the link, where it is told, the link over connections that are kept, and standard input
+-- what a run for an application acts on beside these: what is to come on the link, if it is known, the link over connections that are kept, and standard input
 pub record Beside : Type 0 where
   pub coming : Option (List Coming)
   pub port : Waited
@@ -50,7 +50,7 @@ Works (Some (Suggest file)) known faults faults' old new stream stream' disk dis
 Works (Some (Claims graph claims)) known faults faults' old new stream stream' disk disk' beside beside' ending = DecidesClaims graph claims known faults faults' old.out new.out ending
 Works (Some (Serve over_tcp ledger keys programs)) known faults faults' old new stream stream' disk disk' beside beside' ending = ServesRun (record { keys = keys; programs = programs; ledger = ledger }) known faults faults' (application over_tcp old beside) (application over_tcp new beside') disk disk' ending
 
--- the work that the words ask for ends so, or memory ran out before they were read, and nothing was touched
+-- the work that the arguments ask for ends so, or memory ran out before they were read, and nothing was touched
 abbrev pub Does : (args : List (List ℕ)) → KnownFiles → (faults faults' : ℕ) → (old new : Outside) → (stream stream' : Linked) → (disk disk' : Disked) → (beside beside' : Beside) → Ending → Type 0
 Does args known faults faults' old new stream stream' disk disk' beside beside' ending =
     Works (command_of args) known faults faults' old new stream stream' disk disk' beside beside' ending
@@ -62,7 +62,7 @@ Puts old new line wanted status =
     ((status ≡ wanted) × Appends old.bytes new.bytes line × (new.faults ≡ old.faults))
     ⊎ ((status ≡ 6) × HasRisen old.faults new.faults × AppendsPrefix old.bytes new.bytes line)
 
--- how the program says how its work ended: by the ending's line and status, or, where memory ran out for a line, by saying this
+-- how the program says how its work ended: by the ending's line and status, or, if memory ran out for a line, by saying this
 abbrev pub Says : Ending → (old new : Output) → (status : ℕ) → Type 0
 Says work old new status =
     Puts old new (line_of work) (status_of work) status
@@ -102,7 +102,7 @@ PlaysWith (Some (Stream keys script most programs)) status = IsOfPlay status
 PlaysWith (Some (Serve over_tcp ledger keys programs)) status = IsOfServe status
 PlaysWith other status = ⊥
 
--- a run may have begun to play: the words ask for one, and the status is 0, 6, 7 or 8, over a ledger or for an application 11 too, and for an application 14
+-- a run may have begun to play: the arguments ask for one, and the status is 0, 6, 7 or 8, over a ledger or for an application 11 too, and for an application 14
 abbrev pub MayPlay : (args : List (List ℕ)) → (status : ℕ) → Type 0
 MayPlay args status = PlaysWith (command_of args) status
 

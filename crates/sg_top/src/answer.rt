@@ -1,4 +1,4 @@
-//! What audits say, in words.
+//! What audits say, as text.
 ghost use Rattle.std.specs.Prelude.{◌≡◌, ◌++◌, ℕ, List, All, IfOk, OnOk, codes, map};
 ghost use Rattle.sg_audit.specs.Agree.{AreLogs};
 ghost use Rattle.sg_audit.specs.Answers.{IsAnswer};

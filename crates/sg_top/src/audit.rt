@@ -52,7 +52,7 @@ fn audit_bytes<O: Sink>(alloc: Global, bytes: &[u8], out: &mut O) -> Ending<'sta
     }
 }
 
-// How the program ends where bytes are no logs.
+// How the program ends if bytes are no logs.
 fn refused(fault: LogFault) -> Ending<'static>
     ensures { ending_held result ≡ ending_of_logs fault }
 {

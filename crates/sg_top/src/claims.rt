@@ -67,7 +67,7 @@ pub fn accepted(alloc: Global, bytes: &[u8]) -> Result<Graph, Ending<'static>>
     }
 }
 
-// The graph that the bytes spell, where it is accepted.
+// The graph that the bytes spell, if it is accepted.
 fn checked(alloc: Global, bytes: &[u8], graph: Graph) -> Result<Graph, Ending<'static>>
     requires { SpellsGraph bytes.now graph }
     ensures accepted { IfOk result (IsAcceptedText bytes.now) }

@@ -79,7 +79,7 @@ fn compile_role<O: Sink>(
     }
 }
 
-// How a graph without a role of this name is refused: as a graph, where it isn't accepted.
+// How a graph without a role of this name is refused: as a graph, if it isn't accepted.
 fn refuse_role<'w>(alloc: Global, graph: Graph, name: &'w str) -> Ending<'w>
     requires { 2 ≤ length graph.roles }
     ensures { RefusesRole graph name.now (ending_held result) }

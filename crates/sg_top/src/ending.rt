@@ -76,7 +76,7 @@ impl fmt::Display for BadProgram {
 pub enum Ending<'w> {
     /// The output is written whole.
     Written,
-    /// The words are not in the table of commands.
+    /// The arguments are not in the table of commands.
     NoCommand,
     /// The bytes are no graph, or a block of them isn't: the fault of its first wrong token.
     NoGraph { fault: ParseFault },
@@ -154,7 +154,7 @@ impl<'w> Ending<'w> {
         }
     }
 
-    /// The line on standard error, with its line end; nothing, which takes no memory, where the output was written or was not taken.
+    /// The line on standard error, with its line end; nothing, which takes no memory, if the output was written or was not taken.
     pub fn line(&self, alloc: Global) -> Result<Vec<u8>, OutOfMemory>
         ensures value { IfOk result (λ text. text.items ≡ line_of (ending_held self.now)) }
         ensures memory { OnErr result (line_of (ending_held self.now) ≢ []) }
@@ -211,7 +211,7 @@ fn put_refusal(out: &mut ByteOut, graph: &Graph, fault: &CompileFault) -> Result
     out.u8(b'\n')
 }
 
-// Writes a line that ends with a word of the command line.
+// Writes a line that ends with an argument of the command line.
 fn put_about(out: &mut ByteOut, before: &[u8], arg: &str) -> Result<(), OutOfMemory>
     ensures { OnOk result (out.new ≡ out.old ++ (before.now ++ shown_arg arg.now ++ 10 ∷ [])) }
 {
@@ -220,7 +220,7 @@ fn put_about(out: &mut ByteOut, before: &[u8], arg: &str) -> Result<(), OutOfMem
     out.u8(b'\n')
 }
 
-// Writes a word, with its control bytes escaped.
+// Writes an argument, with its control bytes escaped.
 fn put_arg(out: &mut ByteOut, arg: &str) -> Result<(), OutOfMemory>
     ensures { OnOk result (out.new ≡ out.old ++ shown_arg arg.now) }
 {

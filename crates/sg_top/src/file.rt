@@ -1,4 +1,4 @@
-//! The files that the words name.
+//! The files that the arguments name.
 ghost use Rattle.std.specs.Prelude.{◌≡◌, ◌≤◌, Some, IfErr, IfOk, length};
 ghost use Rattle.sg_top.specs.Ends.{Has, IsUnread};
 ghost use Rattle.sg_top.specs.Model.{ending_held};

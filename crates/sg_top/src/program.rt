@@ -26,13 +26,13 @@ use sg_stream::{Conns, StreamLink};
 use sg_wait::TimedLink;
 use std::alloc::Global;
 
-/// Does what the words ask for, those after the program's name, and gives the exit status.
+/// Does what the arguments ask for, those after the program's name, and gives the exit status.
 ///
 /// `check GRAPH` reads a graph from a file, compiles it for each of its roles, and writes to `out` that it is accepted, and how many views
 /// each role has. `compile GRAPH ROLE` compiles it for one role and writes the program. `run KEYS SCRIPT N PROGRAM..` plays a script as
-/// one principal over `link`, with random words from `fresh` and at most N deliveries, and writes a line for each step. `ledger FILE` makes
+/// one principal over `link`, with random bytes from `fresh` and at most N deliveries, and writes a line for each step. `ledger FILE` makes
 /// a ledger of a file of `disk`; `keep FILE KEYS SCRIPT N PROGRAM..` is `run` over the ledger of a file, to which each join is added before
-/// anything of it is told. `stream KEYS SCRIPT N PROGRAM..` is `run` over the connections of `stream`. `replay SCHEDULE` reads a schedule from
+/// anything of it is written or sent. `stream KEYS SCRIPT N PROGRAM..` is `run` over the connections of `stream`. `replay SCHEDULE` reads a schedule from
 /// a file, compiles its graphs, runs it, and writes the report of the run. `drive SEED SESSIONS GRAPH` reads a graph, compiles it, generates a
 /// run of it in SESSIONS sessions, and writes the summary. `audit LOGS` reads logs from a file, makes the checks of `check` for their graph,
 /// and writes of each session whether its logs agree. `compose PARTS` reads parts from a file, expands them, checks the expansion, and writes
@@ -74,10 +74,10 @@ pub fn top<
         (record { coming = L.coming link.new; port = record { bound = P.bound port.new; coming = P.coming port.new; sent = P.sent port.new; faults = P.faults port.new }; input = record { bytes = I.coming input.new; faults = I.faults input.new } })
         (record { bytes = E.written err.old; faults = E.faults err.old }) (record { bytes = E.written err.new; faults = E.faults err.new }) result }
 
-    // All links, the input and the random words are as before where no run began.
+    // All links, the input and the random bytes are as before if no run began.
     ensures as_before { MayPlay (map string_bytes args.now) result ⊎ ((link.new ≡ link.old) × (stream.new ≡ stream.old) × (port.new ≡ port.old) × (input.new ≡ input.old) × (fresh.new ≡ fresh.old)) }
 
-    // So is each link where the words ask for no run over it, the input where they don't ask to serve, and the disk where they are not on a
+    // So is each link if the arguments ask for no run over it, the input if they don't ask to serve, and the disk if they are not on a
     // ledger.
     ensures link { IsOverLink (command_of (map string_bytes args.now)) ⊎ (link.new ≡ link.old) }
     ensures stream { IsOverStream (command_of (map string_bytes args.now)) ⊎ (stream.new ≡ stream.old) }

@@ -1,6 +1,6 @@
 //! The command `replay`: reads a schedule, compiles its graphs, replays it over a node for each honest principal, and writes the report.
 //!
-//! The run of a replay is the core's, so what holds of every run holds of it: where the premises hold, a receipt from an honest sender has
+//! The run of a replay is the core's, so what holds of every run holds of it: if the assumptions hold, a receipt from an honest sender has
 //! a send, frames show the last steps of honest senders, and a frame that is awaited and delivered is received (`sg_world::laws`).
 ghost use Rattle.std.specs.Prelude.{◌≡◌, ◌<◌, ◌≤◌, true, All, IfErr, IfOk, OnOk, length};
 ghost use Rattle.sg_model.specs.Limits.{most_schedule_file, most_steps};
@@ -67,7 +67,7 @@ fn replay_bytes<O: Sink>(alloc: Global, bytes: &[u8], out: &mut O) -> Ending<'st
     }
 }
 
-// How the program ends where bytes are no schedule.
+// How the program ends if bytes are no schedule.
 fn refused(fault: LineFault) -> Ending<'static>
     ensures { ending_held result ≡ ending_of_fault fault }
 {
@@ -77,7 +77,7 @@ fn refused(fault: LineFault) -> Ending<'static>
     }
 }
 
-// How the program ends where this line is the first that is wrong.
+// How the program ends if this line is the first that is wrong.
 fn wrong_line(line: u32, kind: Kind) -> Ending<'static>
     ensures { ending_held result ≡ ending_of_line line (kind_of kind) }
 {
@@ -122,7 +122,7 @@ fn replay_schedule<O: Sink>(
     }
 }
 
-// How the program ends where a graph isn't compiled.
+// How the program ends if a graph isn't compiled.
 fn refused_graph(alloc: Global, graphs: &[Graph], fault: AllFault) -> Ending<'static>
     requires { IsAllFault graphs.now fault }
     ensures { Refuses graphs.now (ending_held result) }
@@ -187,7 +187,7 @@ fn report_of(
     }
 }
 
-// Takes a step of an honest principal, or a craft, or says how the program ends where it isn't taken.
+// Takes a step of an honest principal, or a craft, or says how the program ends if it isn't taken.
 fn take(world: &mut World<'_>, step: &Step) -> Result<(), Ending<'static>>
     requires few { length world.old.schedule.steps < most_steps }
     requires step { CanBeTaken world.old.schedule (step_of step.now) }

@@ -1,6 +1,6 @@
 //! The command `run`: reads keys, programs and a script, opens the link, and plays the script as one principal.
 //!
-//! What is played is a function of the keys, the programs, the script, the first deliveries of the link and the random words
+//! What is played is a function of the keys, the programs, the script, the first deliveries of the link and the random bytes
 //! (`sg_play`): each call that it makes is a step of a node, so what holds of every run holds of it.
 ghost use Rattle.std.specs.Prelude.{◌≡◌, ◌≤◌, ◌⊎◌, Err, OnOk, Some, map};
 ghost use Rattle.sg_base.specs.Outside.{HasRisen};

@@ -1,4 +1,4 @@
-//! What a run is given: the keys, the programs and the script of the files that its words name.
+//! What a run is given: the keys, the programs and the script of the files that its arguments name.
 ghost use Rattle.std.specs.Prelude.{◌≡◌, ◌+◌, ◌≤◌, Ok, IfErr, IfOk, OnOk, length, map};
 ghost use Rattle.sg_model.specs.Limits.{most_program_file, most_script_file};
 ghost use Rattle.sg_keys.specs.KeyFile.{SpellsKeys, key_file};
@@ -148,7 +148,7 @@ fn read_programs<'w, F: Files>(
     Ok(programs)
 }
 
-// Adds the program of a file, or says how the program ends where it isn't taken.
+// Adds the program of a file, or says how the program ends if it isn't taken.
 fn add_program<'w, F: Files>(
     alloc: Global,
     file: &'w str,
@@ -181,7 +181,7 @@ fn add(bytes: &[u8], program: Program, programs: &mut Programs) -> Result<(), En
     ensures added { OnOk result (Adds (λ p. IsTextOf p bytes.now) programs.old programs.new) }
     ensures refused { IfErr result (λ ending. RefusesProgram programs.old bytes.now (ending_held ending)) }
 {
-    // The program is known by its bytes where it isn't added.
+    // The program is known by its bytes if it isn't added.
     let _ = bytes;
     let number = next_number(programs);
     let cause = BadProgram::Twice;
@@ -192,7 +192,7 @@ fn add(bytes: &[u8], program: Program, programs: &mut Programs) -> Result<(), En
     }
 }
 
-// How the program ends where the bytes are no program's text.
+// How the program ends if the bytes are no program's text.
 fn not_loaded(bytes: &[u8], fault: LoadFault, programs: &Programs) -> Ending<'static>
     requires { IsLoadFault bytes.now fault }
     ensures { RefusesProgram programs.now bytes.now (ending_held result) }

@@ -28,7 +28,7 @@ found_trace P (e ∷ es) sid c a h = elim (cases_Bool (bytes_eq sid e.0)) [
   | inr n ↦ found_trace P es sid c a.1 (rw n at h)
 ]
 
--- where none is found, the sid isn't there
+-- if none is found, the sid isn't there
 none_found : (es : List Entry) (sid : List ℕ) → lookup (bytes_eq sid) es ≡ None → has_text sid (keys es) ≡ false
 none_found [] sid h = refl
 none_found (e ∷ es) sid h = elim (cases_Bool (bytes_eq sid e.0)) [

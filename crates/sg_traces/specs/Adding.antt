@@ -39,7 +39,7 @@ pub record Adds (old new : Trace) (e : Event) (walk : List ℕ) : Type 0 where
 abbrev pub view_now : Trace → Frame → View
 view_now c f = view_since (get_or c.origins f.receiver None) f
 
--- where the receiver's program is of the trace's graph and the frame shows it a view, the trace has the event more, beside an example of this view
+-- if the receiver's program is of the trace's graph and the frame shows it a view, the trace has the event more, beside an example of this view
 abbrev pub Takes : List Program → Trace → Trace → Event → Frame → Type 0
 Takes programs old new e f = (p : Program) → program_for programs old.cast.graph f.receiver ≡ Some p → p.graph ≡ old.graph → p.role ≡ f.receiver → IsView old.graph f.receiver (view_now old f) →
     (walk : List ℕ) × IsExample old.graph f.receiver (view_now old f) walk × Adds old new e walk

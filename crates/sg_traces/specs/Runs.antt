@@ -18,7 +18,7 @@ use Rattle.sg_protocol.specs.Walk.{StoredStep}
 use Rattle.sg_protocol.specs.World.{Logged}
 use Rattle.sg_traces.specs.Traces.{Trace, Traces}
 
--- the programs are those of the schedule's graphs, and both premises hold of its run
+-- the programs are those of the schedule's graphs, and both assumptions hold of its run
 pub record IsUnbroken (programs : List Program) (s : Schedule) : Type 0 where
   pub compiled : AreCompiled real s.graphs programs
   pub schedule : IsSchedule real s

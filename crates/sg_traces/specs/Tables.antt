@@ -25,6 +25,6 @@ pub record IsLast (Comes : Trace → Trace → Type 0) (programs : List Program)
   pub comes : Comes old new
   pub is_new : now ≡ before ++ (sid, new) ∷ []
 
--- where the role has a program, a trace is put after the others
+-- if the role has a program, a trace is put after the others
 abbrev pub Begun : (Comes : Trace → Trace → Type 0) (programs : List Program) (names : List Name) (cast : Cast) (role : ℕ) (sid : List ℕ) (before now : List (List ℕ × Trace)) → Type 0
 Begun Comes programs names cast role sid before now = (p : Program) → program_for programs cast.graph role ≡ Some p → IsLast Comes programs names cast role sid before now

@@ -44,7 +44,7 @@ impl<'r> Model for Trace<'r> {
 }
 
 impl<'r> Trace<'r> {
-    /// A trace of this cast without events, in the graph of the program that is found for the cast and a role, or `None` where there is
+    /// A trace of this cast without events, in the graph of the program that is found for the cast and a role, or `None` if there is
     /// no such program. It takes no memory.
     pub(crate) fn new<H: Honest>(
         alloc: Global,
@@ -104,8 +104,8 @@ impl<'r> Trace<'r> {
         Ok(())
     }
 
-    /// Goes on by the receipt of a frame, beside an example of what the frame shows. If memory runs out, the trace is as before. Where
-    /// the premises hold, the frame shows a view of the receiver.
+    /// Goes on by the receipt of a frame, beside an example of what the frame shows. If memory runs out, the trace is as before. If
+    /// the assumptions hold, the frame shows a view of the receiver.
     pub(crate) fn take(
         &mut self,
         alloc: Global,
@@ -120,7 +120,7 @@ impl<'r> Trace<'r> {
         let Some(program) = programs.find(&self.cast.graph(), frame.receiver) else {
             return Ok(());
         };
-        // Where the premises hold, both are the same graph.
+        // If the assumptions hold, both are the same graph.
         if program.graph().edges() > self.graph.edges() {
             return Ok(());
         }

@@ -156,7 +156,7 @@ impl<'r> Traces<'r> {
         self.table.get(sid)
     }
 
-    /// The walk of a session, or `None` where no event has the sid.
+    /// The walk of a session, or `None` if no event has the sid.
     pub fn walk(&self, alloc: Global, sid: &Sid) -> Result<Option<StoredWalk>, OutOfMemory>
         ensures { (s : Schedule) → IsUnbroken self.now.programs s → let log = (run real self.now.programs s).log in AreTraces s log self.now
             → IfOk result (λ found. MatchOption found (events_of sid.now log ≡ []) (λ w. IsExplainedBy self.now.programs s sid.now (steps_of w))) }

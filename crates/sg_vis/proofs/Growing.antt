@@ -168,7 +168,7 @@ leads-more g r first before after at i labels e l x y m is leads inv k d u =
           subst (λ f. LeadsInto g r after (get_or first at d) f) (sym label) (subst (λ (p : State). LeadsInto g r after p e) state here))
     ]
 
--- where each label of an edge from a state is followed, the state is
+-- if each label of an edge from a state is followed, the state is
 pub followed-all : (g : Graph) (r : ℕ) (first states : List State) (at i : ℕ) (p : State) (labels : List ℕ) → slice_get first at ≡ Some p
     → ((e : ℕ) → e < length g.edges → source (shape g) e ≡ p.node → Contains labels e) → length labels ≤ i
     → ((k : ℕ) (d : State) → k < i → LeadsInto g r states (get_or first at d) (get_or labels k 0))

@@ -45,7 +45,7 @@ same_key n m v w e h k =
     let items = same_items v.items w.items numbers h k in
     (node, λ i. record { origin = origin i; items = items i })
 
--- where a key is looked up and found, an entry passes; where it is not, none does
+-- if a key is looked up and found, an entry passes; if it is not, none does
 looked_up : {K X : Type 0} (test : K → Bool) (es : List (K × X)) (d : K × X) → is_some (lookup test es) ≡ true → (k : ℕ) × (k < length es) × (test (get_or es k d).0 ≡ true)
 looked_up test [] d h = absurd (cc)
 looked_up test (e ∷ es) d h =

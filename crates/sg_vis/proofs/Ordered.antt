@@ -40,7 +40,7 @@ then-apart a b o e =
       | inr l ↦ rw (l, e) refl
     ]
 
--- one list of items comes before another exactly where the comparison says so
+-- one list of items comes before another exactly if the comparison says so
 before-items : (xs ys : List Seen) → items_before xs ys ≡ is_lt (items_compared xs ys)
 before-items [] [] = refl
 before-items (x ∷ xs) [] = refl
@@ -81,7 +81,7 @@ before_number (Some a) None = grind (arith, nat_tests)
 before_number None (Some b) = grind (arith, nat_tests)
 before_number (Some a) (Some b) = grind (arith, nat_tests)
 
--- one view comes before another exactly where the comparison says so
+-- one view comes before another exactly if the comparison says so
 pub before-compared : (a b : View) → view_before a b ≡ is_lt (compared a b)
 before-compared a b =
     elim (cases_Bool (origin_number a.origin == origin_number b.origin)) [
@@ -113,7 +113,7 @@ cmp-suc a b =
     let e : (suc a == suc b) ≡ (a == b) = grind (arith, nat_tests) in
     rw (l, e) refl
 
--- where one of the lists has ended, their lengths decide
+-- if one of the lists has ended, their lengths decide
 pub ended : (at : ℕ) (xs ys : List Seen) → at ≤ length xs → at ≤ length ys → (length xs ≤ at) ⊎ (length ys ≤ at)
     → items_compared (drop at xs) (drop at ys) ≡ nat_cmp (length xs) (length ys)
 ended zero [] [] l m d = refl
@@ -129,7 +129,7 @@ ended (suc at) (x ∷ xs) [] l m d = absurd (omega arith)
 ended (suc at) (x ∷ xs) (y ∷ ys) l m (inl d) = ended at xs ys (omega arith) (omega arith) (inl (omega arith)) ∙ sym (cmp-suc (length xs) (length ys))
 ended (suc at) (x ∷ xs) (y ∷ ys) l m (inr d) = ended at xs ys (omega arith) (omega arith) (inr (omega arith)) ∙ sym (cmp-suc (length xs) (length ys))
 
--- where a row comes before a view, so do those before it
+-- if a row comes before a view, so do those before it
 pub less_upto : (table : List ShownView) (v : View) (m : ℕ) (s : ShownView) → AllPairs (λ a b. compared a.view b.view ≡ Less) table → m < length table → s ≡ get_or table m s
     → compared s.view v ≡ Less → (k : ℕ) (d : ShownView) → k < m + 1 → compared (get_or table k d).view v ≡ Less
 less_upto table v m s h l e less k d u =
@@ -139,7 +139,7 @@ less_upto table v m s h l e less k d u =
       | inr b ↦ ap (λ i. compared (get_or table i d).view v) b ∙ ap (λ (x : ShownView). compared x.view v) at ∙ less
     ]
 
--- where a row comes after a view, so do those after it
+-- if a row comes after a view, so do those after it
 pub more_from : (table : List ShownView) (v : View) (m : ℕ) (s : ShownView) → AllPairs (λ a b. compared a.view b.view ≡ Less) table → m < length table → s ≡ get_or table m s
     → compared s.view v ≡ Greater → (k : ℕ) (d : ShownView) → m ≤ k → k < length table → compared (get_or table k d).view v ≡ Greater
 more_from table v m s h l e more k d u w =

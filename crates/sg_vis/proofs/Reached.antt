@@ -196,7 +196,7 @@ settled-other g r n v h =
 Contains-map : {A B : Type 0} (f : A → B) (xs : List A) (x : A) → Contains xs x → Contains (map f xs) (f x)
 Contains-map f xs x h = (h.0, subst (λ n. h.0 < n) (sym (length-map xs f)) h.1, get_or-map f xs h.0 x (f x) h.1 ∙ ap f h.2)
 
--- a complete search has each open view, so they are few where it has few
+-- a complete search has each open view, so they are few if it has few
 pub few_open : (g : Graph) (r : ℕ) (states : List State) → Searched g r states → FollowedBelow g r states (length states) → length (open_states states) ≤ 65536 → FewOpen g r
 few_open g r states s f few = record {
   list = map open_view (open_states states);

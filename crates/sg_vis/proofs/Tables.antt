@@ -117,7 +117,7 @@ All-insert P xs p x w h q = λ k d l. by k d (spot (length xs) p k (omega (arith
 pub rows-insert : (g : Graph) (r : ℕ) (table : List ShownView) (p : ℕ) (row : ShownView) → AreRows g r table → p ≤ length table → Shows g r row.walk row.view → HoldsTable (insert table p row) → AreRows g r (insert table p row)
 rows-insert g r table p row h w s holds = record { holds = holds; shows = All-insert (λ (s : ShownView). Shows g r s.walk s.view) table p row w h.shows s }
 
--- a full table and one view more, where open views are few, show that there are too many views
+-- a full table and one view more, if open views are few, show that there are too many views
 pub explains_full : (g : Graph) (r : ℕ) (table : List ShownView) (v : View) (p : ℕ) (walk : List ℕ) (fault : ViewFault) → FewOpen g r → AreRows g r table → Shows g r walk v → StandsAt table v p → IsFull table v fault → Explains g r fault
 explains_full g r table v p walk (TooManyOpen list) few rows s at full = absurd full
 explains_full g r table v p walk OutOfMemory few rows s at full = tt
@@ -173,7 +173,7 @@ shown-more g r states before after at i labels e l keeps m is here inv k d u t =
           subst (λ f. Contains after (next_view g r (get_or states at d).view f)) (sym label) there)
     ]
 
--- where each label of an edge from an index is looked at, all that it shows is there
+-- if each label of an edge from an index is looked at, all that it shows is there
 pub shown-all : (g : Graph) (r : ℕ) (states : List State) (vs : List View) (at i : ℕ) (p : State) (labels : List ℕ) → slice_get states at ≡ Some p
     → ((e : ℕ) → e < length g.edges → source (shape g) e ≡ p.node → Contains labels e) → length labels ≤ i
     → ((k : ℕ) (d : State) → k < i → receiver (shape g) (get_or labels k 0) ≡ r → Contains vs (next_view g r (get_or states at d).view (get_or labels k 0)))

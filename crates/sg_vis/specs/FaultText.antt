@@ -1,4 +1,4 @@
--- What is said of a role that too many views can reach, by its name.
+-- The text for a role that too many views can reach, by its name.
 use Rattle.std.specs.Prelude.{ℕ, List, ◌++◌, codes}
 use Rattle.sg_protocol.specs.Graph.{Graph, role_name}
 use Rattle.sg_vis.specs.declared.fault.ViewFault.{ViewFault}

@@ -26,13 +26,13 @@ pub record ManyViews (g : Graph) (r : ℕ) (list : List View) : Type 0 where
   pub different : AllPairs (λ a b. a ≢ b) list
   pub each : All (IsView g r) list
 
--- the fault shows that there are too many open views, or, where these are few, too many views
+-- the fault shows that there are too many open views, or, if these are few, too many views
 abbrev pub Explains : Graph → ℕ → ViewFault → Type 0
 Explains g r (TooManyOpen list) = ManyOpen g r list
 Explains g r (TooManyViews list) = FewOpen g r × ManyViews g r list
 Explains g r OutOfMemory = ⊤
 
--- of too many views, the list is as told; of other faults nothing is told but that memory ran out
+-- of too many views, the list is as above; of other faults nothing is reported but that memory ran out
 abbrev pub MatchViews : ViewFault → (List View → Type 0) → Type 0
 MatchViews (TooManyOpen list) P = ⊥
 MatchViews (TooManyViews list) P = P list

@@ -21,7 +21,7 @@ is_open v = is_some v.origin || nat_lt 0 (length v.items)
 abbrev pub open_view : State → OpenView
 open_view p = record { node = p.node; view = p.view }
 
--- what is kept of a view at a node: nothing where r acts
+-- what is kept of a view at a node: nothing if r acts
 abbrev pub settled : Graph → ℕ → ℕ → View → View
 settled g r n v = if role_at (shape g) n == r then nothing else v
 

@@ -21,8 +21,8 @@ use std::alloc::Global;
 
 const MOST_VIEWS: usize = 4_096;
 
-/// The table of a role's views: each once, in order, with a walk that shows it, and nothing else. Refused where there are more than
-/// 65,536 open views or 4,096 views, or where memory runs out. It takes memory for the open views and for the table.
+/// The table of a role's views: each once, in order, with a walk that shows it, and nothing else. Refused if there are more than
+/// 65,536 open views or 4,096 views, or if memory runs out. It takes memory for the open views and for the table.
 pub fn views(alloc: Global, graph: &Graph, role: Role) -> Result<ViewTable, ViewFault>
     ensures table { IfOk result (λ t. IsViewTable graph.now role (views_of t)) }
     ensures walks { IfOk result (λ t. All (λ s. Shows graph.now role s.walk s.view) t) }

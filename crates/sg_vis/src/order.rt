@@ -56,7 +56,7 @@ fn compare_seen(one: &Seen, two: &Seen) -> Ordering
     }
 }
 
-/// The mask of a set: bit i for variable i. It tells the set.
+/// The mask of a set: bit i for variable i. It determines the set.
 pub(crate) fn mask_of(vars: VarSet) -> u32
     ensures mask { result ≡ mask vars }
     ensures set { members 32 result ≡ vars }

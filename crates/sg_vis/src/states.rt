@@ -141,7 +141,7 @@ fn put(
     Ok(true)
 }
 
-// 1 where both hold, and otherwise 0.
+// 1 if both hold, and otherwise 0.
 fn one_if(new: bool, opens: bool) -> usize
     ensures { result ≡ (if new && opens then 1 else 0) }
 {

@@ -77,7 +77,7 @@ impl ViewTable {
         &self.rows[id.0 as usize].view
     }
 
-    /// The number of the view with this origin and these items; `None` exactly where the table has no such view. It takes no memory.
+    /// The number of the view with this origin and these items; `None` exactly if the table has no such view. It takes no memory.
     pub fn find(&self, from: Origin, items: &[Seen]) -> Option<ViewId>
         ensures { MatchOption result (¬ Contains (views_of self.now) (view_from (origin_of from) items.now))
             (λ id. slice_get (views_of self.now) id ≡ Some (view_from (origin_of from) items.now)) }

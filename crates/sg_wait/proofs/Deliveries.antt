@@ -17,7 +17,7 @@ first-received [] bytes h = cc
 first-received (Delivery first ∷ cs) bytes h = cc
 first-received (Silence ∷ cs) bytes h = first-received cs bytes h
 
--- where nothing is given, there is no delivery
+-- if nothing is given, there is no delivery
 end-received : (cs : List Coming) → None ≡ (received false cs).0 → deliveries_of cs ≡ []
 end-received [] h = refl
 end-received (Delivery first ∷ cs) h = cc
@@ -31,7 +31,7 @@ first_of items (Ok (Some b)) cs h = first-received cs (items b) h
 first_of items (Ok None) cs h = tt
 first_of items (Err e) cs h = tt
 
--- of an answer: where nothing is given, there is no delivery
+-- of an answer: if nothing is given, there is no delivery
 pub end_of : {B E : Type 0} (items : B → List ℕ) (r : Result (Option B) E) (cs : List Coming)
     → IfOk r (λ found. option_map items found ≡ (received false cs).0)
     → IfOk r (λ found. IfNone found (deliveries_of cs ≡ []))

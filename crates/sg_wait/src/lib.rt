@@ -4,7 +4,7 @@
 //! silence ends the wait with nothing. A wait without a limit takes silences off until there is a delivery. No number of milliseconds
 //! stands in a definition: how long a silence has to be is for the link to say.
 //!
-//! [`TimedLink`] is a link that can wait so. [`MemTimedLink`] is one in memory, which tells what is to come.
+//! [`TimedLink`] is a link that can wait so. [`MemTimedLink`] is one in memory, of which it is known what is to come.
 #![tactic(auto)]
 
 mod coming;

@@ -155,7 +155,7 @@ impl Link for MemTimedLink {
         self.next(false)
     }
 
-    /// It fails where there is no room for the frame and at the calls that are to fail.
+    /// It fails if there is no room for the frame and at the calls that are to fail.
     fn send(&mut self, to: Addr, frame: Sealed) -> Result<(), (Sealed, Failed)>
         ensures cause { IsErr result ↔ IsTrue (fails_to_send self.old frame.1) }
         ensures ok { OnOk result (self.new ≡ record self.old { sent = self.old.sent ++ (to, frame.1) ∷ []; room = self.old.room - 1; plan = counted self.old.plan }) }
@@ -202,7 +202,7 @@ impl TimedLink for MemTimedLink {
         self.next(within.is_some())
     }
 
-    /// It fails where there is no room for the frame and at the calls that are to fail.
+    /// It fails if there is no room for the frame and at the calls that are to fail.
     fn post(&mut self, to: Addr, frame: &[u8]) -> Result<(), Failed>
         ensures cause { IsErr result ↔ IsTrue (fails_to_send self.old frame.now) }
         ensures ok { OnOk result (self.new ≡ record self.old { sent = self.old.sent ++ (to, frame.now) ∷ []; room = self.old.room - 1; plan = counted self.old.plan }) }
@@ -249,7 +249,7 @@ fn filled(mut empty: Vec<u8>, frame: &[u8]) -> Vec<u8>
     empty
 }
 
-// Puts a frame at the end, where there is room.
+// Puts a frame at the end, if there is room.
 fn put_last(sent: &mut Vec<(Addr, Vec<u8>)>, frame: (Addr, Vec<u8>))
     requires { length sent.old.items < vec_capacity sent.old }
     ensures items { sent.new.items ≡ sent.old.items ++ frame ∷ [] }

@@ -1,7 +1,7 @@
 //! Links that can wait with a limit of time, as a trait.
 //!
-//! As with every link the count of faults never falls, and a call answers `Failed` only where it rose in that call. What is to come is
-//! told by a link in memory and not by one of the system, so the clauses on it speak of what is told. The calls of `Link` say nothing
+//! As with every link the count of faults never falls, and a call answers `Failed` only if it rose in that call. What is to come is
+//! known of a link in memory and not of one of the system, so the clauses on it speak of what is known. The calls of `Link` say nothing
 //! of it.
 ghost use Rattle.std.specs.Prelude.{◌≡◌, ◌<◌, ◌≤◌, ℕ, List, [], ◌∷◌, Option, Some, is_some, length, OnOk, OnErr, IfOk};
 ghost use Rattle.std.specs.Option.{option_map};
@@ -14,10 +14,10 @@ use std::alloc::Global;
 
 /// A link that can wait with a limit of time.
 pub trait TimedLink: Link {
-    /// What is to come, deliveries and silences, where it is told.
+    /// What is to come, deliveries and silences, if it is known.
     ghost coming: { Self → Option (List Coming) };
 
-    /// Waits at an address from now on. Where it fails, it waits where it did before.
+    /// Waits at an address from now on. If it fails, it waits where it did before.
     fn open_at(&mut self, at: Addr) -> Result<(), Failed>
         ensures never_falls { Self.faults self.old ≤ Self.faults self.new }
         ensures failed { OnErr result (HasRisen (Self.faults self.old) (Self.faults self.new)) }
@@ -26,8 +26,8 @@ pub trait TimedLink: Link {
         ensures kept { coming self.new ≡ coming self.old }
         ensures kept_sent { Self.sent self.new ≡ Self.sent self.old };
 
-    /// The next delivery. With a limit, in milliseconds, it is `None` where none came in that time, and also where none is to come;
-    /// without a limit it waits until there is one, and is `None` only where none is to come.
+    /// The next delivery. With a limit, in milliseconds, it is `None` if none came in that time, and also if none is to come;
+    /// without a limit it waits until there is one, and is `None` only if none is to come.
     fn recv_within(
         &mut self,
         alloc: Global,

@@ -58,7 +58,7 @@ hidden_same hs carried f (w ∷ ws) s h =
     let less : w.0 < 32 = (let a = parts.0 in grind (arith, nat_tests, a)) in
     rw (h w.0 less) (ap (λ r. beq (is_none w.1) (not hs && not (f w.0)) && r) (hidden_same hs carried f ws parts.1 h))
 
--- where the rest is wrong the whole is
+-- if the rest is wrong the whole is
 rest_wrong : (g : Graph) (honest : ℕ → Bool) (taken : Bool) (steps : List Step) (i : ℕ) → are_hidden g honest taken (map step_of (drop i steps)) ≡ false → are_hidden g honest taken (map step_of steps) ≡ false
 rest_wrong g honest taken [] zero h = h
 rest_wrong g honest taken [] (suc i) h = h

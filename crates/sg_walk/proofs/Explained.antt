@@ -190,7 +190,7 @@ pub explain_end : (W : Type 0) (g : Graph) (honest : ℕ → Bool) (taken : Bool
 explain_end W g honest taken events steps i at indices l k =
     subst (λ ss. W ↔ (acts_from events at ≡ honest_acts g honest taken k.store (map step_of ss))) (drop_end steps i l) k.rest
 
--- where an act is next, some act is left
+-- if an act is next, some act is left
 pub some_left : (events : List CodeEvent) (from at : ℕ) → IsNextAct events from at → acts_from events from ≡ [] → ⊥
 some_left events from at n e = left events at n.0 n.2 (sym n.1 ∙ e)
   where
@@ -224,7 +224,7 @@ keys_kept steps indices (x ∷ xs) = ap (λ l. x ∷ l) (keys_kept steps indices
 pub kept_keys : (steps : List StoredStep) (indices : List (Option ℕ)) (xs : List ℕ) (vs : Map Held) → shown (values_of vs) ≡ kept steps indices xs → map (λ w. w.0) vs ≡ xs
 kept_keys steps indices xs vs e = sym (keys_shown vs) ∙ ap keys_of e ∙ keys_kept steps indices xs
 
--- no act is left exactly where the events explain the whole
+-- no act is left exactly if the events explain the whole
 pub explains_whole : (W : Type 0) (events : List CodeEvent) (at : ℕ) (next : Option ℕ) (b : Bool) → b ≡ is_none next → MatchOption next (acts_from events at ≡ []) (IsNextAct events at)
     → (W ↔ (acts_from events at ≡ [])) → IsTrue b ↔ W
 explains_whole W events at None b e m w = (λ t. w.1 m, λ x. e)

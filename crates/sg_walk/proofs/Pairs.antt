@@ -11,7 +11,7 @@ use Rattle.sg_walk.specs.Matching.{is_next}
 
 -- ---- cutting
 
--- where nothing stands behind an index, the list is at its end
+-- if nothing stands behind an index, the list is at its end
 pub end_drop : {A : Type 0} (xs : List A) (i : ℕ) → drop i xs ≡ [] → length xs ≤ i
 end_drop [] i h = omega arith
 end_drop (x ∷ xs) zero h = absurd (cc)

@@ -51,7 +51,7 @@ path_none g honest events steps sent received ends n s o =
     case (inl t) both = n (subst (λ t. flat_map acts_of_event events ≡ honest_acts g honest t [] steps) t o.explained, subst (λ t. IsTrue (are_hidden g honest t steps)) t o.hidden)
     case (inr f) both = let z : true ≡ false = sym (both.1 (o.awaited f)) ∙ s in absurd (cc)
 
--- neither is both where one is missing
+-- neither is both if one is missing
 pub and_left : (a b : Bool) → a ≡ false → (a && b) ≡ false
 and_left a b e = ap (λ c. c && b) e
 

@@ -41,7 +41,7 @@ IsNextAct events from at = (at < length events) × (acts_from events from ≡ ac
 abbrev pub Takes : List CodeEvent → ℕ → List Act → Option ℕ → Type 0
 Takes events at acts result = MatchOption result ((rest : List Act) → acts_from events at ≡ acts ++ rest → ⊥) (λ next. acts_from events at ≡ acts ++ acts_from events next)
 
--- the value that the step of this number wrote, where it isn't hidden
+-- the value that the step of this number wrote, if it isn't hidden
 abbrev pub value_from : List StoredStep → Option ℕ → ℕ → Option Value
 value_from steps None x = None
 value_from steps (Some i) x = unwrap_or (value_at (get_or steps i (record { label = 0; writes = [] })).writes x) None

@@ -51,7 +51,7 @@ fn is_part(graph: &Graph, honest: RoleSet, taken: bool, walk: &StoredWalk, event
     explains(graph, honest, taken, walk, events) && hides(graph, honest, taken, walk)
 }
 
-/// Whether the last step's sender is honest, and whether its receiver is; both, where there is no step.
+/// Whether the last step's sender is honest, and whether its receiver is; both, if there is no step.
 fn last_ends(graph: &Graph, honest: RoleSet, walk: &StoredWalk) -> (bool, bool)
     requires { AllByRecursion (IsNamed graph.now) (steps_of walk.now) }
     ensures sent { result.0 ≡ option_map_or (λ s. is_in (sender (shape graph.now) s.label) honest) (last (steps_of walk.now)) true }

@@ -1,4 +1,4 @@
--- What a node answers to a call, as what comes of the step.
+-- What a node answers to a call, as the outcome of the step.
 use Rattle.std.proofs.Common.{◌≡◌, ℕ, ◌+◌, ◌<◌, List, [], ◌∷◌, map, length, Option, Some, None, option_map, slice_get, Result, Ok, Err, OnOk, ◌++◌, get_or, take, refl, sym, ◌∙◌, ap, subst}
 use Rattle.std.specs.List.{AllByRecursion}
 use Rattle.std.specs.Option.{option_map_or}
@@ -38,7 +38,7 @@ use Rattle.sg_world.specs.Kept.{StepResult, no_frame}
 noted_first : (blank : StepResult) (notes more : Notes) → blank ≡ no_frame → notes ≡ with_notes blank.notes more → notes ≡ with_notes no_notes more
 noted_first blank notes more none h = h ∙ ap (λ (z : StepResult). with_notes z.notes more) none
 
--- what comes of a call that sends nothing
+-- the outcome of a call that sends nothing
 pub comes_quiet : (number : ℕ) (old new : NodeState) (past : Past) (call : Call) (told : Option Reported) (graph : Option Graph) (notes : Notes) (blank c : StepResult) → blank ≡ no_frame → c ≡ record blank { told = told; graph = graph; notes = notes } → IsCallInRange call
     → SendsNothing number (answer real (node_of past) call) told → graph ≡ graph_of_call real (node_of past) call → notes ≡ with_notes blank.notes (noted_of real (node_of past) call) → GoesOn old new call past → ComesOfCall number old new past call c
 comes_quiet number old new past call told graph notes blank c none e range h graphed noted goes =
@@ -51,7 +51,7 @@ comes_quiet number old new past call told graph notes blank c none e range h gra
       goes_on = goes;
     })
 
--- what holds where there is an answer
+-- what holds if there is an answer
 pub if_is_ok : {A E : Type 0} (Q : Type 0) (r : Result A E) → ((x : A) → r ≡ Ok x → Q) → OnOk r Q
 if_is_ok Q (Ok x) f = f x refl
 if_is_ok Q (Err e) f = tt
@@ -80,7 +80,7 @@ comes_act s w k number who n label values ds sid confounders old new past c same
 
 -- ---- answers
 
--- what comes of a step that was sent
+-- the outcome of a step that was sent
 pub comes_sent : (number : ℕ) (old new : NodeState) (past : Past) (sid : List ℕ) (label : ℕ) (values : Map Value) (confounders : List (List ℕ)) (e : Protocol.Event) (to bytes : List ℕ) (graph : Option Graph) (notes : Notes) (blank c : StepResult)
     → blank ≡ no_frame → c ≡ record { told = Some (Sends e to number); graph = graph; frame = Some bytes; notes = notes } → (f : Frame) → answer real (node_of past) (Act sid label values confounders) ≡ Protocol.Sends e to f → bytes ≡ spelling f
     → AreValues values confounders → graph ≡ graph_of_call real (node_of past) (Act sid label values confounders) → notes ≡ with_notes blank.notes (noted_of real (node_of past) (Act sid label values confounders)) → GoesOn old new (Act sid label values confounders) past

@@ -17,7 +17,7 @@ use Rattle.sg_world.specs.Kept.{Recorded}
 use Rattle.sg_world.specs.Setting.{Setting}
 use Rattle.sg_world.proofs.Pasts.{Named}
 
--- the frame that a craft makes of a cast, where it has this graph
+-- the frame that a craft makes of a cast, if it has this graph
 abbrev made : Schedule → Craft → Cast → Option Graph → Option Frame
 made s x cast o = option_map (λ (g : Graph). crafted_frame real s (new_world [] s) x g (new_session (session_id real cast) cast x.from)) o
 

@@ -30,7 +30,7 @@ use Rattle.sg_report.specs.Reported.{Crafted, Reported, reported_after, reported
 use Rattle.sg_world.proofs.EntryGraphs.{IsBefore, graph_of_called}
 use Rattle.sg_world.proofs.Pasts.{Named, names, Found, found, after}
 
--- what is told of a longer log
+-- what is reported of a longer log
 told_more : (before xs : List Logged) (l : Logged) → reported_after before (xs ++ l ∷ []) ≡ reported_after before xs ++ reported_outcome (frame_number (before ++ xs)) l.outcome ∷ []
 told_more before [] l = ap (λ (z : List Logged). reported_outcome (frame_number z) l.outcome ∷ []) (sym (append-nil before))
 told_more before (x ∷ xs) l =

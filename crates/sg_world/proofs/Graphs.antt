@@ -1,4 +1,4 @@
--- The first program of a graph for role 0 is that of the first graph with its digest, where each graph has two roles.
+-- The first program of a graph for role 0 is that of the first graph with its digest, if each graph has two roles.
 use Rattle.std.proofs.Common.{◌≡◌, ℕ, zero, suc, ◌<◌, ◌≤◌, ◌==◌, All, Bool, true, false, ◌&&◌, List, [], ◌∷◌, ◌++◌, map, length, find, bytes_eq, if◌then◌else◌, Some, option_map, refl, ◌∙◌, ap, arith}
 use Rattle.std.specs.List.{AllByRecursion}
 use Rattle.std.proofs.lemmas.List.Elements.{recursion_from_All}

@@ -19,7 +19,7 @@ use Rattle.sg_world.proofs.EntryCalls.{entry_call}
 
 -- ---- events
 
--- the event of an outcome is that which is told
+-- the event of an outcome is that which is reported
 pub told_event : (n : ℕ) (o : Core.Outcome) → events_of_outcome o ≡ option_to_list (event_reported (reported_outcome n o))
 told_event n (Core.Outcome.Answered a) = of_answer a
   where
@@ -34,7 +34,7 @@ told_event n (Core.Outcome.Answered a) = of_answer a
 told_event n Core.Outcome.Crafted = refl
 told_event n Core.Outcome.NoFrame = refl
 
--- the events of an entry, by its told outcome
+-- the events of an entry, by its reported outcome
 pub events_told : (l : Logged) (n : ℕ) (told : Option Reported) (e : Option Event) → told ≡ Some (reported_outcome n l.outcome) → e ≡ option_and_then event_reported told → events_of_outcome l.outcome ≡ option_to_list e
 events_told l n told e is of = told_event n l.outcome ∙ ap option_to_list (sym (of ∙ ap (option_and_then event_reported) is))
 
@@ -42,7 +42,7 @@ events_told l n told e is of = told_event n l.outcome ∙ ap option_to_list (sym
 
 -- ---- entries
 
--- what is told of a log, at an index
+-- what is reported of a log, at an index
 told_at : (before xs : List Logged) (i : ℕ) (l : Logged) → slice_get xs i ≡ Some l → slice_get (reported_after before xs) i ≡ Some (reported_outcome (frame_number (before ++ take i xs)) l.outcome)
 told_at before [] i l e = absurd (cc)
 told_at before (x ∷ xs) zero l e = (let same : x ≡ l = cc in ap (λ (z : Logged). Some (reported_outcome (frame_number before) z.outcome)) same ∙ ap (λ (ls : List Logged). Some (reported_outcome (frame_number ls) l.outcome)) (sym (append-nil before)))

@@ -19,7 +19,7 @@ Named = Name × NodeState
 abbrev pub names : List Named → List Name
 names ns = map (λ (n : Named). n.0) ns
 
--- the past with the call, where it is this principal's
+-- the past with the call, if it is this principal's
 abbrev pub next : Name → Call → Past → Past
 next who call p = if bytes_eq p.keys.me who then past_after real p call else p
 

@@ -1,4 +1,4 @@
--- What breaks a premise of a replay's run, by what is kept.
+-- What breaks an assumption of a replay's run, by what is kept.
 use Rattle.std.proofs.Common.{◌≡◌, ℕ, suc, ◌+◌, ◌<◌, ◌≤◌, List, [], ◌∷◌, ◌++◌, length, find, Option, Some, None, option_map, IfOk, IfSome, MatchOption, Result, Ok, Err, false, is_some, slice_get, sym, ◌∙◌, ap, subst, arith}
 use Rattle.std.specs.Option.{option_or}
 use Rattle.std.proofs.lemmas.List.{length-map}
@@ -28,7 +28,7 @@ use Rattle.sg_world.specs.declared.premises.ForgedFault.{ForgedFault}
 use Rattle.sg_world.specs.declared.premises.ForgedFault.TheVariants as forged
 use Rattle.sg_world.proofs.Pasts.{Named, names, in_names}
 
--- ---- the first premise
+-- ---- the first assumption
 
 -- as many steps were taken as have notes
 pub as_many : (d : Setting) (nodes : List Named) (r : Recorded) → Holds d nodes r → length r.notes ≡ length r.entries
@@ -70,21 +70,21 @@ steps_few pair (Ok (Some x)) found n q h l =
     let below : (pair x).0 < 1 + n = subst (λ (o : Option (ℕ × Note)). IfSome o (λ (f : ℕ × Note). f.0 < 1 + n)) (sym q) h in
     omega (arith, below, l)
 
--- a principal has a node where its name is that of one
+-- a principal has a node if its name is that of one
 pub has_node : (ns : List Named) (who : Name) (o : Option ℕ) → MatchOption o (has_text who (names ns) ≡ false) (λ i. (state : NodeState) × (slice_get ns i ≡ Some (who, state))) → is_some o ≡ has_text who (names ns)
 has_node ns who None h = sym h
 has_node ns who (Some i) h = sym (in_names ns i who h.0 h.1)
 
--- where there is no forged note the premise holds
+-- if there is no forged note the assumption holds
 pub unforged_is : (r : Replay) → first_forged r.schedule (run_of r) ≡ None → Unforged r.schedule (run_of r)
 unforged_is r e = (forged_is_first r.schedule (run_of r)).0.0 e
 
--- and where there is one it does not
+-- and if there is one it does not
 pub forged_fault_is : (r : Replay) (found : ℕ × Note) (e : ForgedFault) → first_forged r.schedule (run_of r) ≡ Some found → IsForgedAs found e → IsForgedFault r e
 forged_fault_is r found (forged.Forged step one two text) q h = (q ∙ ap (λ (z : ℕ × Note). Some z) h, λ u. (let none : None ≡ Some found = sym ((forged_is_first r.schedule (run_of r)).0.1 u) ∙ q in cc))
 forged_fault_is r found forged.OutOfMemory q h = tt
 
--- ---- the second premise
+-- ---- the second assumption
 
 pub collision_free_is : (r : Replay) → first_collision real (hashed r.schedule (run_of r)) ≡ None → CollisionFree real (hashed r.schedule (run_of r))
 collision_free_is r e = (collision_is_first real (hashed r.schedule (run_of r))).0.0 e

@@ -20,7 +20,7 @@ use Rattle.sg_world.specs.Walked.{IsPath, Path, PremisesHold, WalksAreWritten, p
 use Rattle.sg_world.proofs.PremiseLaws.{collision_free_is, unforged_is}
 use Rattle.sg_world.proofs.WalkLaws.{none_met, some_met}
 
--- ---- the premises
+-- ---- the assumptions
 
 pub not_not : (b : Bool) → not (not b) ≡ b
 not_not true = refl
@@ -38,13 +38,13 @@ none_is : {A : Type 0} (o : Option A) → is_none o ≡ true → o ≡ None
 none_is None h = refl
 none_is (Some x) h = absurd (let z : false ≡ true = h in cc)
 
--- both premises hold where the account says so
+-- both assumptions hold if the account says so
 pub hold_is : (r : Replay) → premises_hold (account r) ≡ true → PremisesHold r
 hold_is r h =
     let both = and_parts (is_none (account r).forged) (account r).collision_free h in
     record { unforged = unforged_is r (none_of forgery (first_forged r.schedule (run_of r)) both.0); collision_free = collision_free_is r (none_is (first_collision real (hashed r.schedule (run_of r))) both.1) }
 
--- and the account says so where they do
+-- and the account says so if they do
 pub says_hold : (r : Replay) → PremisesHold r → premises_hold (account r) ≡ true
 says_hold r p =
     let texts = hashed r.schedule (run_of r) in
@@ -55,7 +55,7 @@ pub forged_breaks : {X : Type 0} (r : Replay) (f : X → ℕ × Note) (o : Optio
 forged_breaks r f None e h p = absurd (let z : false ≡ true = h in cc)
 forged_breaks r f (Some x) e h p = let none : Some (f x) ≡ None = e ∙ (forged_is_first r.schedule (run_of r)).0.1 p.unforged in cc
 
--- and where there is none, a collision says it
+-- and if there is none, a collision says it
 pub collision_says : {X Y : Type 0} (r : Replay) (f : X → ℕ × Note) (g : Y → List ℕ × List ℕ) (a : Option X) (b : Option Y) → option_map f a ≡ first_forged r.schedule (run_of r) → is_some a ≡ false
     → option_map g b ≡ first_collision real (hashed r.schedule (run_of r)) → MatchBool (not (is_some b)) (PremisesHold r) (PremisesHold r → ⊥)
 collision_says r f g (Some x) b e h q = absurd (let z : true ≡ false = h in cc)
@@ -96,7 +96,7 @@ module _ (r : Replay) where
   sids_are [] = refl
   sids_are (p ∷ ps) = ap (λ (z : List (List ℕ)). p.sid ∷ z) (sids_are ps)
 
-  -- with the walks, where the premises hold
+  -- with the walks, if the assumptions hold
   pub report_with : (one two three : List ℕ) → one ≡ lines_from (met (account r)) 1 (account r).lines → two ≡ one ++ premise_lines (account r).forged (account r).collision_free
       → premises_hold (account r) ≡ true → WalksAreWritten r two three → IsReport (account r) three
   report_with one two three lines premises hold w = record {

@@ -76,7 +76,7 @@ module _ (s : Schedule) where
         parts = r.parts ∙ ap (λ (l : List Logged). l ++ r.entries) o.log ∙ append_assoc w.log (o.entry ∷ []) r.entries;
       }
 
--- where each step is a craft or an honest principal's, each has its entry
+-- if each step is a craft or an honest principal's, each has its entry
 pub entries_of_steps : (programs : List Program) (s : Schedule) → list_all (is_taken s) s.steps ≡ true → AllZip (EntryOf s) s.steps (run real programs s).log
 entries_of_steps programs s e =
     let r : AllMore s [] (run real programs s).log s.steps = all_steps s (new_world programs s) 1 s.steps (begins s.keys programs s.honest) e in

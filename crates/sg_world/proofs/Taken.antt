@@ -1,4 +1,4 @@
--- The next step of a replay, where the record was given room first and the step is a copy.
+-- The next step of a replay, if the record was given room first and the step is a copy.
 use Rattle.std.proofs.Common.{◌≡◌, ℕ, ◌+◌, ◌<◌, ◌≤◌, ◌^◌, List, length, Option, Some, None, refl, sym, ◌∙◌, ap, subst}
 use Rattle.sg_model.specs.Limits.{most_steps}
 use Rattle.sg_protocol.specs.IsSchedule.{IsStep}

@@ -1,4 +1,4 @@
--- Each line of an account can be told by its graph.
+-- Each line of an account has its names in its graph.
 use Rattle.std.specs.Prelude.{◌≡◌, ℕ, ◌<◌, ◌==◌, ◌⊎◌, ◌||◌, ⊤, nat_lt, Bool, true, false, List, [], ◌∷◌, ◌++◌, ◌-◌, map, find, zip, length, refl, Option, Some, None, option_map, option_and_then, Result, Ok, Err, IsSomeAnd, Contains, All, if◌then◌else◌}
 use Rattle.std.specs.List.{list_all, list_any, AllByRecursion, AllZip}
 use Rattle.std.specs.Option.{option_map_or, option_to_list}
@@ -72,7 +72,7 @@ refused_act n (Deliver bytes) f e = by (read bytes) e
 
 -- ---- the graph that has a variable
 
--- the first graph that passes is there where one passes, and passes
+-- the first graph that passes is there if one passes, and passes
 found_passes : (p : Graph → Bool) (gs : List Graph) → list_any p gs ≡ true → IsSomeAnd (find p gs) (λ g. p g ≡ true)
 found_passes p [] h = absurd (let z : false ≡ true = h in cc)
 found_passes p (g ∷ gs) h = by (p g) refl (found_passes p gs)
@@ -111,7 +111,7 @@ among n x (y ∷ ys) a h = by (cases_Bool (y == x)) (among n x ys a.1)
     by (inl e) rest = subst (λ z. z < n) (eqb-true y x e) a.0
     by (inr e) rest = rest (subst (λ b. (b || is_in x ys) ≡ true) e h)
 
--- an answer is told by the graph of its call, or a refused variable by one that has it
+-- an answer has its names in the graph of its call, or a refused variable in one that has it
 can_tell : (gs : List Graph) (g : Graph) (n : ℕ) (node : Node) (c : Call) (a : Answer) → answer real node c ≡ a → GivesFor gs c → HasNamed g c a → CanBeReported (graph_reported gs (Some g) (reported_answer n a)) (reported_answer n a)
 can_tell gs g n node c (Happened e) q given h = h
 can_tell gs g n node c (Sends e to f) q given h = h
@@ -181,7 +181,7 @@ module _ (r : Replay) (compiled : AreCompiled real r.schedule.graphs r.programs)
   all_told (x ∷ xs) (l ∷ ls) before a h i =
       (line_told l x (frame_number before) (contains_from_in (run_of r).log l (i l (inl refl))) a.0 h.0, all_told xs ls (before ++ l ∷ []) a.1 h.1 (λ m j. i m (inr j)))
 
-  -- each line of the account can be told
+  -- each line of the account has its names
   pub lines_can_be_told : list_all (is_taken r.schedule) r.schedule.steps ≡ true → All (CanBeNamed r.schedule) r.schedule.steps → AllByRecursion (λ (ln : StepLine). CanBeReported ln.graph ln.told) (lines_of r)
   lines_can_be_told taken named =
       all_told r.schedule.steps (run_of r).log [] (entries_of_steps r.programs r.schedule taken) (recursion_from_All (CanBeNamed r.schedule) r.schedule.steps named) (λ l i. i)

@@ -82,7 +82,7 @@ module _ {X : Type 0} (path_of : List ℕ × X → Path) (is_of : (sid : List �
       by true q rest = subst (λ (z : List ℕ). IsPath r (path_of (z, e.1))) (sym ((bytes_eq-Decides sid e.0).0 q)) h.0
       by false q rest = rest
 
-  -- each path that is told is one
+  -- each path that is reported is one
   pub told_paths : (r : Replay) (es : List (List ℕ × X)) → AllByRecursion (λ (e : List ℕ × X). IsPath r (path_of e)) es → (sids : List (List ℕ)) → AllByRecursion (IsPath r) (filter_map (at es) sids)
   told_paths r es h [] = tt
   told_paths r es h (sid ∷ sids) = by (lookup (bytes_eq sid) es) (found_path r es h sid) (told_paths r es h sids)
@@ -91,7 +91,7 @@ module _ {X : Type 0} (path_of : List ℕ × X → Path) (is_of : (sid : List �
       by None i rest = rest
       by (Some w) i rest = (i, rest)
 
-  -- the sid that is asked for is found where it is among the keys
+  -- the sid that is asked for is found if it is among the keys
   key_found : (sid : List ℕ) (es : List (List ℕ × X)) → option_map (λ (w : X). sid) (lookup (bytes_eq sid) es) ≡ (if has_text sid (map (λ (e : List ℕ × X). e.0) es) then Some sid else None)
   key_found sid [] = refl
   key_found sid (e ∷ es) = by (bytes_eq sid e.0) (key_found sid es)
@@ -114,7 +114,7 @@ module _ {X : Type 0} (path_of : List ℕ × X → Path) (is_of : (sid : List �
       by (Some w) true q rest = λ i. is_of sid w i ∷ rest i
       by (Some w) false q rest = absurd (cc)
 
-  -- where each session with an event has a walk, and no other, these are the sessions that are met
+  -- if each session with an event has a walk, and no other, these are the sessions that are met
   pub told_met : (es : List (List ℕ × X)) (m : KnownSessions) → ((sid : List ℕ) → has_text sid (map (λ (e : List ℕ × X). e.0) es) ≡ has_text sid m.events) → map (λ (p : Path). p.sid) (filter_map (at es) (all_sids m)) ≡ sids_met m
   told_met es m h = told_sids es (all_sids m) ∙ (λ i. filter (λ sid. h sid i) (all_sids m))
 
@@ -206,7 +206,7 @@ module _ (r : Replay) (compiled : AreCompiled real r.schedule.graphs r.programs)
     text = text;
   }
 
--- where so many walks are made as there are traces
+-- if so many walks are made as there are traces
 pub made_ok : {E : Type 0} {P : ℕ → Type 0} {n : ℕ} (res : Result ℕ E) → ((count : ℕ) → count ≡ n → P count) → IfOk res (λ count. count ≡ n) → IfOk res P
 made_ok (Ok count) f h = f count h
 made_ok (Err e) f h = tt

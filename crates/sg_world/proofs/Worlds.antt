@@ -56,7 +56,7 @@ taken_is rep d nodes now r r2 x is h = ap (λ (z : Schedule). record { programs 
 pub run_is : (rep new : Replay) (x : Step) → new ≡ with_taken rep x → run_of new ≡ stepped rep x
 run_is rep new x h = ap run_of h ∙ runs_go_by_step real rep.programs rep.schedule x
 
--- a step that has its index, where the record is not full, is admitted
+-- a step that has its index, if the record is not full, is admitted
 pub is_admitted : (rep : Replay) (d : Setting) (nodes : List Named) (r : Recorded) (x : Step) (index : Option ℕ) → replay d nodes r ≡ rep → Holds d nodes r → IsIndexOf nodes x index → r.size ≤ most_record_before
     → IsAdmitted rep x
 is_admitted rep d nodes r x index is h at small =
@@ -75,7 +75,7 @@ size_after rep new d nodes r x is h step taken small =
     let sized = h.run.size in
     omega (arith, more, after, there, sized, small)
 
--- what is told of the last step
+-- what is reported of the last step
 pub last_told : (rep : Replay) (d : Setting) (nodes : List Named) (r : Recorded) → replay d nodes r ≡ rep → Holds d nodes r → option_map (λ (e : Taken). e.told) (last r.entries) ≡ option_map {U = Option Reported} Some (last (reported_log (run_of rep).log))
 last_told rep d nodes r is h =
     sym (last-option_map (λ (e : Taken). e.told) r.entries) ∙ ap (λ (z : List (Option Reported)). last z) h.run.told ∙ last-option_map (λ (t : Reported). Some t) (reported_log (run_of (replay d nodes r)).log)
@@ -85,13 +85,13 @@ last_told rep d nodes r is h =
 pub noted : (rep : Replay) (d : Setting) (nodes : List Named) (r : Recorded) → replay d nodes r ≡ rep → Holds d nodes r → r.notes ≡ map (λ (l : Logged). l.notes) (run_of rep).log
 noted rep d nodes r is h = h.run.notes ∙ ap (λ (z : Replay). map (λ (l : Logged). l.notes) (run_of z).log) is
 
--- as much is told as steps were taken
+-- as much is reported as steps were taken
 pub told_many : (rep : Replay) (d : Setting) (nodes : List Named) (r : Recorded) → replay d nodes r ≡ rep → Holds d nodes r → length r.entries ≡ length (reported_log (run_of rep).log)
 told_many rep d nodes r is h =
     sym (length-map r.entries (λ (e : Taken). e.told)) ∙ ap (λ (z : List (Option Reported)). length z) h.run.told ∙ length-map (reported_log (run_of (replay d nodes r)).log) (λ (t : Reported). Some t)
     ∙ ap (λ (z : Replay). length (reported_log (run_of z).log)) is
 
--- what is told of the step at an index
+-- what is reported of the step at an index
 same_at : (es : List Taken) (ts : List Reported) (i : ℕ) (e : Taken) → map (λ (e : Taken). e.told) es ≡ map Some ts → slice_get es i ≡ Some e → e.told ≡ slice_get ts i
 same_at [] ts i e h q = absurd (cc)
 same_at (x ∷ es) [] i e h q = absurd (cc)

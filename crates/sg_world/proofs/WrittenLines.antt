@@ -58,7 +58,7 @@ all_taken d [] (y ∷ ls) h = absurd (cc)
 all_taken d (x ∷ es) [] h = absurd (cc)
 all_taken d (x ∷ es) (y ∷ ls) h = let rest : map (line_kept d) es ≡ map {B = Option StepLine} Some ls = cc in ap (λ (z : List StepLine). y ∷ z) (all_taken d es ls rest)
 
--- each line can be written where those of an account can be told
+-- each line can be written if those of an account have their names
 pub can_be_written : (d : Setting) (es : List Taken) (ls : List StepLine) → map (line_kept d) es ≡ map {B = Option StepLine} Some ls → AllByRecursion (λ (l : StepLine). CanBeReported l.graph l.told) ls → AllByRecursion (CanBeWritten d) es
 can_be_written d [] ls h a = tt
 can_be_written d (x ∷ es) [] h a = absurd (cc)

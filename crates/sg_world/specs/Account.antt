@@ -26,11 +26,11 @@ abbrev pub variable_refused : Reported → Option ℕ
 variable_refused (NotActed (Send (BadValues x))) = Some x
 variable_refused other = None
 
--- the graph by which a line names its numbers: that of its call. Where this one doesn't have the variable for which an act was refused, it is the first graph that has it
+-- the graph by which a line names its numbers: that of its call. If this one doesn't have the variable for which an act was refused, it is the first graph that has it
 abbrev pub graph_reported : List Graph → Option Graph → Reported → Option Graph
 graph_reported graphs g told = option_map_or (λ x. find (λ h. nat_lt x (length h.variables)) (option_to_list g ++ graphs)) (variable_refused told) g
 
--- the line of an entry of which this is told
+-- the line of an entry of which this is reported
 abbrev pub line_of_entry : Replay → Logged × Reported → StepLine
 line_of_entry r e = record {
   who = e.0.who;

@@ -1,4 +1,4 @@
--- What comes of a step at a principal's node.
+-- The outcome of a step at a principal's node.
 use Rattle.std.specs.Prelude.{◌≡◌, ℕ, ◌+◌, ◌<◌, ⊤, List, length, take, Option, Some, None, slice_get}
 use Rattle.std.specs.List.{AllByRecursion}
 use Rattle.indexmap.specs.IndexMap.{set_value_at}
@@ -22,7 +22,7 @@ use Rattle.sg_node.specs.Answers.{GoesOn}
 use Rattle.sg_report.specs.Reported.{reported_answer}
 use Rattle.sg_world.specs.Kept.{StepResult, no_frame}
 
--- what comes of a call is what the node of the past answers, where its frame has this number, by the graph of the call; and the new state goes on for the past
+-- the outcome of a call is what the node of the past answers, if its frame has this number, by the graph of the call; and the new state goes on for the past
 pub record ComesOfCall (number : ℕ) (old new : NodeState) (past : Past) (call : Call) (c : StepResult) : Type 0 where
   pub range : IsCallInRange call
   pub told : c.told ≡ Some (reported_answer number (answer real (node_of past) call))
@@ -31,7 +31,7 @@ pub record ComesOfCall (number : ℕ) (old new : NodeState) (past : Past) (call 
   pub notes : c.notes ≡ noted_of real (node_of past) call
   pub goes_on : GoesOn old new call past
 
--- what comes of a step that makes this call; where there is no frame to deliver, it makes none, and the state is as before
+-- the outcome of a step that makes this call; if there is no frame to deliver, it makes none, and the state is as before
 abbrev pub Comes : ℕ → NodeState → NodeState → Past → Option Call → StepResult → Type 0
 Comes number old new past None c = (c ≡ no_frame) × (new ≡ old)
 Comes number old new past (Some call) c = ComesOfCall number old new past call c

@@ -36,7 +36,7 @@ IsCraftable d (DeliverStep who what) = ⊤
 abbrev pub Declares : Schedule → Setting → Type 0
 Declares s d = (s.graphs ≡ d.graphs) × (s.keys ≡ d.keys) × (s.sessions ≡ d.sessions)
 
--- what a craft makes, where the frame has this number
+-- what a craft makes, if the frame has this number
 pub record ComesOfCraft (number : ℕ) (s : Schedule) (w : World) (x : Craft) (c : StepResult) : Type 0 where
   pub told : c.told ≡ Some (Crafted number)
   pub graph : c.graph ≡ None
@@ -49,7 +49,7 @@ pub record ComesOfCrafting (d : Setting) (recorded : List (List ℕ)) (x : Step)
   pub is_craft : x ≡ CraftStep craft
   pub comes : (s : Schedule) (w : World) → Declares s d → frames w ≡ recorded → ComesOfCraft (length recorded + 1) s w craft c
 
--- what comes of step k: at the node at its index; or, where it has none, of a craft, which leaves the nodes as they are
+-- what comes of step k: at the node at its index; or, if it has none, of a craft, which leaves the nodes as they are
 abbrev pub ComesOfIndex : Setting → List (List ℕ) → ℕ → Step → Option ℕ → List (Name × NodeState) → List (Name × NodeState) → StepResult → Type 0
 ComesOfIndex d recorded k x None nodes now c = (now ≡ nodes) × ComesOfCrafting d recorded x c
 ComesOfIndex d recorded k x (Some index) nodes now c = ComesAt d.sessions recorded k x index nodes now c

@@ -17,7 +17,7 @@ names_of nodes = map (λ (n : Name × NodeState). n.0) nodes
 abbrev pub IsIndexOf : List (Name × NodeState) → Step → Option ℕ → Type 0
 IsIndexOf nodes x index = MatchOption index (who_of x ≡ None) (λ i. (n : Name × NodeState) × (slice_get nodes i ≡ Some n) × (who_of x ≡ Some n.0))
 
--- the principal has no node; or it has one and the record has more bytes than it may have. Neither takes memory to tell
+-- the principal has no node; or it has one and the record has more bytes than it may have. Neither takes memory to say
 abbrev pub IsFaultOf : List Name → ℕ → Step → StepFault → Type 0
 IsFaultOf names size x (NotHonest name) = (who_of x ≡ Some name) × (has_text name names ≡ false)
 IsFaultOf names size x (RecordFull bytes) = (option_map_or (λ who. has_text who names) (who_of x) true ≡ true) × (most_record_before < size) × (bytes ≡ size)

@@ -1,4 +1,4 @@
--- The record of a replay: each step that was taken with what came of it, what was noted, and the recorded frames.
+-- The record of a replay: each step that was taken with the outcome, what was noted, and the recorded frames.
 use Rattle.std.specs.Prelude.{◌≡◌, ℕ, ◌+◌, List, [], ◌∷◌, ◌++◌, length, map, sum_by, Option, Some, None}
 use Rattle.std.specs.Option.{option_map_or, option_to_list}
 use Rattle.sg_model.specs.Names.{Name}
@@ -13,7 +13,7 @@ use Rattle.sg_world.specs.Entries.{graph_of_entry}
 use Rattle.sg_world.specs.Representation.{RepresentPasts}
 use Rattle.sg_report.specs.Reported.{Reported, NoFrame, reported_log}
 
--- what came of a step: what is told of it, the graph by which its numbers have names, the frame that it records, and what was noted
+-- the outcome of a step: what is reported of it, the graph by which its numbers have names, the frame that it records, and what was noted
 pub record StepResult : Type 0 where
   pub told : Option Reported
   pub graph : Option Graph
@@ -24,7 +24,7 @@ pub record StepResult : Type 0 where
 abbrev pub no_frame : StepResult
 no_frame = record { told = Some NoFrame; graph = None; frame = None; notes = no_notes }
 
--- a step that was taken, what is told of it, and the graph by which its numbers have names
+-- a step that was taken, what is reported of it, and the graph by which its numbers have names
 pub record Taken : Type 0 where
   pub step : Step
   pub told : Option Reported

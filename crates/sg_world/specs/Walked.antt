@@ -19,7 +19,7 @@ use Rattle.sg_world.specs.Replay.{Replay, run_of}
 use Rattle.sg_world.specs.declared.session_walk.WalkFault.{WalkFault}
 use Rattle.sg_world.specs.declared.session_walk.WalkFault.TheVariants.{NoSuchSession, PremiseBroken, OutOfMemory}
 
--- both premises hold of the run
+-- both assumptions hold of the run
 abbrev pub PremisesHold : Replay → Type 0
 PremisesHold r = Premises real r.schedule (run_of r)
 

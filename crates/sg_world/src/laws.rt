@@ -11,9 +11,9 @@ pub fn none_joins_twice()
     ensures { NoneJoinsTwice }
 {}
 
-/// Where the premises hold of a replay's run, an honest sender's receipt was given by bytes that this sender sent before, what an
+/// If the assumptions hold of a replay's run, an honest sender's receipt was given by bytes that this sender sent before, what an
 /// accepted frame shows of honest senders is the last step of each, a frame that is awaited and delivered is received, and each claim
-/// that holds of a session's graph is kept by whichever walk explains the session, and by its events. Where no two hashed texts have one
+/// that holds of a session's graph is kept by whichever walk explains the session, and by its events. If no two hashed texts have one
 /// digest, all events of a session are of one cast and one graph, and no honest principal has two roles in a session.
 pub fn runs_of_replays()
     ensures { LawsHold }

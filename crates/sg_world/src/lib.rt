@@ -7,7 +7,7 @@
 //!
 //! `Setting` is the programs and what is declared, with what is made of it once: the identifiers of the sessions, the texts under the
 //! digests of the graphs, and the keys by their pairs. The nodes stand in the order of the honest principals, and the one whose step it is
-//! is one look-up away. `Record` has each step with what came of it and the graph by which its numbers have names, what was noted of tags
+//! is one look-up away. `Record` has each step with the outcome and the graph by which its numbers have names, what was noted of tags
 //! and hashes at each, and each frame once, found by its number. `specs/Holds.antt` says what holds of these parts between steps: each
 //! node represents its principal's past in the run, and what is recorded is what the run's log says.
 //!
@@ -21,10 +21,10 @@
 //!
 //! A graph is found by its digest among the programs, by the program of its first role: the graphs of a schedule have two roles or more.
 //!
-//! `unforged` and `collision_free` try the two premises on what was noted, and tell the first break. `report` goes over the record once
-//! for what sessions are called, once for the lines, and once for each premise; where both hold it goes through the sessions in one pass
+//! `unforged` and `collision_free` try the two assumptions on what was noted, and report the first break. `report` goes over the record once
+//! for what sessions are called, once for the lines, and once for each assumption; if both hold it goes through the sessions in one pass
 //! more, and writes the walk of each as soon as it is made. `walk_of` gives the walk of one session. What a report says by the run
-//! stands in `specs/Account.antt`, and that it says so in `proofs/Tellable.antt` (each line can be told), `proofs/KeptLines.antt` (the
+//! stands in `specs/Account.antt`, and that it says so in `proofs/Tellable.antt` (each line has its names), `proofs/KeptLines.antt` (the
 //! lines and the names), `proofs/WalkLaws.antt` (the walks) and `proofs/ReportText.antt` (the text).
 #![tactic(auto)]
 

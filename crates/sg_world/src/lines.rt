@@ -63,7 +63,7 @@ fn put_entry<'p>(
     )
 }
 
-// The bytes of a name, none where there is none.
+// The bytes of a name, none if there is none.
 fn bytes_of(name: &Option<Name>) -> &[u8]
     ensures { result.now ≡ unwrap_or name.now [] }
 {
@@ -73,7 +73,7 @@ fn bytes_of(name: &Option<Name>) -> &[u8]
     }
 }
 
-// The name of a session, where a session is given.
+// The name of a session, if a session is given.
 fn name_in(names: &SessionNames, session: &Option<Sid>) -> Option<Name>
     ensures { (m : KnownSessions) → names.now ≡ naming 120 m → unwrap_or result [] ≡ option_map_or (name_in m) session.now [] }
 {

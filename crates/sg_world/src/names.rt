@@ -29,7 +29,7 @@ pub(crate) fn session_names<'p>(
     Ok(names)
 }
 
-// Declares these sessions, where none was before.
+// Declares these sessions, if none was before.
 fn declare_all(
     names: &mut SessionNames,
     sessions: &[NamedSession],

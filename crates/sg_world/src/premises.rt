@@ -1,4 +1,4 @@
-//! The two premises of a replay's run, tried on its record.
+//! The two assumptions of a replay's run, tried on its record.
 ghost use Rattle.std.specs.Prelude.{◌≡◌, ◌≤◌, IfOk, IfErr, IfSome, OnOk, option_map};
 ghost use Rattle.sg_model.specs.Limits.{most_steps};
 ghost use Rattle.sg_protocol.specs.Broken.{first_forged, first_collision};
@@ -16,7 +16,7 @@ use sg_premises::{Collision, Forged, Honest, first_collision, first_forged};
 use std::alloc::Global;
 use thiserror::Error;
 
-/// Why the first premise doesn't hold.
+/// Why the first assumption doesn't hold.
 #[derive(Debug, Drop, Error)]
 pub enum ForgedFault {
     /// A text was found right under the key of two honest principals, and neither had tagged it in an earlier step. It is the first
@@ -37,7 +37,7 @@ pub enum ForgedFault {
     OutOfMemory,
 }
 
-/// Why the second premise doesn't hold.
+/// Why the second assumption doesn't hold.
 #[derive(Debug, Drop, Error)]
 pub enum CollisionFault {
     /// Two different texts have one digest. Of all such pairs it is the one whose later text comes first, and of these the one
@@ -72,7 +72,7 @@ impl<'n, 'p> Honest for Principals<'n, 'p> {
 
 impl<'p> World<'p> {
     /// Whether no tag of two honest principals was forged so far: each text that was found right under a key of theirs had been tagged
-    /// in an earlier step. The fault tells the first that had not.
+    /// in an earlier step. The fault names the first that had not.
     pub fn unforged(&self) -> Result<(), ForgedFault>
         ensures holds { OnOk result (Unforged self.now.schedule (run_of self.now)) }
         ensures forged { IfErr result (IsForgedFault self.now) }
@@ -86,7 +86,7 @@ impl<'p> World<'p> {
         }
     }
 
-    /// Whether no two different texts that were hashed so far have one digest. The fault tells the first two that have.
+    /// Whether no two different texts that were hashed so far have one digest. The fault names the first two that have.
     pub fn collision_free(&self) -> Result<(), CollisionFault>
         ensures holds { OnOk result (CollisionFree real (hashed self.now.schedule (run_of self.now))) }
         ensures collision { IfErr result (IsCollisionFault self.now) }

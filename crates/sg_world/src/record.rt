@@ -14,7 +14,7 @@ use sg_sched::Step;
 use std::alloc::Global;
 use std::marker::Model;
 
-/// What came of a step, the graph by which its numbers have names, the frame that it records, and what was noted.
+/// The outcome of a step, the graph by which its numbers have names, the frame that it records, and what was noted.
 #[derive(Drop)]
 pub(crate) struct StepResult<'p> {
     pub outcome: Outcome,
@@ -49,7 +49,7 @@ impl<'p> StepResult<'p> {
         }
     }
 
-    /// Says what came of the step.
+    /// Says the outcome of the step.
     pub fn set_outcome(&mut self, outcome: Outcome)
         ensures { self.new ≡ record self.old { told = outcome_of outcome } }
     {
@@ -64,7 +64,7 @@ impl<'p> StepResult<'p> {
     }
 }
 
-/// A step that was taken, what came of it, and the graph by which its numbers have names.
+/// A step that was taken, the outcome, and the graph by which its numbers have names.
 #[derive(Drop)]
 pub(crate) struct TakenStep<'p> {
     pub step: Step,
@@ -152,7 +152,7 @@ impl<'p> Record<'p> {
         self.size
     }
 
-    /// What came of the last step.
+    /// The outcome of the last step.
     pub fn last(&self) -> Option<&Outcome>
         ensures { option_map (λ o. outcome_of o.now) result ≡ option_map (λ e. e.told) (last self.now.done.entries) }
     {
@@ -173,7 +173,7 @@ impl<'p> Record<'p> {
         Ok(())
     }
 
-    /// Records a step with what came of it. It takes no memory.
+    /// Records a step with the outcome. It takes no memory.
     pub fn put(&mut self, step: Step, step_result: StepResult<'p>)
         requires room { 0 < self.old.room }
         requires size { self.old.done.size + added_size step_result < 2 ^ 64 }
@@ -199,7 +199,7 @@ impl<'p> Record<'p> {
     }
 }
 
-// Puts a frame after the others, if there is one, where room was made.
+// Puts a frame after the others, if there is one, if room was made.
 fn put_frame(frames: &mut Vec<Seq<u8>>, frame: Option<Seq<u8>>)
     requires { vec_len frames.old < vec_capacity frames.old }
     ensures { frames.new.items ≡ frames.old.items ++ option_to_list frame }
@@ -209,7 +209,7 @@ fn put_frame(frames: &mut Vec<Seq<u8>>, frame: Option<Seq<u8>>)
     }
 }
 
-// Puts what was noted after the rest where room was made.
+// Puts what was noted after the rest if room was made.
 fn put_notes(all: &mut Vec<Notes>, notes: Notes)
     requires { vec_len all.old < vec_capacity all.old }
     ensures { all.new.items ≡ all.old.items ++ notes ∷ [] }
@@ -217,7 +217,7 @@ fn put_notes(all: &mut Vec<Notes>, notes: Notes)
     let _ = all.push(notes);
 }
 
-// Puts an entry after the others where room was made.
+// Puts an entry after the others if room was made.
 fn put_entry<'p>(entries: &mut Vec<TakenStep<'p>>, entry: TakenStep<'p>)
     requires { vec_len entries.old < vec_capacity entries.old }
     ensures { entries.new.items ≡ entries.old.items ++ entry.entry ∷ [] }

@@ -21,7 +21,7 @@ use sg_traces::{Trace, Traces};
 use std::alloc::Global;
 
 impl<'p> World<'p> {
-    /// The report of the steps that were taken so far: a line for each, whether the premises hold, and where they do the walk of each
+    /// The report of the steps that were taken so far: a line for each, whether the assumptions hold, and if they do the walk of each
     /// session with an event, the declared sessions first. Each step that was taken has to name what is declared.
     pub fn report(&self) -> Result<Vec<u8>, OutOfMemory>
         requires { All (CanBeNamed self.now.schedule) self.now.schedule.steps }
@@ -35,7 +35,7 @@ impl<'p> World<'p> {
         Ok(out.done())
     }
 
-    // Writes what stands after the lines: whether the premises hold, and the walks where they do.
+    // Writes what stands after the lines: whether the assumptions hold, and the walks if they do.
     fn put_rest(&self, out: &mut ByteOut, names: &SessionNames) -> Result<(), OutOfMemory>
         ensures { names.now ≡ naming 120 (met (account self.now)) → out.old ≡ lines_from (met (account self.now)) 1 (account self.now).lines → OnOk result (IsReport (account self.now) out.new) }
     {
@@ -46,7 +46,7 @@ impl<'p> World<'p> {
         }
     }
 
-    /// Writes the two lines that say whether the premises hold, and tells whether both do.
+    /// Writes the two lines that say whether the assumptions hold, and returns whether both do.
     pub fn put_premises(&self, out: &mut ByteOut) -> Result<bool, OutOfMemory>
         ensures hold { IfOk result (λ b. b ≡ premises_hold (account self.now)) }
         ensures text { OnOk result (out.new ≡ out.old ++ premise_lines (account self.now).forged (account self.now).collision_free) }

@@ -91,7 +91,7 @@ impl<'p> World<'p> {
         is_met(self.history.entries(), sid)
     }
 
-    // Both premises hold.
+    // Both assumptions hold.
     fn is_unbroken(&self) -> Result<bool, OutOfMemory>
         ensures { IfOk result (λ b. MatchBool b (PremisesHold self.now) (PremisesHold self.now → ⊥)) }
     {

@@ -137,7 +137,7 @@ impl<'p> Setting<'p> {
         }
     }
 
-    /// The number of bytes of the texts under the graphs' digests, or `OutOfMemory` where a `u64` can't count them.
+    /// The number of bytes of the texts under the graphs' digests, or `OutOfMemory` if a `u64` can't count them.
     pub fn size(&self) -> Result<u64, OutOfMemory>
         ensures { IfOk result (λ n. n ≡ sum_by (λ g. length (graph_text_of g)) self.now.graphs) }
     {

@@ -95,7 +95,7 @@ pub(crate) fn take_step<'p>(
     Ok(())
 }
 
-// Writes what comes of a step of this number over `step_result`: at the node at its index, or of the craft.
+// Writes the outcome of a step of this number over `step_result`: at the node at its index, or of the craft.
 fn perform<'p>(
     alloc: Global,
     setting: &Setting<'p>,

@@ -97,7 +97,7 @@ impl<'p> World<'p> {
         let _ = self.history.count();
     }
 
-    /// What came of the step at an index, counted from 0. It takes no memory.
+    /// The outcome of the step at an index, counted from 0. It takes no memory.
     pub fn outcome(&self, index: usize) -> &Outcome
         requires { index < length self.now.schedule.steps }
         ensures { outcome_of result.now ≡ slice_get (reported_log (run_of self.now).log) index }
@@ -106,7 +106,7 @@ impl<'p> World<'p> {
         &entry.outcome
     }
 
-    /// What came of the last step, or `None` where none was taken. It takes no memory.
+    /// The outcome of the last step, or `None` if none was taken. It takes no memory.
     pub fn last(&self) -> Option<&Outcome>
         ensures { option_map (λ o. outcome_of o.now) result ≡ option_map Some (last (reported_log (run_of self.now).log)) }
     {
@@ -120,7 +120,7 @@ impl<'p> World<'p> {
         self.history.notes()
     }
 
-    /// Takes a step. Refused where its principal isn't honest, where the record is full, or where memory runs out. After a refusal
+    /// Takes a step. Refused if its principal isn't honest, if the record is full, or if memory runs out. After a refusal
     /// the world is as before. The record holds less than 268,435,456 bytes after it.
     pub fn step(&mut self, step: &Step) -> Result<(), StepFault>
         requires room { length self.old.schedule.steps < most_steps }

@@ -1,4 +1,4 @@
-//! Random words in memory.
+//! Nonces and confounders in memory.
 ghost use Rattle.std.specs.Prelude.{◌≡◌, ◌+◌, ◌<◌, ◌^◌, drop, replicate, slice_index_or, IfOk};
 ghost use Rattle.sg_base.specs.Seeded.{seeded_random, stream_draw};
 
@@ -10,7 +10,7 @@ use std::alloc::Global;
 use std::collections::VecDeque;
 use std::marker::Model;
 
-/// A list of words, drawn from a seed when it was made.
+/// A list of sixteen bytes each, drawn from a seed when it was made.
 #[derive(Debug, Drop)]
 pub struct MemFresh {
     random: VecDeque<[u8; 16]>,
@@ -25,7 +25,7 @@ impl Model for MemFresh {
 }
 
 impl MemFresh {
-    /// The first `count` words of `ChaCha20Rng` from a seed.
+    /// The first `count` times sixteen bytes of `ChaCha20Rng` from a seed.
     pub fn new(alloc: Global, seed: [u8; 32], count: u32) -> Result<MemFresh, OutOfMemory>
         ensures { IfOk result (λ f. f ≡ seeded_random seed count) }
     {
@@ -38,7 +38,7 @@ impl MemFresh {
     }
 }
 
-// The next word of sixteen bytes.
+// The next sixteen bytes.
 fn draw(rng: &mut ChaCha20Rng) -> [u8; 16]
     requires { rng.old.word_pos + 4 < 2 ^ 68 }
     ensures drawn { result ≡ stream_draw rng.old.key rng.old.stream rng.old.word_pos }

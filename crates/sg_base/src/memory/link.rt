@@ -108,7 +108,7 @@ impl Link for MemLink {
         }
     }
 
-    /// It fails where there is no room and at the calls that are to fail.
+    /// It fails if there is no room and at the calls that are to fail.
     fn send(&mut self, to: Addr, frame: Sealed) -> Result<(), (Sealed, Failed)>
         ensures cause { IsErr result ↔ IsTrue (fails_next self.old.plan || nat_le self.old.room (length self.old.sent)) }
         ensures ok { OnOk result (self.new ≡ record self.old { sent = self.old.sent ++ (to, frame.1) ∷ []; plan = counted self.old.plan }) }

@@ -34,7 +34,7 @@ impl FaultPlan {
         }
     }
 
-    /// Counts a call, which fails where it is on the list or where there is no room for it.
+    /// Counts a call, which fails if it is on the list or if there is no room for it.
     pub fn call(&mut self, has_room: bool) -> Result<(), Failed>
         ensures cause { IsErr result ↔ IsTrue (fails_next self.old || not has_room) }
         ensures ok { OnOk result (self.new ≡ counted self.old) }

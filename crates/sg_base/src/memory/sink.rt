@@ -54,7 +54,7 @@ impl Sink for MemSink {
 
     ghost written = { λ s. Some s.bytes };
 
-    /// It takes as many bytes as there is room for, and fails where there is none and at the calls that are to fail.
+    /// It takes as many bytes as there is room for, and fails if there is none and at the calls that are to fail.
     fn write(&mut self, piece: &[u8]) -> Result<usize, Failed>
         ensures cause { IsErr result ↔ IsTrue (fails_next self.old.plan || nat_le self.old.room (length self.old.bytes)) }
         ensures count { IfOk result (λ n. n ≡ min (length piece.now) (self.old.room - length self.old.bytes)) }

@@ -56,7 +56,7 @@ fn open_and_recv<L: Link>(
     (link.open(at), link.recv(alloc))
 }
 
-// Sends a frame of one byte, and tells whether it came back.
+// Sends a frame of one byte, and returns whether it came back.
 fn send<L: Link>(alloc: Global, link: &mut L, to: Addr, name: Name) -> Result<bool, OutOfMemory> {
     match link.send(to, Sealed::seal(name, Vec::from_array(alloc, *b"f")?)) {
         Ok(()) => Ok(false),

@@ -26,7 +26,7 @@ pub enum AddFault {
 }
 
 impl Graph {
-    /// Adds a role. Refused where a role has this name, where there are 16, or where memory runs out; then the graph is as before.
+    /// Adds a role. Refused if a role has this name, if there are 16, or if memory runs out; then the graph is as before.
     pub fn add_role(&mut self, name: Name) -> Result<Role, AddFault>
         requires { has_text name reserved ≡ false }
         ensures { Adds self.old.roles 16 name self.old self.new (with_role self.old name) result }
@@ -44,7 +44,7 @@ impl Graph {
         Ok(Role(number as u8))
     }
 
-    /// Adds a variable, with the roles that may write it. Refused where a variable has this name, where there are 32, or where
+    /// Adds a variable, with the roles that may write it. Refused if a variable has this name, if there are 32, or if
     /// memory runs out; then the graph is as before.
     pub fn add_var(&mut self, name: Name, kind: VarType, writers: RoleSet) -> Result<Var, AddFault>
         requires name { has_text name reserved ≡ false }
@@ -72,7 +72,7 @@ impl Graph {
         Ok(Var(number as u8))
     }
 
-    /// Adds a node of a role. Refused where a node has this name, where there are 256, or where memory runs out; then the graph is
+    /// Adds a node of a role. Refused if a node has this name, if there are 256, or if memory runs out; then the graph is
     /// as before.
     pub fn add_node(&mut self, name: Name, role: Role) -> Result<NodeId, AddFault>
         requires name { has_text name reserved ≡ false }
@@ -97,8 +97,8 @@ impl Graph {
         Ok(NodeId(number as u16))
     }
 
-    /// Adds an edge: its sender writes `writes`, and its receiver reads `reads`. Refused where an edge has this name, where there
-    /// are 512, or where memory runs out; then the graph is as before.
+    /// Adds an edge: its sender writes `writes`, and its receiver reads `reads`. Refused if an edge has this name, if there
+    /// are 512, or if memory runs out; then the graph is as before.
     pub fn add_edge(
         &mut self,
         name: Name,

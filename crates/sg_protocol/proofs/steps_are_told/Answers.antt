@@ -1,4 +1,4 @@
--- What the steps of a run are told by.
+-- In which graphs the steps of a run have their names.
 use Rattle.sg_protocol.proofs.ToldRuns.{steps_are_told}
 use Rattle.sg_protocol.proofs.steps_are_told.Goals as goal
 

@@ -154,7 +154,7 @@ join (w ∷ ws) = if bytes_eq w (codes "join") then join_parts ws else Some (Non
 abbrev pub opened : Taker (List Committed)
 opened ws = option_and_then few (listed (codes "open") ws)
 
--- the ends, where they differ
+-- the ends, if they differ
 abbrev pub ends_of : Name → Name → Name → WordsLeft → Option ((Name × Name × Name) × WordsLeft)
 ends_of session from to rest = if bytes_eq from to then None else Some ((session, from, to), rest)
 

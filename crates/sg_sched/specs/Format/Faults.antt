@@ -29,16 +29,16 @@ group step = 4
 abbrev pub is_late : SoFar → LineContent → Bool
 is_late past l = nat_lt (group l) past.group
 
--- ---- form: a session's number of names, where its graph is declared
+-- ---- form: a session's number of names, if its graph is declared
 
 -- there are as many names as the graph has roles
 abbrev pub fits_graph : SoFar → Name → List Name → Bool
 fits_graph past graph names =
     option_map_or (λ g. length names == length g.roles) (if has_text graph (graph_names (graphs_declared past)) then slice_get (graphs_declared past) (index graph (graph_names (graphs_declared past))) else None) true
 
--- ---- form: what rises in a craft, where its names are declared
+-- ---- form: what rises in a craft, if its names are declared
 
--- the names rise by their numbers, where all of them are declared
+-- the names rise by their numbers, if all of them are declared
 abbrev pub rise : List Name → List Name → Bool
 rise names declared = if list_all (λ n. has_text n declared) names then rises_from 0 (map (λ n. index n declared) names) else true
 
@@ -55,7 +55,7 @@ abbrev pub rises : Option Graph → CraftContent → Bool
 rises g c = rise (variables c.know) (variables_of g) && list_all (λ i. rise (variables i.delta) (variables_of g) && rise (tag_roles i.tags) (roles_of g)) c.items
     && rise (variables c.openings) (variables_of g)
 
--- ---- form: the length of a crafted frame, where its session is declared
+-- ---- form: the length of a crafted frame, if its session is declared
 
 -- zeros in the place of what is hashed or tagged
 abbrev pub zeros : ℕ → List ℕ
@@ -175,7 +175,7 @@ is_honest past other = true
 
 -- ---- all
 
--- the kind, where the test says so
+-- the kind, if the test says so
 abbrev pub where' : Bool → Kind → Option Kind
 where' b kind = if b then Some kind else None
 

@@ -1,4 +1,4 @@
--- Which words are a line of a form: what each place of it may hold, whatever is declared.
+-- Which words are a line of a form: what each field of it may hold, whatever is declared.
 use Rattle.std.specs.Prelude.{◌≡◌, ℕ, ◌%◌, ◌==◌, nat_lt, nat_le, Bool, true, not, ◌&&◌, ◌||◌, List, [], ◌∷◌, length, slice_index, bytes_eq, IsTrue}
 use Rattle.std.specs.List.{list_all}
 use Rattle.std.specs.Option.{option_map_or}
@@ -71,7 +71,7 @@ is_delivered (TheFlipped n i) = is_frame n && is_short i
 is_delivered (TheCut n i) = is_frame n && is_short i
 is_delivered (TheBytes digits) = is_hex digits
 
--- each place of a line holds what it may hold: names, numbers in their ranges, values, digits
+-- each field of a line holds what it may hold: names, numbers in their ranges, values, digits
 abbrev pub is_form : LineContent → Bool
 is_form SaidBlock = true
 is_form (SaidEdge label from to) = is_name label && not (has_text label reserved) && nat_le from 255 && nat_le to 255 && not (from % 2 == to % 2)
@@ -95,7 +95,7 @@ is_comment text = slice_index text 0 == 35
 abbrev pub is_skipped : List ℕ → Bool
 is_skipped line = list_all (λ b. nat_lt b 128) (content line) && (is_comment (content line) || length (words (content line)) == 0)
 
--- the words of the line are those of what it says, and each place holds what it may hold
+-- the words of the line are those of what it says, and each field holds what it may hold
 pub record SaysLine (line : List ℕ) (said : LineContent) : Type 0 where
   pub spelled : words (content line) ≡ line_words said
   pub form : IsTrue (is_form said)

@@ -162,7 +162,7 @@ session_named n past = find (λ s. bytes_eq n s.name) past.sessions
 abbrev pub graph_for : Name → SoFar → Option Graph
 graph_for n past = option_and_then (λ s. slice_get (graphs_declared past) s.graph) (session_named n past)
 
--- the names of a graph's roles; none where there is no graph
+-- the names of a graph's roles; none if there is no graph
 abbrev pub roles_of : Option Graph → List Name
 roles_of g = option_map_or (λ g. g.roles) g []
 

@@ -99,7 +99,7 @@ key_form =
     after (word (hex_of 32)) λ digits.
     ended (key_of one two digits)
 
--- the version of a session's frames: 1, or 2 where the word v2 stands
+-- the version of a session's frames: 1, or 2 if the word v2 stands
 unfoldable pub version : Taker ℕ
 version [] = Some (1, [])
 version (w ∷ ws) = if bytes_eq w (codes "v2") then Some (2, ws) else None

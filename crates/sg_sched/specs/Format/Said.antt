@@ -109,7 +109,7 @@ abbrev pub join_words : Option CraftJoin → List Word
 join_words None = []
 join_words (Some j) = codes "join" ∷ (option_words (codes "nonce") (option_map decimal j.nonce) ++ option_words (codes "cast") (option_map joined_names j.names))
 
--- the word and the commitments after it, or nothing where there are none
+-- the word and the commitments after it, or nothing if there are none
 abbrev pub list_words : List ℕ → List Committed → List Word
 list_words first [] = []
 list_words first (c ∷ cs) = first ∷ map committed_word (c ∷ cs)
@@ -128,7 +128,7 @@ delivered_words (TheFlipped n i) = frame_word n ∷ codes "flip" ∷ decimal i �
 delivered_words (TheCut n i) = frame_word n ∷ codes "cut" ∷ decimal i ∷ []
 delivered_words (TheBytes digits) = codes "hex" ∷ digits ∷ []
 
--- v2, where the version is 2
+-- v2, if the version is 2
 abbrev pub version_words : ℕ → List Word
 version_words version = if version == 2 then codes "v2" ∷ [] else []
 

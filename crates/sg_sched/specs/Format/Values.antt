@@ -53,7 +53,7 @@ text_value (c ∷ cs) = if c == 34 then option_and_then as_text (text_bytes cs) 
 
 -- ---- values and bytes
 
--- the value that a word spells: a text where it begins with `"`, otherwise a number
+-- the value that a word spells: a text if it begins with `"`, otherwise a number
 abbrev pub spelled_value : Word → Option Value
 spelled_value [] = None
 spelled_value (c ∷ cs) = if c == 34 then text_value (c ∷ cs) else int_value (c ∷ cs)

@@ -73,7 +73,7 @@ fn note_writes(indices: &mut [Option<usize>; 32], number: usize, step: &StoredSt
     }
 }
 
-/// The index after the role's sending of the step, where it comes next or the role isn't honest.
+/// The index after the role's sending of the step, if it comes next or the role isn't honest.
 fn after_sending(
     events: &[Event],
     from: usize,
@@ -96,7 +96,7 @@ fn after_sending(
     }
 }
 
-/// The index after the receipt, where it comes next or doesn't count.
+/// The index after the receipt, if it comes next or doesn't count.
 fn after_receiving(
     events: &[Event],
     from: usize,

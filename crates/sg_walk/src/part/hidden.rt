@@ -60,7 +60,7 @@ fn drop_written(carried: &mut [bool; 32], step: &StoredStep)
     }
 }
 
-/// Whether the step hides what it writes where its sender isn't honest and the variable isn't carried, and nothing else.
+/// Whether the step hides what it writes if its sender isn't honest and the variable isn't carried, and nothing else.
 fn hides_all(step: &StoredStep, honest: bool, carried: &[bool; 32]) -> bool
     requires { list_all (λ x. nat_lt x 32) (keys_of step.now.writes) ≡ true }
     ensures { result ≡ list_all (λ w. beq (is_none w.1) (not honest && not (get_or carried.now w.0 false))) (writes_of step.now.writes) }
@@ -73,7 +73,7 @@ fn hides_all(step: &StoredStep, honest: bool, carried: &[bool; 32]) -> bool
     true
 }
 
-/// Whether the value is hidden exactly where it isn't known.
+/// Whether the value is hidden exactly if it isn't known.
 fn hides_one(value: &Option<Value>, known: bool) -> bool
     ensures { result ≡ beq (is_none (option_map value_of value.now)) (not known) }
 {

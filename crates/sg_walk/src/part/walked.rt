@@ -28,7 +28,7 @@ pub(super) fn is_stored_walk(graph: &Graph, walk: &StoredWalk) -> bool
     true
 }
 
-/// The node that the step leads to, where it leaves this node and has values.
+/// The node that the step leads to, if it leaves this node and has values.
 fn end_of_step(graph: &Graph, at: NodeId, step: &StoredStep) -> Option<NodeId>
     ensures { MatchOption result (Follows graph.now at (step_of step.now) → ⊥)
         (λ n. Follows graph.now at (step_of step.now) × (n ≡ target (shape graph.now) step.now.label)) }

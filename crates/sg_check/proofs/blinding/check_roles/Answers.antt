@@ -17,7 +17,7 @@ past_two g m a b = record { graph = g; from = m; past = pair a b }
 same : (g : Graph) (m a b : ℕ) (none one two : List ℕ) (k : Closure) → none ≡ [] → one ≡ with_member 16 none a → two ≡ with_member 16 one b → k ≡ record { graph = g; from = m; past = two } → k ≡ past_two g m a b
 same g m a b none one two k e f h is = is ∙ ap (λ s. record { graph = g; from = m; past = s }) (h ∙ ap (λ s. with_member 16 s b) (f ∙ ap (λ s. with_member 16 s a) e))
 
--- where the code's test of two roles fails, the node's role is another one
+-- if the code's test of two roles fails, the node's role is another one
 differs : (g : Graph) (m own a : ℕ) (test : Bool) → own ≡ role_at (shape g) m → test ≡ eqb own a → test ≡ false → role_at (shape g) m ≢ a
 differs g m own a test role is fails e =
     let equal : own ≡ a = role ∙ e in
