@@ -1,6 +1,6 @@
 mod Blank
 mod Images
-mod Moments
+pub mod Moments
 mod OnceOverRuns
 mod Refusals
 mod Replay
