@@ -8,6 +8,7 @@ pub mod Honest
 pub mod AssignmentLaws
 pub mod Parts
 pub mod Ranges
+pub mod OneAnswer
 pub mod Orders
 pub mod Fitting
 pub mod OneLine

@@ -1,6 +1,7 @@
 pub mod Sent
 pub mod Merged
 pub mod Agree
+pub mod Laws
 pub mod Model
 pub mod Answers
 pub mod Said

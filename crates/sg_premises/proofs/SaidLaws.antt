@@ -11,7 +11,7 @@ use Rattle.sg_protocol.specs.Broken.{same_note}
 use Rattle.sg_protocol.proofs.Broken.{same_note_is}
 use Rattle.sg_premises.specs.declared.made.TaggedText.{TaggedText}
 use Rattle.sg_premises.specs.Model.{note_kept}
-use Rattle.sg_premises.specs.contracts.made.SaidPartialEq.TheImpl.{eq-value}
+use Rattle.sg_premises.specs.contracts.made.TaggedTextPartialEq.TheImpl.{eq-value}
 use Rattle.sg_base.proofs.SameName.{same-bytes_eq}
 
 -- the `==` of notes that are kept

@@ -11,6 +11,7 @@ pub mod OneTable
 pub mod Only
 pub mod Indices
 pub mod Reading
+pub mod Refusals
 pub mod SameKey
 pub mod Tabled
 pub mod Tables

@@ -3,6 +3,7 @@ pub mod Compiled
 pub mod FaultText
 pub mod Model
 pub mod Invariant
+pub mod Laws
 pub mod Loading
 pub mod Refused
 pub mod Text
