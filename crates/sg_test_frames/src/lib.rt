@@ -3,6 +3,8 @@
 #![tactic(auto)]
 
 #[cfg(test)]
+mod certify;
+#[cfg(test)]
 mod craft;
 #[cfg(test)]
 mod crypt;
@@ -14,8 +16,6 @@ mod keys;
 mod ledger;
 #[cfg(test)]
 mod lines;
-#[cfg(test)]
-mod premises;
 #[cfg(test)]
 mod script;
 #[cfg(test)]

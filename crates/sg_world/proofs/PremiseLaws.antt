@@ -5,7 +5,7 @@ use Rattle.std.proofs.lemmas.List.{length-map}
 use Rattle.sg_model.specs.Limits.{most_steps}
 use Rattle.sg_model.specs.Lists.{has_text, range_from}
 use Rattle.sg_model.specs.Names.{Name}
-use Rattle.sg_premises.specs.Forged.{IsRecord, is_unmade, forged_from}
+use Rattle.sg_certify.specs.Forged.{IsRecord, is_unmade, forged_from}
 use Rattle.sg_protocol.proofs.Broken.{forged_is_first, collision_is_first}
 use Rattle.sg_protocol.proofs.Steps.{logs_are_numbered}
 use Rattle.sg_protocol.specs.Broken.{first_forged, first_collision}

@@ -10,10 +10,10 @@ use Rattle.std.proofs.lemmas.Option.{same_Some}
 use Rattle.std.proofs.Math.Seq.{take-length}
 use Rattle.std.proofs.lemmas.Slice.Eq.{bytes_eq-Decides}
 use Rattle.std.proofs.lemmas.List.Elements.{filter_map-append}
-use Rattle.sg_traces.specs.Traces.{Trace, Traces}
-use Rattle.sg_traces.specs.Runs.{AreTraces, IsTraceOf, IsExplainedBy, IsUnbroken, sids_of}
-use Rattle.sg_explain.proofs.Traced.{traces_are_explained}
-use Rattle.sg_explain.specs.Events.{explaining_walk}
+use Rattle.sg_certify.specs.Traces.{Trace, Traces}
+use Rattle.sg_certify.specs.Runs.{AreTraces, IsTraceOf, IsExplainedBy, IsUnbroken, sids_of}
+use Rattle.sg_certify.proofs.Traced.{traces_are_explained}
+use Rattle.sg_certify.specs.Events.{explaining_walk}
 use Rattle.sg_law.proofs.Members.{all_in}
 use Rattle.sg_text.proofs.Firsts.{has_text-firsts}
 use Rattle.sg_text.proofs.Steps.{HasSteps-IsStoredWalk}

@@ -1,9 +1,9 @@
 -- The walks of the sessions of a replay, and why a session has none.
 use Rattle.std.specs.Prelude.{◌≡◌, ◌≢◌, ℕ, List, [], ◌++◌, map, flat_map, length, Option, option_map}
 use Rattle.std.specs.List.{AllByRecursion}
-use Rattle.sg_traces.specs.Traces.{Trace, Traces}
-use Rattle.sg_traces.specs.Runs.{trace_at}
-use Rattle.sg_explain.specs.Events.{explaining_walk}
+use Rattle.sg_certify.specs.Traces.{Trace, Traces}
+use Rattle.sg_certify.specs.Runs.{trace_at}
+use Rattle.sg_certify.specs.Events.{explaining_walk}
 use Rattle.sg_text.specs.Sessions.{KnownSessions, firsts, sids_met}
 use Rattle.sg_text.specs.Walks.{HasSteps, walk_line}
 use Rattle.sg_model.specs.Lists.{is_in}

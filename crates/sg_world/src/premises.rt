@@ -11,8 +11,8 @@ use crate::World;
 use crate::nodes::index_of;
 use indexmap::IndexMap;
 use sg_base::{Name, OutOfMemory, Seq};
+use sg_certify::{Collision, Forged, Honest, first_collision, first_forged};
 use sg_node::Node;
-use sg_premises::{Collision, Forged, Honest, first_collision, first_forged};
 use std::alloc::Global;
 use thiserror::Error;
 

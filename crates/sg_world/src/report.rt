@@ -14,10 +14,9 @@ use crate::World;
 use crate::lines::put_lines;
 use crate::names::session_names;
 use sg_base::{ByteOut, Name, OutOfMemory, Sid};
-use sg_premises::Forged;
+use sg_certify::{Forged, Trace, Traces};
 use sg_report::{Forgery, put_premises};
 use sg_text::{SessionNames, put_walk};
-use sg_traces::{Trace, Traces};
 use std::alloc::Global;
 
 impl<'p> World<'p> {

@@ -1,7 +1,7 @@
 //! The walk that explains a session.
 ghost use Rattle.std.specs.Prelude.{◌≡◌, ◌≢◌, [], bytes_eq, filter_map, length, IfErr, IfOk, MatchBool, OnOk};
 ghost use Rattle.std.specs.Option.{option_to_list};
-ghost use Rattle.sg_traces.specs.Runs.{AreTraces, IsUnbroken};
+ghost use Rattle.sg_certify.specs.Runs.{AreTraces, IsUnbroken};
 ghost use Rattle.sg_model.specs.Lists.{has_text};
 ghost use Rattle.sg_protocol.specs.Run.{events_of};
 ghost use Rattle.sg_protocol.specs.Walk.{OnePath};
@@ -16,8 +16,8 @@ use crate::premises::Principals;
 use crate::record::TakenStep;
 use crate::walks::traces;
 use sg_base::{OutOfMemory, Sid};
+use sg_certify::Traces;
 use sg_report::sid_reported;
-use sg_traces::Traces;
 use sg_walk::StoredWalk;
 use std::alloc::Global;
 use thiserror::Error;

@@ -1,6 +1,6 @@
 //! The traces of a replay's sessions, by its record.
 ghost use Rattle.std.specs.Prelude.{◌≡◌, ◌++◌, ◌∷◌, [], ℕ, List, IfOk, OnOk, Some, option_map, option_and_then};
-ghost use Rattle.sg_traces.specs.Runs.{AreTraces, GoOn, IsUnbroken};
+ghost use Rattle.sg_certify.specs.Runs.{AreTraces, GoOn, IsUnbroken};
 ghost use Rattle.sg_protocol.specs.Calls.{Call, Start, Deliver};
 ghost use Rattle.sg_protocol.specs.Run.{events_of_outcome, run};
 ghost use Rattle.sg_protocol.specs.Schedule.{Schedule, cast_of};
@@ -16,12 +16,11 @@ ghost use Rattle.sg_world.specs.EntriesOfRun.{AreOfRun, IsOfStep};
 use crate::record::TakenStep;
 use crate::setting::Setting;
 use sg_base::{OutOfMemory, Seq};
+use sg_certify::{Honest, Traces};
 use sg_craft::{first_bytes, flipped, frame_at};
-use sg_premises::Honest;
 use sg_program::Programs;
 use sg_report::Outcome;
 use sg_sched::{Change, Step, What};
-use sg_traces::Traces;
 use sg_walk::Event;
 use std::alloc::Global;
 

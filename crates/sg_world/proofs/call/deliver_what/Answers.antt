@@ -4,7 +4,7 @@ use Rattle.sg_protocol.specs.Calls.{Deliver}
 use Rattle.sg_protocol.specs.Schedule as Core
 use Rattle.sg_protocol.specs.World.{bytes_of}
 use Rattle.sg_sched.specs.Format.StepsHeld.{what_of}
-use Rattle.sg_traces.proofs.Taking.{on_ok}
+use Rattle.sg_certify.proofs.Taking.{on_ok}
 use Rattle.sg_world.specs.Comes.{Comes, ComesOfCall, changed_to}
 use Rattle.sg_world.proofs.Delivered.{what_bytes, what_none, what_some}
 use Rattle.sg_world.proofs.call.deliver_what.Goals as goal

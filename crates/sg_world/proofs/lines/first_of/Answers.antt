@@ -1,5 +1,5 @@
 use Rattle.std.proofs.Common.{◌∙◌, Bool, ap, sym, length, nat_lt, Some}
-use Rattle.sg_premises.proofs.FindLaws.{find_at, find_past}
+use Rattle.sg_certify.proofs.FindLaws.{find_at, find_past}
 use Rattle.sg_protocol.specs.Graph.{Graph}
 use Rattle.sg_world.proofs.lines.first_of.Goals as goal
 

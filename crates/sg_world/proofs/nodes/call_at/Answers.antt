@@ -7,7 +7,7 @@ use Rattle.sg_world.proofs.Found.{entry_at}
 use Rattle.sg_world.proofs.Goes.{same_value}
 use Rattle.std.proofs.Common.{◌∙◌, ap}
 use Rattle.sg_protocol.specs.NodeStates.{NodeState}
-use Rattle.sg_traces.proofs.Taking.{on_err}
+use Rattle.sg_certify.proofs.Taking.{on_err}
 use Rattle.sg_world.proofs.nodes.call_at.Goals as goal
 
 pub returns-clause-comes : goal.returns-clause-comes

@@ -1,8 +1,8 @@
 use Rattle.std.proofs.Common.{◌≡◌, [], ◌∷◌, Some, None, sym, ◌∙◌, ap, refl}
 use Rattle.std.specs.Prelude.{option_map, option_and_then, suc, length}
 use Rattle.std.specs.Option.{option_to_list}
-use Rattle.sg_traces.proofs.Going.{goes_past}
-use Rattle.sg_traces.proofs.Stepping.{abandoned}
+use Rattle.sg_certify.proofs.Going.{goes_past}
+use Rattle.sg_certify.proofs.Stepping.{abandoned}
 use Rattle.sg_protocol.specs.Run.{events_of_outcome}
 use Rattle.sg_protocol.specs.Schedule.{sid_at}
 use Rattle.sg_protocol.specs.Texts.{real}

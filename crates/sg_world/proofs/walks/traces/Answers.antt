@@ -1,5 +1,5 @@
 use Rattle.std.proofs.Common.{◌≡◌, ◌+◌, List, length, take, sym, ◌∙◌, ap, subst, arith}
-use Rattle.sg_traces.specs.Runs.{AreTraces, IsNext, IsUnbroken}
+use Rattle.sg_certify.specs.Runs.{AreTraces, IsNext, IsUnbroken}
 use Rattle.sg_protocol.specs.Keyring.{Program}
 use Rattle.sg_protocol.specs.Run.{run}
 use Rattle.sg_protocol.specs.Texts.{real}

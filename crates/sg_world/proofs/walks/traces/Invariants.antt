@@ -1,5 +1,5 @@
 use Rattle.std.proofs.Common.{◌≡◌, take}
-use Rattle.sg_traces.specs.Runs.{AreTraces, IsUnbroken}
+use Rattle.sg_certify.specs.Runs.{AreTraces, IsUnbroken}
 use Rattle.sg_protocol.specs.Run.{run}
 use Rattle.sg_protocol.specs.Schedule.{Schedule}
 use Rattle.sg_protocol.specs.Texts.{real}

@@ -1,5 +1,5 @@
 use Rattle.std.proofs.Common.{◌≡◌, [], IfOk, length, option_map, refl, subst, ap, arith}
-use Rattle.sg_premises.specs.Forged.{forged_from}
+use Rattle.sg_certify.specs.Forged.{forged_from}
 use Rattle.sg_protocol.specs.Broken.{first_forged}
 use Rattle.sg_protocol.specs.Run.{run}
 use Rattle.sg_protocol.specs.Texts.{real}

@@ -1,5 +1,5 @@
 use Rattle.std.proofs.Common.{refl}
-use Rattle.sg_traces.specs.Runs.{AreTraces, IsUnbroken}
+use Rattle.sg_certify.specs.Runs.{AreTraces, IsUnbroken}
 use Rattle.sg_report.specs.Report.{met}
 use Rattle.sg_world.specs.Account.{account}
 use Rattle.sg_world.specs.Replay.{run_of}

@@ -1,5 +1,5 @@
 use Rattle.std.proofs.Common.{refl}
-use Rattle.sg_traces.specs.Runs.{IsUnbroken}
+use Rattle.sg_certify.specs.Runs.{IsUnbroken}
 use Rattle.sg_world.proofs.Accounts.{compiled_is, schedule_is}
 use Rattle.sg_world.proofs.WalkLaws.{trace_path}
 use Rattle.sg_world.proofs.world.World.walk_explaining.Goals as goal

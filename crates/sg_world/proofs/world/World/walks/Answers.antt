@@ -1,5 +1,5 @@
 use Rattle.std.proofs.Common.{refl}
-use Rattle.sg_traces.specs.Runs.{AreTraces, IsUnbroken}
+use Rattle.sg_certify.specs.Runs.{AreTraces, IsUnbroken}
 use Rattle.sg_world.specs.Replay.{run_of}
 use Rattle.sg_world.proofs.Accounts.{compiled_is, schedule_is}
 use Rattle.sg_world.proofs.WalkLaws.{walks_made, made_ok}

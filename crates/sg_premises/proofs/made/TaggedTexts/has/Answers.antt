@@ -1,8 +1,0 @@
-use Rattle.std.proofs.Common.{◌∙◌}
-use Rattle.std.specs.List.{list_any}
-use Rattle.sg_protocol.specs.Broken.{same_note}
-use Rattle.sg_premises.proofs.SaidLaws.{any_kept}
-use Rattle.sg_premises.proofs.made.TaggedTexts.has.Goals as goal
-
-pub returns : goal.returns
-returns c = c.contains.ensures ∙ any_kept c.kept.result c.self.inside.notes.keys ∙ (λ i. list_any (same_note (c.kept.ensures i)) (c.self.view_is i))
