@@ -1,4 +1,5 @@
 mod Pasts
+mod FreshPeers
 mod EntryGraphs
 mod Goes
 mod Called

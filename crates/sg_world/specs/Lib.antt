@@ -1,4 +1,5 @@
 pub mod Replay
+pub mod Pairs
 pub mod Entries
 pub mod Faults
 pub mod Representation

@@ -5,11 +5,12 @@
 //! the run of this schedule is the core's. So every law of runs speaks of a world as it stands, and a step is one equation: the schedule
 //! has it as its last.
 //!
-//! `Setting` is the programs and what is declared, with what is made of it once: the identifiers of the sessions, the texts under the
-//! digests of the graphs, and the keys by their pairs. The nodes stand in the order of the honest principals, and the one whose step it is
-//! is one look-up away. `Record` has each step with the outcome and the graph by which its numbers have names, what was noted of tags
-//! and hashes at each, and each frame once, found by its number. `specs/Holds.antt` says what holds of these parts between steps: each
-//! node represents its principal's past in the run, and what is recorded is what the run's log says.
+//! `Setting` is the programs and equal copies of what is declared, with what is made of it once: the identifiers of the sessions, the texts
+//! under the digests of the graphs, and the keys by their pairs. The nodes stand in the order of the honest principals, each with a keyring
+//! of the pairs that it is one of, and the one whose step it is is one look-up away. `Record` has each step with the outcome and the graph
+//! by which its numbers have names, what was noted of tags and hashes at each, and each frame once, found by its number. `specs/Holds.antt`
+//! says what holds of these parts between steps: each node represents its principal's past in the run, and what is recorded is what the
+//! run's log says.
 //!
 //! A step is taken in this order. Its principal has a node, and the record isn't full. The step is copied, and room is made for it. The
 //! graph of its call is looked up, since the call may end the session. The call is made at the node, or the frame of a craft. The step is
@@ -29,18 +30,21 @@
 #![tactic(auto)]
 
 mod call;
+mod copies;
 mod craft;
 mod fault;
 pub mod laws;
 mod lines;
 mod names;
 mod nodes;
+mod pairs;
 mod premises;
 mod record;
 mod report;
 mod session_walk;
 mod setting;
 mod take;
+mod texts;
 mod walks;
 mod world;
 

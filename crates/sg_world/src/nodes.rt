@@ -3,17 +3,17 @@ ghost use Rattle.std.specs.Prelude.{◌≡◌, ◌<◌, ◌^◌, ◌+◌, ◌++�
 ghost use Rattle.sg_model.specs.Lists.{all_differ, has_text};
 ghost use Rattle.sg_protocol.specs.NodeStates.{NodeState, new_state};
 ghost use Rattle.sg_protocol.specs.World.{keyring_of};
-ghost use Rattle.sg_declared.specs.Pairs.{ArePairs};
+ghost use Rattle.sg_world.specs.Pairs.{ArePairs};
 ghost use Rattle.sg_sched.specs.Format.StepsHeld.{step_of};
 ghost use Rattle.sg_world.specs.Comes.{ComesAt, IsNamed};
 ghost use Rattle.sg_world.specs.Kept.{no_frame};
 
 use crate::call::call;
+use crate::pairs::keyring;
 use crate::record::StepResult;
 use crate::setting::Setting;
 use indexmap::IndexMap;
 use sg_base::{Name, OutOfMemory, Seq};
-use sg_declared::keyring;
 use sg_node::Node;
 use sg_program::Programs;
 use sg_sched::{PairKey, Step};

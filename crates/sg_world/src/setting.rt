@@ -7,10 +7,11 @@ ghost use Rattle.sg_protocol.specs.Node.{program_for};
 ghost use Rattle.sg_protocol.specs.Schedule.{graph_with};
 ghost use Rattle.sg_protocol.specs.Texts.{real, session_id, graph_text_of};
 
+use crate::copies::{copy_graphs, copy_sessions};
+use crate::texts::{sids_of, texts_of};
 use sg_base::{OutOfMemory, Role, Seq, Sid};
 use sg_craft::PairKeys;
 use sg_crypt::{Cast, Hashed};
-use sg_declared::{copy_graphs, copy_sessions, sids_of, texts_of};
 use sg_graph::Graph;
 use sg_program::{Program, Programs};
 use sg_sched::{NamedSession, Schedule};

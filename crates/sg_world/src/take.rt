@@ -12,13 +12,13 @@ ghost use Rattle.sg_sched.specs.Steps.{CanBeTaken};
 ghost use Rattle.sg_world.specs.Indices.{IsFaultOf, IsIndexOf, names_of};
 
 use crate::StepFault;
+use crate::copies::copy_step;
 use crate::craft::craft;
 use crate::nodes::{call_at, index_of};
 use crate::record::{Record, StepResult};
 use crate::setting::Setting;
 use indexmap::IndexMap;
 use sg_base::{Name, OutOfMemory, Seq};
-use sg_declared::copy_step;
 use sg_node::Node;
 use sg_sched::Step;
 use std::alloc::Global;

@@ -1,5 +1,5 @@
 use Rattle.std.proofs.Common.{map, sym, ◌∙◌, ap, subst}
-use Rattle.sg_declared.specs.Pairs.{ArePairs}
+use Rattle.sg_world.specs.Pairs.{ArePairs}
 use Rattle.sg_protocol.specs.Schedule.{Schedule}
 use Rattle.sg_world.proofs.Begins.{new_named}
 use Rattle.sg_world.proofs.Worlds.{begun}
