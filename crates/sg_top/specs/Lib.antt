@@ -9,5 +9,6 @@ pub mod Claimed
 pub mod Runs
 pub mod Ledgers
 pub mod Serves
+pub mod Laws
 pub mod Top
 pub mod Model
