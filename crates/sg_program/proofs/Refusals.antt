@@ -40,7 +40,7 @@ in_range a (suc k) (suc r) l =
     let same : suc a + r ≡ a + suc r = omega arith in
     inr (subst (In (range_from (suc a) k)) same (in_range (suc a) k r (omega (arith, l))))
 
-in_pairs : (g : Graph) (rs : List ℕ) (r : ℕ) → In rs r → In (map (λ r. (g, r)) rs) (g, r)
+in_pairs : (g : Graph) (rs : List ℕ) (r : ℕ) → In rs r → In {A = Graph × ℕ} (map (λ r. (g, r)) rs) (g, r)
 in_pairs g [] r i = absurd i
 in_pairs g (q ∷ qs) r (inl e) = inl (ap (λ r. (g, r)) e)
 in_pairs g (q ∷ qs) r (inr i) = inr (in_pairs g qs r i)

@@ -1,5 +1,5 @@
 -- The laws of the texts of programs.
-use Rattle.std.proofs.Common.{refl, sym}
+use Rattle.std.proofs.Common.{refl}
 use Rattle.std.specs.Prelude.{Ok, Err}
 use Rattle.sg_program.specs.Laws.{TextIsNotRefused, TextsDiffer}
 use Rattle.sg_program.specs.Text.{program_text}
