@@ -30,8 +30,8 @@ returns-in-Err-clause-refused c = λ s represents.
 pub returns-in-Err-clause-memory : goal.returns-in-Err-clause-memory
 returns-in-Err-clause-memory c = λ s represents lacks. absurd (c.in-Err.ensures.told (ap Err lacks))
 
-pub returns-in-Err-make_step-clause-memory : goal.returns-in-Err-make_step-clause-memory
-returns-in-Err-make_step-clause-memory c = λ s represents lacks.
+pub returns-clause-memory : goal.returns-clause-memory
+returns-clause-memory c = λ s represents lacks.
     let p = c.args.self.program in
     let h = c.args.self.held in
     let keys = c.args.keys.now in
