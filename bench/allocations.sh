@@ -68,7 +68,7 @@ int posix_memalign(void **block, size_t wide, size_t size) {
     return *block ? 0 : ENOMEM;
 }
 
-// What was called: O, R, W, D where a file is synced, measured or its place is set, S for a seed or L for a socket, and for R and W the file's number.
+// What was called: O, R, W, D if a file is synced, measured or its place is set, S for a seed or L for a socket, and for R and W the file's number.
 static char told[65536];
 static size_t told_length;
 
@@ -220,7 +220,7 @@ RUNS = [
     ('run of what is no script', ['run', 'k', 'f', '0', 'p'], 'start'),
     ('ledger', ['ledger', 'f'], ''),
     ('keep of two starts', ['keep', 'l', 'k', 's', '0', 'p'], ''),
-    ('keep where there is no ledger', ['keep', 'f', 'k', 's', '0', 'p'], 'SGLEDG01'),
+    ('keep without a ledger', ['keep', 'f', 'k', 's', '0', 'p'], 'SGLEDG01'),
     ('stream of two starts', ['stream', 'k', 's', '0', 'p'], ''),
     ('no command', ['draw', 'f'], PAIR),
 ]

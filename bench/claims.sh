@@ -1,7 +1,7 @@
 #!/usr/bin/env bash
 # Decides claims on a ring of two roles with two edges from each node, and prints for each the milliseconds of the whole command, with the reading of
 # graph and claims, the least of fifteen runs: 256 claims with lists of up to 512 labels on the largest graph, once with a walk that breaks each and once
-# if each holds; then half the claims, and as many claims with lists half as long on a graph of half the edges. The time grows in proportion to the
+# with claims that hold; then half the claims, and as many claims with lists half as long on a graph of half the edges. The time grows in proportion to the
 # text, and to claims times edges. Needs python3; no part of the gate.
 set -u
 here=$(cd "$(dirname "${BASH_SOURCE[0]}")/.." && pwd) || exit 1

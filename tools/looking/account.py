@@ -351,7 +351,7 @@ class Watched(model.Run):
         return self.schedule.sessions.get(name)
 
 
-class Course:
+class Trace:
     """The walk of one session as it grows: each step with its label, whether it is filled in, and its text from a step of the run on."""
 
     def __init__(self, graph, honest):
@@ -413,7 +413,7 @@ class Account:
         count = len(run.lines)
         self.step_lines, self.end_lines = self.lines[:count], self.lines[count:]
         self.premises = self.premises_of()
-        self.courses = self.courses_of()
+        self.traces = self.traces_of()
         self.made = self.makers()
         self.people = self.people_of()
 
@@ -451,18 +451,18 @@ class Account:
         """The step from which on no walk is promised, or None."""
         return min((premise['broken'] for premise in self.premises if premise['broken'] is not None), default=None)
 
-    def courses_of(self):
+    def traces_of(self):
         """The trace of each session with an event, by its name, up to where an assumption breaks."""
         found, end = {}, self.end_of_walks()
         for place, event in zip(self.run.event_steps, self.run.events):
             name, graph = self.run.session_word(event.sid), self.run.graph_of(event.cast)
             honest = {role for role, who in enumerate(event.cast.names) if who in self.run.schedule.honest}
-            course = found.setdefault(name, Course(graph, honest))
-            course.cast = event.cast
+            trace = found.setdefault(name, Trace(graph, honest))
+            trace.cast = event.cast
             if end is None or place < end:
-                course.take(place, event)
+                trace.take(place, event)
         walks = [line for line in self.end_lines if line.startswith('walk ')]
-        if end is None and sorted(course.line(name) for name, course in found.items()) != sorted(walks):
+        if end is None and sorted(trace.line(name) for name, trace in found.items()) != sorted(walks):
             raise Disagreement('a walk is not the report\'s')
         return found
 
@@ -621,12 +621,12 @@ class Account:
         for declared in self.run.schedule.sessions.values():
             name = self.run.session_word(model.sha256(model.text_of_session(declared.cast)))
             found.setdefault(name, (declared.graph, declared.cast))
-        for name, course in self.courses.items():
-            found.setdefault(name, (course.graph, course.cast))
+        for name, trace in self.traces.items():
+            found.setdefault(name, (trace.graph, trace.cast))
         told = []
         for name, (graph, cast) in found.items():
-            course = self.courses.get(name)
+            trace = self.traces.get(name)
             told.append({'name': name, 'graph': next(at for at, one in enumerate(graphs) if one is graph), 'version': cast.version,
                          'cast': [[graph.roles[role], who, who in self.run.schedule.honest] for role, who in enumerate(cast.names)],
-                         'walk': course.steps if course else [], 'ends': course.ends if course else []})
+                         'walk': trace.steps if trace else [], 'ends': trace.ends if trace else []})
         return told

@@ -127,8 +127,8 @@ function run() {
   function told(place) {
     if (place === 0) return ['Before the first step. ', make('span', { class: 'quiet' }, 'Go on with →, or choose a step in the chart.')];
     if (place > count) {
-      return broken === null ? ['The report ends: both premises hold, and of each session one walk explains what the honest ones did.']
-        : [make('b', { class: 'broken' }, `The report ends: a premise is broken at step ${broken}, so no walk is promised.`)];
+      return broken === null ? ['The report ends: both assumptions hold, and of each session one walk explains what the honest ones did.']
+        : [make('b', { class: 'broken' }, `The report ends: an assumption is broken at step ${broken}, so no walk is promised.`)];
     }
     const step = data.steps[place - 1], frame = data.frames[step.frame], words = data.lines[place - 1].split(' ');
     if (step.kind === 'craft') {
@@ -288,7 +288,7 @@ function run() {
     fill('walk', hidden ? make('li', { class: 'before' }, `… ${hidden} steps before`) : null, walk.slice(hidden).map(([, filled, texts], step) => make('li', { class: [filled && 'filled', step + hidden >= before && place <= count && 'new'].filter(one => one).join(' ') || undefined,
       title: filled ? 'filled in: a step of a compromised principal' : undefined }, latest(texts, place)[1])));
     const filled = walk.filter(step => step[1]).length;
-    at('walked').textContent = broken !== null && place >= broken ? `A premise is broken at step ${broken}: from there on no walk is promised. This is the walk before.`
+    at('walked').textContent = broken !== null && place >= broken ? `An assumption is broken at step ${broken}: from there on no walk is promised. This is the walk before.`
       : walk.length ? `${walk.length} step${walk.length > 1 ? 's' : ''}${filled ? `, ${filled} filled in (*): of the compromised` : ''}; it stands at ${end}.` : `Nobody honest has sent or received; the start is ${end}.`;
     fill('cards', it.cast.map(one => card(one, it, place)));
     at('held-of').textContent = `in ${it.name}, after this step`;

@@ -125,7 +125,7 @@ def run_header(told, data, name):
         kind, mark = ('holds', '✓') if it['broken'] is None else ('broken', '⚡')
         premises += f'<li class="chip {kind}">{mark} {escaped(it["line"])}</li>'
     return (f'<header><h1>{escaped(name)}<small>{escaped(", ".join(counts))}</small></h1><p class="heading">{escaped(told.heading)}</p>'
-            f'<div class="facts"><ul aria-label="principals">{people}</ul><ul aria-label="premises">{premises}</ul></div></header>')
+            f'<div class="facts"><ul aria-label="principals">{people}</ul><ul aria-label="assumptions">{premises}</ul></div></header>')
 
 
 def run_body(data, chart, pictures):
