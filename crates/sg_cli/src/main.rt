@@ -5,15 +5,16 @@
 #![tactic(auto)]
 
 use sg_base::{StdFiles, StdSink};
+use sg_ending::{
+    end_without_args, end_without_descriptors, end_without_memory, end_without_seed,
+};
 use sg_input::StdInput;
 use sg_ledger::FileDisk;
 use sg_link::{TcpConns, UdpLink};
 use sg_port::TcpPort;
 use sg_stream::StreamLink;
 use sg_system::{OsFresh, StdDescriptors, hold_standard};
-use sg_top::{
-    end_without_args, end_without_descriptors, end_without_memory, end_without_seed, top,
-};
+use sg_top::top;
 use std::process::ExitCode;
 use std::{env, io};
 

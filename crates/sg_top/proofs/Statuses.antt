@@ -1,12 +1,13 @@
 -- With which statuses the program ends after a play.
 use Rattle.std.proofs.Common.{◌≡◌, ℕ, ◌⊎◌, inl, inr, List, Option, Some, None, refl, sym, subst}
-use Rattle.sg_top.specs.Ending.{Ending, Written, NoCommand, NoGraph, NoExpansion, GraphRefused, NoRole, WrongLine, KeysRefused, ScriptRefused, ClaimsRefused, ClaimFails, ProgramRefused, NoLedger, BadSlot, LedgerNotEmpty, FileFailed, WriteFailed, LinkFailed, InputFailed, DiskFailed, NoMemory, NoSuchFile, TooLarge, status_of, line_of}
-use Rattle.sg_top.specs.Ends.{Output}
-use Rattle.sg_top.specs.Ledgers.{CanHaveKept}
-use Rattle.sg_top.specs.Runs.{CanHavePlayed}
-use Rattle.sg_top.specs.Serves.{CanHaveServed}
+use Rattle.sg_ending.specs.Ending.{Ending, Written, NoCommand, NoGraph, NoExpansion, GraphRefused, NoRole, WrongLine, KeysRefused, ScriptRefused, ClaimsRefused, ClaimFails, ProgramRefused, NoLedger, BadSlot, LedgerNotEmpty, FileFailed, WriteFailed, LinkFailed, InputFailed, DiskFailed, NoMemory, NoSuchFile, TooLarge, status_of, line_of}
+use Rattle.sg_ending.specs.Output.{Output}
+use Rattle.sg_principal.specs.Ledgers.{CanHaveKept}
+use Rattle.sg_principal.specs.Runs.{CanHavePlayed}
+use Rattle.sg_principal.specs.Serves.{CanHaveServed}
 use Rattle.sg_args.specs.Command.{Command, Check, Compile, Run, Replay, Drive, Ledger, Keep, Stream, Audit, Compose, Suggest, Claims, Serve, command_of}
-use Rattle.sg_top.specs.Top.{HasPlayed, IsOfKeep, IsOfPlay, IsOfServe, MayPlay, PlaysWith, Puts, Says}
+use Rattle.sg_ending.specs.Says.{Puts, Says}
+use Rattle.sg_top.specs.Top.{HasPlayed, IsOfKeep, IsOfPlay, IsOfServe, MayPlay, PlaysWith}
 
 -- the statuses of endings after a play
 of_play : (e : Ending) → CanHavePlayed e → IsOfPlay (status_of e)

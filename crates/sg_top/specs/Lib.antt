@@ -1,14 +1,1 @@
-pub mod Accepted
-pub mod Audited
-pub mod Ending
-pub mod Replayed
-pub mod Driven
-pub mod Ends
-pub mod Setup
-pub mod Claimed
-pub mod Runs
-pub mod Ledgers
-pub mod Serves
-pub mod Laws
 pub mod Top
-pub mod Model

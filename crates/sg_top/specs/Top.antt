@@ -1,17 +1,20 @@
 -- What the program leaves, and how it says why it ends.
-use Rattle.std.specs.Prelude.{◌≡◌, ◌≢◌, ℕ, ◌+◌, ◌⊎◌, Bool, true, false, if◌then◌else◌, List, [], Option, Some, None, ⊤}
-use Rattle.sg_base.specs.Outside.{HasRisen, Appends, AppendsPrefix}
+use Rattle.std.specs.Prelude.{◌≡◌, ℕ, ◌+◌, ◌⊎◌, Bool, true, false, if◌then◌else◌, List, Option, Some, None, ⊤}
 use Rattle.sg_base.specs.declared.address.Addr.{Addr}
 use Rattle.sg_model.specs.Limits.{most_graph_file, most_logs_file, most_schedule_file}
 use Rattle.sg_stream.specs.Link.{StreamHeld, sent_of, to_come}
 use Rattle.sg_stream.specs.Traffic.{Traffic}
 use Rattle.sg_args.specs.Command.{Command, Check, Compile, Run, Replay, Drive, Ledger, Keep, Stream, Audit, Compose, Suggest, Claims, Serve, command_of}
-use Rattle.sg_top.specs.Claimed.{DecidesClaims, Suggests}
-use Rattle.sg_top.specs.Ending.{Ending, NoCommand, NoMemory, status_of, line_of}
-use Rattle.sg_top.specs.Ends.{KnownFiles, Output, OnFile, Checks, Compiles, Replays, Drives, Audits, Composes}
-use Rattle.sg_top.specs.Ledgers.{CanHaveKept, Disked, IsNotAsked, KeepsRun, Makes}
-use Rattle.sg_top.specs.Runs.{CanHavePlayed, Linked, Outside, IsUntouched, Runs}
-use Rattle.sg_top.specs.Serves.{Application, CanHaveServed, Entered, ServesRun, Waited}
+use Rattle.sg_ending.specs.Ending.{Ending, NoCommand, NoMemory}
+use Rattle.sg_ending.specs.Files.{KnownFiles, OnFile}
+use Rattle.sg_ending.specs.Output.{Output}
+use Rattle.sg_ending.specs.Says.{Says}
+use Rattle.sg_design.specs.Claimed.{DecidesClaims, Suggests}
+use Rattle.sg_design.specs.Ends.{Checks, Compiles, Composes}
+use Rattle.sg_replay.specs.Ends.{Replays, Drives, Audits}
+use Rattle.sg_principal.specs.Ledgers.{CanHaveKept, Disked, IsNotAsked, KeepsRun, Makes}
+use Rattle.sg_principal.specs.Runs.{CanHavePlayed, Linked, Outside, IsUntouched, Runs}
+use Rattle.sg_principal.specs.Serves.{Application, CanHaveServed, Entered, ServesRun, Waited}
 use Rattle.sg_wait.specs.declared.coming.Coming.{Coming}
 
 -- a link over connections, as a link: the address at which these wait, the frames of the messages to come, in the order in which these become whole, the frames that went out, and its count of faults, which is that of its connections and its own
@@ -55,18 +58,6 @@ abbrev pub Does : (args : List (List ℕ)) → KnownFiles → (faults faults' : 
 Does args known faults faults' old new stream stream' disk disk' beside beside' ending =
     Works (command_of args) known faults faults' old new stream stream' disk disk' beside beside' ending
     ⊎ (IsUntouched old new × (stream' ≡ stream) × IsNotAsked disk disk' × (beside' ≡ beside) × (faults' ≡ faults) × (ending ≡ NoMemory))
-
--- a line is written, no write failed, and its status is given, or it is not taken whole, which the count of faults shows, and the status is that of a failed write
-abbrev pub Puts : (old new : Output) → (line : List ℕ) → (wanted status : ℕ) → Type 0
-Puts old new line wanted status =
-    ((status ≡ wanted) × Appends old.bytes new.bytes line × (new.faults ≡ old.faults))
-    ⊎ ((status ≡ 6) × HasRisen old.faults new.faults × AppendsPrefix old.bytes new.bytes line)
-
--- how the program says how its work ended: by the ending's line and status, or, if memory ran out for a line, by saying this
-abbrev pub Says : Ending → (old new : Output) → (status : ℕ) → Type 0
-Says work old new status =
-    Puts old new (line_of work) (status_of work) status
-    ⊎ ((line_of work ≢ []) × Puts old new (line_of NoMemory) (status_of NoMemory) status)
 
 -- the program ended with this status: its work ended in some way, and so it says
 pub record Ends (args : List (List ℕ)) (known : KnownFiles) (faults faults' : ℕ) (old new : Outside) (stream stream' : Linked) (disk disk' : Disked) (beside beside' : Beside) (err err' : Output) (status : ℕ) : Type 0 where

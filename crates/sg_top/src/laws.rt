@@ -1,9 +1,10 @@
 //! What holds of all files. Each function is a law: it does nothing, and its contract is the statement.
 ghost use Rattle.std.specs.Prelude.{ℕ, List};
 ghost use Rattle.sg_model.specs.Limits.{most_graph_file, most_logs_file, most_schedule_file};
-ghost use Rattle.sg_top.specs.Claimed.{Suggests};
-ghost use Rattle.sg_top.specs.Ends.{Audits, Checks, Compiles, Composes, Drives, Replays};
-ghost use Rattle.sg_top.specs.Laws.{EndsOnce};
+ghost use Rattle.sg_ending.specs.Laws.{EndsOnce};
+ghost use Rattle.sg_design.specs.Claimed.{Suggests};
+ghost use Rattle.sg_design.specs.Ends.{Checks, Compiles, Composes};
+ghost use Rattle.sg_replay.specs.Ends.{Audits, Drives, Replays};
 
 /// The endings of a command on one file exclude each other: unless a file fails or memory runs out, the same files ask for the same ending.
 /// Of a graph that is refused this says which graph it is, not for which fault.

@@ -2,26 +2,26 @@
 ghost use Rattle.std.specs.Prelude.{◌≡◌, ◌⊎◌, map, option_map, string_bytes};
 ghost use Rattle.sg_args.specs.Command.{CanBeDriven, command_of};
 ghost use Rattle.sg_args.specs.Model.{command_held};
-ghost use Rattle.sg_top.specs.Model.{ending_held};
-ghost use Rattle.sg_top.specs.Top.{Ends, HasPlayed, IsOnDisk, IsOnInput, IsOverLink, IsOverPort, IsOverStream, MayPlay, Puts, Says, Works, streamed};
+ghost use Rattle.sg_ending.specs.Model.{ending_held};
+ghost use Rattle.sg_top.specs.Top.{Ends, HasPlayed, IsOnDisk, IsOnInput, IsOverLink, IsOverPort, IsOverStream, MayPlay, Works, streamed};
 
-use crate::audit::audit;
-use crate::check::check;
-use crate::claims::claims;
-use crate::compile::compile;
-use crate::compose::compose;
-use crate::drive::drive;
-use crate::ending::Ending;
-use crate::keep::keep;
-use crate::ledger::ledger;
-use crate::replay::replay;
-use crate::run::run;
-use crate::serve::serve;
-use crate::suggest::suggest;
 use sg_args::{Command, CommandLine, Parsed};
-use sg_base::{Files, Fresh, Link, Sink, write_all};
+use sg_base::{Files, Fresh, Link, Sink};
+use sg_design::check::check;
+use sg_design::claims::claims;
+use sg_design::compile::compile;
+use sg_design::compose::compose;
+use sg_design::suggest::suggest;
+use sg_ending::{Ending, say};
 use sg_input::Input;
 use sg_ledger::Disk;
+use sg_principal::keep::keep;
+use sg_principal::ledger::ledger;
+use sg_principal::run::run;
+use sg_principal::serve::serve;
+use sg_replay::audit::audit;
+use sg_replay::drive::drive;
+use sg_replay::replay::replay;
 use sg_stream::{Conns, StreamLink};
 use sg_wait::TimedLink;
 use std::alloc::Global;
@@ -255,25 +255,5 @@ fn work<'w, F: Files, O: Sink, L: TimedLink, R: Fresh, D: Disk, S: Link, P: Time
         ) => serve(
             alloc, ledger, keys, programs, files, out, input, port, fresh, disk,
         ),
-    }
-}
-
-/// Says on standard error how the work ended, and gives the status.
-pub fn say<E: Sink>(alloc: Global, work: &Ending<'_>, err: &mut E) -> u8
-    ensures { Says (ending_held work.now) (record { bytes = E.written err.old; faults = E.faults err.old }) (record { bytes = E.written err.new; faults = E.faults err.new }) result }
-{
-    match work.line(alloc) {
-        Ok(line) => put(err, line.as_slice(), work.status()),
-        Err(_) => put(err, b"out of memory\n", 8),
-    }
-}
-
-/// Writes a line and gives the status, or that of a failed write.
-pub fn put<E: Sink>(err: &mut E, line: &[u8], status: u8) -> u8
-    ensures { Puts (record { bytes = E.written err.old; faults = E.faults err.old }) (record { bytes = E.written err.new; faults = E.faults err.new }) line.now status result }
-{
-    match write_all(err, line) {
-        Ok(()) => status,
-        Err(_) => 6,
     }
 }

@@ -1,5 +1,6 @@
 -- The law of endings.
-use Rattle.sg_top.proofs.OneEnding.{check_once, compile_once, suggest_once, audit_once, compose_once, replay_once, drive_once}
+use Rattle.sg_design.proofs.OneEnding.{check_once, compile_once, compose_once, suggest_once}
+use Rattle.sg_replay.proofs.OneEnding.{audit_once, drive_once, replay_once}
 use Rattle.sg_top.proofs.laws.one_file_ends_once.Goals as goal
 
 pub returns : goal.returns

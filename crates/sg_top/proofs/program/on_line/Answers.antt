@@ -3,8 +3,8 @@ use Rattle.std.specs.Option.{option_map}
 use Rattle.sg_args.specs.Command.{CanBeDriven, command_of}
 use Rattle.sg_args.specs.Model.{command_held}
 use Rattle.sg_args.proofs.Driven.{can_be_driven}
-use Rattle.sg_top.specs.Ending.{NoMemory}
-use Rattle.sg_top.specs.Model.{ending_held}
+use Rattle.sg_ending.specs.Ending.{NoMemory}
+use Rattle.sg_ending.specs.Model.{ending_held}
 use Rattle.sg_top.proofs.Statuses.{may_play}
 use Rattle.sg_top.proofs.program.on_line.Goals as goal
 

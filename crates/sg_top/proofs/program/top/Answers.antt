@@ -1,5 +1,5 @@
 use Rattle.std.proofs.Common.{refl, inr}
-use Rattle.sg_top.specs.Ending.{NoMemory}
+use Rattle.sg_ending.specs.Ending.{NoMemory}
 use Rattle.sg_top.proofs.program.top.Goals as goal
 
 pub returns-in-Err-clause-ends : goal.returns-in-Err-clause-ends

@@ -1,0 +1,109 @@
+//! The command `check`: parses a graph, compiles it, and says whether it is accepted, and how many views each role has.
+ghost use Rattle.std.specs.Prelude.{◌≡◌, ◌++◌, ◌∷◌, [], All, IfOk, OnOk};
+ghost use Rattle.sg_model.specs.Limits.{most_graph_file};
+ghost use Rattle.sg_protocol.specs.IsSchedule.{AreCompiled};
+ghost use Rattle.sg_protocol.specs.Texts.{real};
+ghost use Rattle.sg_parse.specs.Grammar.{SpellsGraph};
+ghost use Rattle.sg_program.specs.Compiled.{IsWhole};
+ghost use Rattle.sg_ending.specs.Files.{OnFile};
+ghost use Rattle.sg_ending.specs.Model.{ending_held};
+ghost use Rattle.sg_design.specs.Accepted.{accepted_line, check_text, views_line};
+ghost use Rattle.sg_design.specs.Ends.{Checks};
+
+use sg_base::{ByteOut, Files, OutOfMemory, Sink, write_all};
+use sg_ending::{Ending, MOST_GRAPH_BYTES, graph_of, read_file};
+use sg_graph::Graph;
+use sg_program::{AllFault, Program, Programs, compile_all};
+use std::alloc::Global;
+use std::slice;
+
+/// Checks the graph of a file and writes that it is accepted, or says why not.
+pub fn check<'w, F: Files, O: Sink>(
+    alloc: Global,
+    file: &'w str,
+    files: &mut F,
+    out: &mut O,
+) -> Ending<'w>
+    ensures kept { F.held files.new ≡ F.held files.old }
+    ensures ends { OnFile Checks most_graph_file file.now (F.held files.old) (F.faults files.old) (F.faults files.new)
+        (record { bytes = O.written out.old; faults = O.faults out.old }) (record { bytes = O.written out.new; faults = O.faults out.new }) (ending_held result) }
+{
+    match read_file(alloc, file, files, MOST_GRAPH_BYTES) {
+        Ok(bytes) => check_bytes(alloc, bytes.as_slice(), out),
+        Err(ending) => ending,
+    }
+}
+
+fn check_bytes<O: Sink>(alloc: Global, bytes: &[u8], out: &mut O) -> Ending<'static>
+    ensures { Checks bytes.now (record { bytes = O.written out.old; faults = O.faults out.old }) (record { bytes = O.written out.new; faults = O.faults out.new }) (ending_held result) }
+{
+    match graph_of(alloc, bytes) {
+        Ok(graph) => check_graph(alloc, bytes, graph, out),
+        Err(ending) => ending,
+    }
+}
+
+// Checks the graph that the bytes spell.
+fn check_graph<O: Sink>(alloc: Global, bytes: &[u8], graph: Graph, out: &mut O) -> Ending<'static>
+    requires { SpellsGraph bytes.now graph }
+    ensures { Checks bytes.now (record { bytes = O.written out.old; faults = O.faults out.old }) (record { bytes = O.written out.new; faults = O.faults out.new }) (ending_held result) }
+{
+    match compile_all(alloc, slice::from_ref(&graph)) {
+        Ok(programs) => say_accepted(alloc, bytes, &graph, &programs, out),
+        Err(AllFault::Refused { fault, .. }) => Ending::GraphRefused { graph, fault },
+        Err(AllFault::OutOfMemory) => Ending::NoMemory,
+    }
+}
+
+// Writes that the graph that the bytes spell is accepted, and how many views each of its programs has.
+fn say_accepted<O: Sink>(
+    alloc: Global,
+    bytes: &[u8],
+    graph: &Graph,
+    programs: &Programs,
+    out: &mut O,
+) -> Ending<'static>
+    requires spelled { SpellsGraph bytes.now graph.now }
+    requires compiled { AreCompiled real (graph.now ∷ []) programs.now }
+    requires few { All IsWhole programs.now }
+    ensures { Checks bytes.now (record { bytes = O.written out.old; faults = O.faults out.old }) (record { bytes = O.written out.new; faults = O.faults out.new }) (ending_held result) }
+{
+    match accepted_text(alloc, graph, programs.as_slice()) {
+        Ok(text) => match write_all(out, text.as_slice()) {
+            Ok(()) => Ending::Written,
+            Err(_) => Ending::WriteFailed,
+        },
+        Err(_) => Ending::NoMemory,
+    }
+}
+
+fn accepted_text(alloc: Global, graph: &Graph, programs: &[Program]) -> Result<Vec<u8>, OutOfMemory>
+    ensures { IfOk result (λ text. text.items ≡ check_text graph.now programs.now) }
+{
+    let mut text = ByteOut::new(alloc);
+    put_accepted(&mut text, graph)?;
+    for program in programs {
+        put_views(&mut text, program)?;
+    }
+    Ok(text.done())
+}
+
+// Writes that a graph is accepted.
+fn put_accepted(out: &mut ByteOut, graph: &Graph) -> Result<(), OutOfMemory>
+    ensures { OnOk result (out.new ≡ out.old ++ accepted_line graph.now) }
+{
+    out.bytes(b"accepted ")?;
+    out.bytes(graph.name().as_bytes())?;
+    out.u8(b'\n')
+}
+
+// Writes how many views a program has.
+fn put_views(out: &mut ByteOut, program: &Program) -> Result<(), OutOfMemory>
+    ensures { OnOk result (out.new ≡ out.old ++ views_line program.now) }
+{
+    out.bytes(b"views ")?;
+    out.bytes(program.graph().role_name(program.role()).as_bytes())?;
+    out.u8(b' ')?;
+    out.decimal(program.views().len() as u64)?;
+    out.u8(b'\n')
+}

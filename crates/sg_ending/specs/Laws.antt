@@ -1,0 +1,24 @@
+-- What a command on one file does is what its file asks for: one ending, unless the outside fails.
+use Rattle.std.specs.Prelude.{◌≡◌, ℕ, Bool, true, false, List, Some}
+use Rattle.sg_program.specs.declared.check.CompileFault.TheVariants.{OutOfMemory}
+use Rattle.sg_ending.specs.Ending.{Ending, Written, GraphRefused, FileFailed, WriteFailed, NoMemory}
+use Rattle.sg_ending.specs.Files.{OnFile}
+use Rattle.sg_ending.specs.Output.{Output}
+
+-- the ending is the outside's: a file failed, or memory ran out
+abbrev pub is_of_outside : Ending → Bool
+is_of_outside (FileFailed file) = true
+is_of_outside NoMemory = true
+is_of_outside ending = false
+
+-- what is asked for, where it ends so: that the text is written, also where a write failed; and of a graph that is refused, which one it is
+abbrev pub asked : Ending → Ending
+asked WriteFailed = Written
+asked (GraphRefused g fault) = GraphRefused g OutOfMemory
+asked ending = ending
+
+-- Whatever the outside does, the same files ask for the same ending
+abbrev pub EndsOnce : (Does : List ℕ → (old new : Output) → Ending → Type 0) → (most : ℕ) → Type 0
+EndsOnce Does most = (files : List (List ℕ × List ℕ)) (file : List ℕ) (m m' n n' : ℕ) (a a' b b' : Output) (x y : Ending)
+    → OnFile Does most file (Some files) m m' a a' x → OnFile Does most file (Some files) n n' b b' y
+    → is_of_outside x ≡ false → is_of_outside y ≡ false → asked x ≡ asked y

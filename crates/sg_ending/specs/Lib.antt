@@ -1,0 +1,7 @@
+pub mod Ending
+pub mod Output
+pub mod Files
+pub mod Graphs
+pub mod Says
+pub mod Laws
+pub mod Model

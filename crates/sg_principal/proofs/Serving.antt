@@ -1,0 +1,32 @@
+-- Runs for an application, from before a ledger was opened.
+use Rattle.std.proofs.Common.{◌≡◌, ℕ, ◌≤◌, ◌⊎◌, Bool, List, Option, Result, inl, inr, ◌∙◌, arith}
+use Rattle.sg_ledger.specs.Format.{Join}
+use Rattle.sg_serve.specs.Faults.{Counts, TellsFaults}
+use Rattle.sg_serve.specs.declared.fault.ServeFault.{ServeFault}
+use Rattle.sg_ending.specs.Ending.{Ending}
+use Rattle.sg_setup.specs.Setup.{Principal}
+use Rattle.sg_principal.specs.Ledgers.{Disked, IsLeft}
+use Rattle.sg_principal.specs.Serves.{Application, EndsServing, ServesOver, counts}
+use Rattle.sg_ending.proofs.Files.{rises}
+
+module _ (kept : Bool) (opened : List Join) (p : Principal) (old new : Application) (disk disk1 disk2 : Disked) (falls : disk.faults ≤ disk1.faults) where
+  -- what was served from when the ledger was opened was served from before
+  ends_later : (o : Application) (r : Result (Unit {0}) ServeFault) → EndsServing kept opened p o new disk1 disk2 r → EndsServing kept opened p o new disk disk2 r
+  ends_later o r h = record {
+    bound = h.bound;
+    answers = h.answers;
+    faults = record {
+      link_falls = (h.faults).link_falls;
+      out_falls = (h.faults).out_falls;
+      disk_falls = (let l : disk1.faults ≤ disk2.faults = (h.faults).disk_falls in omega (arith, l));
+      write_failed = (h.faults).write_failed;
+      disk_failed = λ e. rises disk.faults disk1.faults disk2.faults falls (h.faults).disk_falls ((h.faults).disk_failed e);
+    };
+    input_falls = h.input_falls;
+    input_failed = h.input_failed;
+  }
+
+  -- so of what came of a principal
+  pub over_later : (e : Ending) → IsLeft disk disk1 → ServesOver kept opened p old new disk1 disk2 e → ServesOver kept opened p old new disk disk2 e
+  over_later e left (inl x) = inl (x.0, (x.1.0 ∙ left.0, λ image h. left.1 image (x.1.1 image h)), x.2)
+  over_later e left (inr x) = inr (x.0, x.1, x.2, ends_later (record old { link = x.0 }) x.1 x.3, x.4)

@@ -1,0 +1,23 @@
+use Rattle.std.proofs.Common.{refl, arith}
+use Rattle.std.specs.Prelude.{is_some}
+use Rattle.sg_input.specs.Lines.{lines_of}
+use Rattle.sg_serve.specs.Served.{images_if, joins_kept}
+use Rattle.sg_serve.proofs.Running.{not_begun}
+use Rattle.sg_principal.proofs.serve.answer_all.Goals as goal
+
+pub returns-in_default-clause-ends : goal.returns-in_default-clause-ends
+returns-in_default-clause-ends g c = record {
+  bound = refl;
+  answers = λ bytes coming random known comes drawn.
+      not_begun (record { written = g.O.Sink.written c.args.out.now; sent = g.L.Link.sent c.args.link.now; coming = g.L.TimedLink.coming c.args.link.now; failed = g.L.Link.faults c.args.link.now }) (g.R.Fresh.random c.args.fresh.now)
+      (images_if (is_some c.args.ledger) (g.D.Disk.may_leave c.args.disk.now)) c.args.principal.keys c.args.principal.programs (joins_kept c.args.ledger) coming random (lines_of bytes) _ refl c.requires.represents;
+  faults = record {
+    link_falls = omega arith;
+    out_falls = omega arith;
+    disk_falls = omega arith;
+    write_failed = λ e. absurd cc;
+    disk_failed = λ e. absurd cc;
+  };
+  input_falls = omega arith;
+  input_failed = λ e. absurd cc;
+}

@@ -1,0 +1,111 @@
+-- How the making of a ledger ends, and a run over one, and what they leave of the disk.
+use Rattle.std.specs.Prelude.{◌≡◌, ◌≢◌, ℕ, ◌⊎◌, List, [], take, codes, Option, Some, Result, Ok, Err, OnOk, ⊤}
+use Rattle.sg_base.specs.Outside.{HasRisen}
+use Rattle.sg_keep.specs.Faults.{Counts, TellsFaults}
+use Rattle.sg_keep.specs.Kept.{AllRepresent, Kept}
+use Rattle.sg_keep.specs.declared.fault.KeepFault.{KeepFault}
+use Rattle.sg_keep.specs.declared.fault.KeepFault.TheVariants as KeepFaults
+use Rattle.sg_ledger.specs.Disk.{Keeps, WhereTold}
+use Rattle.sg_ledger.specs.Format.{Join, IsLedger, IsFirstBadSlot, Represents}
+use Rattle.sg_play.specs.Played.{Play, played}
+use Rattle.sg_play.specs.declared.fault.PlayFault.TheVariants as PlayFaults
+use Rattle.sg_ending.specs.Ending.{Ending, Written, NoLedger, BadSlot, LedgerNotEmpty, WriteFailed, LinkFailed, DiskFailed, NoMemory}
+use Rattle.sg_ending.specs.Files.{KnownFiles}
+use Rattle.sg_ending.specs.Output.{Output, Writes}
+use Rattle.sg_setup.specs.Setup.{RunFiles, Setup, HasSetup, LacksSetup}
+use Rattle.sg_principal.specs.Runs.{Outside, IsUntouched, Takes, TakesAtMost, WaitsAt, CanHavePlayed}
+
+-- a disk: the name of the file that it is bound to, if it is bound to one, the bytes of this file, if they are known, the images, which are what a crash may leave of it, and its count of faults
+pub record Disked : Type 1 where
+  pub bound : Option (List ℕ)
+  pub seen : Option (List ℕ)
+  pub may_leave : List ℕ → Type 0
+  pub faults : ℕ
+
+-- the file is as it was, and a crash leaves nothing other than before
+abbrev pub IsLeft : (disk disk' : Disked) → Type 0
+IsLeft disk disk' = (disk'.seen ≡ disk.seen) × Keeps disk.may_leave disk'.may_leave
+
+-- nothing was asked of the disk: it is bound to the file of before, a crash leaves all that it left before too, and the count is the same
+abbrev pub IsNotAsked : (disk disk' : Disked) → Type 0
+IsNotAsked disk disk' = IsLeft disk disk' × Keeps disk'.may_leave disk.may_leave × (disk'.bound ≡ disk.bound) × (disk'.faults ≡ disk.faults)
+
+-- the disk is bound to the file of this name; or it can't be, which its count of faults shows, and it is bound and left as before
+abbrev pub IsBound : (file : List ℕ) → (disk disk' : Disked) → Ending → Type 0
+IsBound file disk disk' ending = (disk'.bound ≡ Some file) ⊎ ((ending ≡ DiskFailed) × HasRisen disk.faults disk'.faults × (disk'.bound ≡ disk.bound) × IsLeft disk disk')
+
+-- ---- a ledger is made
+
+-- the file had no bytes, and each image represents no joins
+abbrev pub IsMade : (disk disk' : Disked) → Type 0
+IsMade disk disk' = WhereTold disk.seen (λ file. file ≡ []) × AllRepresent disk'.may_leave []
+
+-- none is made: the file has bytes already, or the disk failed, which its count shows, or memory ran out; a file that has bytes is left
+abbrev pub LacksRoom : (disk disk' : Disked) → Ending → Type 0
+LacksRoom disk disk' LedgerNotEmpty = WhereTold disk.seen (λ file. file ≢ []) × IsLeft disk disk'
+LacksRoom disk disk' DiskFailed = HasRisen disk.faults disk'.faults × WhereTold disk.seen (λ file. file ≢ [] → IsLeft disk disk')
+LacksRoom disk disk' NoMemory = IsLeft disk disk'
+LacksRoom disk disk' ending = ⊥
+
+-- the making of a ledger of a file ends so: it is made, and then this is written; or it isn't, and nothing is written
+abbrev pub Makes : (file : List ℕ) → (old new : Output) → (disk disk' : Disked) → Ending → Type 0
+Makes file old new disk disk' ending = IsBound file disk disk' ending ×
+    ((IsMade disk disk' × Writes old new (codes "ledger made\n") ending)
+    ⊎ ((new ≡ old) × LacksRoom disk disk' ending))
+
+-- ---- a ledger is opened
+
+-- no ledger is opened: the file is none, or this is its first bad slot, or the disk failed, which its count shows, or memory ran out
+abbrev pub LacksLedger : (disk disk' : Disked) → Ending → Type 0
+LacksLedger disk disk' NoLedger = WhereTold disk.seen (λ file. ¬ IsLedger file)
+LacksLedger disk disk' (BadSlot slot) = WhereTold disk.seen (λ file. IsLedger file × IsFirstBadSlot file slot)
+LacksLedger disk disk' DiskFailed = HasRisen disk.faults disk'.faults
+LacksLedger disk disk' NoMemory = ⊤
+LacksLedger disk disk' ending = ⊥
+
+-- ---- a run over a ledger
+
+-- the play of a setup over these joins, over the first deliveries, at most `most`, and with these random bytes
+abbrev pub play_over : (opened : List Join) → Setup → (most : ℕ) → (deliveries random : List (List ℕ)) → Play
+play_over opened s most deliveries random = played s.keys s.programs opened s.script (take most deliveries) random
+
+-- if the deliveries and the random bytes are known: what was written and sent is what this play writes and sends, up to where it ended, and what a crash leaves of the disk is the ledger with the joins of the play up to there, among them the session and the sender of each frame that was sent
+abbrev pub PlaysOver : (opened : List Join) → Setup → (most : ℕ) → (old new : Outside) → (disk' : Disked) → Result (Unit {0}) KeepFault → Type 0
+PlaysOver opened s most old new disk' result = (deliveries random : List (List ℕ)) → (old.link).deliveries ≡ Some deliveries → old.random ≡ Some random
+    → Kept (record { written = (old.out).bytes; sent = (old.link).sent }) (record { written = (new.out).bytes; sent = (new.link).sent }) disk'.may_leave (play_over opened s most deliveries random) result
+
+-- how the program ends after a play over a ledger
+abbrev pub ending_of_play : Result (Unit {0}) KeepFault → Ending
+ending_of_play (Ok u) = Written
+ending_of_play (Err (KeepFaults.Played PlayFaults.LinkFailed)) = LinkFailed
+ending_of_play (Err (KeepFaults.Played PlayFaults.WriteFailed)) = WriteFailed
+ending_of_play (Err (KeepFaults.Played PlayFaults.OutOfMemory)) = NoMemory
+ending_of_play (Err KeepFaults.DiskFailed) = DiskFailed
+
+-- how often the link, standard output and the disk failed
+abbrev pub counts : Outside → Disked → Counts
+counts o disk = record { link = (o.link).faults; out = (o.out).faults; disk = disk.faults }
+
+-- the play of a setup over the joins of an opened ledger ended so, of which a fault is reported only if its count rose
+pub record EndsOver (opened : List Join) (s : Setup) (most : ℕ) (old new : Outside) (disk disk' : Disked) (result : Result (Unit {0}) KeepFault) : Type 0 where
+  pub plays : PlaysOver opened s most old new disk' result
+  pub faults : TellsFaults (counts old disk) (counts new disk') result
+  pub left : OnOk result (Takes most (old.link).deliveries (new.link).deliveries)
+  pub at_most : TakesAtMost most (old.link).deliveries (new.link).deliveries
+
+-- a setup is played over the ledger that the file of this name is, and over the link at the address of its keys; or the file is none, and nothing is touched
+abbrev pub KeepsSetup : (file : List ℕ) → Setup → (most : ℕ) → (old new : Outside) → (disk disk' : Disked) → Ending → Type 0
+KeepsSetup file s most old new disk disk' ending =
+    ((opened : List Join) × (result : Result (Unit {0}) KeepFault) × (disk'.bound ≡ Some file) × WhereTold disk.seen (λ bytes. Represents bytes opened) × WaitsAt s.keys old new ending × EndsOver opened s most old new disk disk' result × (ending ≡ ending_of_play result))
+    ⊎ (IsUntouched old new × IsLeft disk disk' × IsBound file disk disk' ending × LacksLedger disk disk' ending)
+
+-- a run over the ledger of a file ends so: the files hold a setup, which is played over the ledger, if there is one; or they hold none, and nothing is touched, nor the disk asked
+abbrev pub KeepsRun : (file : List ℕ) → RunFiles → (most : ℕ) → KnownFiles → (faults faults' : ℕ) → (old new : Outside) → (disk disk' : Disked) → Ending → Type 0
+KeepsRun file named most known faults faults' old new disk disk' ending =
+    ((s : Setup) × HasSetup known named s × KeepsSetup file s most old new disk disk' ending)
+    ⊎ (IsUntouched old new × IsNotAsked disk disk' × LacksSetup known faults faults' named ending)
+
+-- with these endings a run over a ledger may have played
+abbrev pub CanHaveKept : Ending → Type 0
+CanHaveKept DiskFailed = ⊤
+CanHaveKept ending = CanHavePlayed ending

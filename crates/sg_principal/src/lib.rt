@@ -1,0 +1,18 @@
+//! The commands of one principal: `run`, `keep` and `serve`, and `ledger`, which makes the ledger for these two. `stream` is `run` over another link.
+//!
+//! - `run` reads its files in order, keys, programs and script, and opens the link when all are taken. It writes as it goes: a step's line when
+//!   the link has taken the step's frame.
+//! - `ledger` makes a ledger of a file of the disk and then says so. `keep` reads as `run` does, opens the ledger and then the link, and plays
+//!   over the joins that the ledger has. What a crash leaves of the disk has the joins of each step whose line was begun.
+//! - `serve` reads keys and programs as `run` does, opens the ledger, if it has one, and then its link, and answers the lines of standard input,
+//!   each before it reads the next one. A link that fails after that is an answer.
+//!
+//! Each command has a module of its name, and `joins` opens a ledger. `specs/Runs.antt` says what a run leaves, `specs/Ledgers.antt` what the making of
+//! a ledger leaves, and a run over one, and `specs/Serves.antt` a run for an application.
+#![tactic(auto)]
+
+mod joins;
+pub mod keep;
+pub mod ledger;
+pub mod run;
+pub mod serve;

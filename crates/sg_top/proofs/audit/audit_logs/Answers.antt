@@ -1,4 +1,0 @@
-use Rattle.sg_top.proofs.audit.audit_logs.Goals as goal
-
-pub audit_sessions-requires-clause-two : goal.audit_sessions-requires-clause-two
-audit_sessions-requires-clause-two g c = c.requires.spelled.tell.spelled.two_roles

@@ -1,9 +1,0 @@
-use Rattle.std.proofs.Common.{◌≡◌, map}
-use Rattle.sg_sched.specs.Format.StepsHeld.{step_of}
-use Rattle.sg_world.specs.Replay.{up_to}
-use Rattle.sg_top.specs.Replayed.{replay_of}
-use Rattle.sg_top.proofs.Replaying.{NoneFull}
-use Rattle.sg_top.proofs.replay.report_of.Given as goal
-
-abbrev pub invariant-steps : goal.invariant-steps
-invariant-steps l = (l.world ≡ up_to l.step-index (replay_of l.programs l.schedule)) × (map step_of l.step-items ≡ l.schedule.steps) × NoneFull l.programs l.schedule l.step-index
