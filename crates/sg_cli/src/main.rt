@@ -5,9 +5,7 @@
 #![tactic(auto)]
 
 use sg_base::{StdFiles, StdSink};
-use sg_ending::{
-    end_without_args, end_without_descriptors, end_without_memory, end_without_seed,
-};
+use sg_ending::{end_without_args, end_without_descriptors, end_without_memory, end_without_seed};
 use sg_input::StdInput;
 use sg_ledger::FileDisk;
 use sg_link::{TcpConns, UdpLink};
