@@ -88,10 +88,10 @@ suggest_once =
 
 -- ---- parts
 
-expands : List ℕ → Graph → Type 0
+abbrev expands : List ℕ → Graph → Type 0
 expands bytes g = (ps : List Part) × SpellsParts bytes ps × (expansion ps ≡ Ok g)
 
-no_expansion : List ℕ → Ending → Type 0
+abbrev no_expansion : List ℕ → Ending → Type 0
 no_expansion bytes e = ((f : ParseFault) × (e ≡ NoGraph f) × (parts_read bytes ≡ Err f)) ⊎ ((f : ComposeFault) × (ps : List Part) × (e ≡ NoExpansion f) × SpellsParts bytes ps × (expansion ps ≡ Err f))
 
 one_parts : (bytes : List ℕ) (ps qs : List Part) → SpellsParts bytes ps → SpellsParts bytes qs → ps ≡ qs

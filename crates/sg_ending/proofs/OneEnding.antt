@@ -127,7 +127,7 @@ file_once Does most once files file m m' n n' a a' b b' x y (inr (same, u)) (inr
 
 -- ---- graphs
 
-pub no_graph : List ℕ → Ending → Type 0
+abbrev pub no_graph : List ℕ → Ending → Type 0
 no_graph bytes e = (f : ParseFault) × (e ≡ NoGraph f) × (parsed bytes ≡ Err f)
 
 pub of_graph : (bytes : List ℕ) → Determined (SpellsGraph bytes) (no_graph bytes)

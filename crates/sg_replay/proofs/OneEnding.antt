@@ -32,7 +32,7 @@ use Rattle.sg_ending.proofs.OneEnding.{Cause, Taken, Refused, Before, Determined
 
 -- ---- logs
 
-logs_of : List ℕ → Graph → Type 0
+abbrev logs_of : List ℕ → Graph → Type 0
 logs_of bytes g = (l : Logs) × SpellsLogs bytes l × (l.graph ≡ g)
 
 of_logs : (bytes : List ℕ) → Determined (logs_of bytes) (IsNoLogs bytes)

@@ -24,17 +24,24 @@ const MOST_OF_A_PROGRAM: u32 = 8_388_608;
 /// What a run plays by. It has its keys twice: a node takes one keyring, and the other has the addresses that frames go to.
 #[derive(Drop)]
 pub struct Setup {
+    /// The keys.
     pub keys: Keyring,
+    /// The same keys, for the node.
     pub keys_of_node: Keyring,
+    /// The programs, in the order of their files.
     pub programs: Programs,
+    /// The script.
     pub script: Script,
 }
 
 /// The keys, twice, and the programs of a principal.
 #[derive(Drop)]
 pub struct Principal {
+    /// The keys.
     pub keys: Keyring,
+    /// The same keys, for the node.
     pub keys_of_node: Keyring,
+    /// The programs, in the order of their files.
     pub programs: Programs,
 }
 
