@@ -1,12 +1,11 @@
 -- Runs for an application, from before a ledger was opened.
-use Rattle.std.proofs.Common.{◌≡◌, ℕ, ◌≤◌, ◌⊎◌, Bool, List, Option, Result, inl, inr, ◌∙◌, arith}
+use Rattle.std.proofs.Common.{◌≡◌, ◌≤◌, ◌⊎◌, Bool, List, Result, inl, inr, ◌∙◌, arith}
 use Rattle.sg_ledger.specs.Format.{Join}
-use Rattle.sg_serve.specs.Faults.{Counts, TellsFaults}
 use Rattle.sg_serve.specs.declared.fault.ServeFault.{ServeFault}
 use Rattle.sg_ending.specs.Ending.{Ending}
 use Rattle.sg_setup.specs.Setup.{Principal}
 use Rattle.sg_principal.specs.Ledgers.{Disked, IsLeft}
-use Rattle.sg_principal.specs.Serves.{Application, EndsServing, ServesOver, counts}
+use Rattle.sg_principal.specs.Serves.{Application, EndsServing, ServesOver}
 use Rattle.sg_ending.proofs.Files.{rises}
 
 module _ (kept : Bool) (opened : List Join) (p : Principal) (old new : Application) (disk disk1 disk2 : Disked) (falls : disk.faults ≤ disk1.faults) where
