@@ -10,19 +10,31 @@ struct Named<'t> {
     bytes: Vec<u8>,
 }
 
-/// Compares what comes of each line with what must come. The error is the first line that doesn't hold.
-pub fn hold<'t, C: Calls>(alloc: Global, calls: &C, lines: &'t str) -> Result<(), &'t str> {
+/// Compares what each line answers with what must come. A text may use the names of those before it. The error is the first line that doesn't hold.
+pub fn hold<'t, C: Calls>(alloc: Global, calls: &C, texts: &[&'t str]) -> Result<(), &'t str> {
     let mut named = Vec::new(alloc);
-    for line in lines.lines() {
-        let Some(true) = holds(alloc, calls, &mut named, line) else {
+    for text in texts {
+        text_holds(alloc, calls, &mut named, *text)?;
+    }
+    Ok(())
+}
+
+fn text_holds<'t, C: Calls>(
+    alloc: Global,
+    calls: &C,
+    named: &mut Vec<Named<'t>>,
+    text: &'t str,
+) -> Result<(), &'t str> {
+    for line in text.lines() {
+        let Some(true) = line_holds(alloc, calls, named, line) else {
             return Err(line);
         };
     }
     Ok(())
 }
 
-// Whether the answer comes that must come, where the line has one.
-fn holds<'t, C: Calls>(
+// Whether the answer comes that must come, if the line has one.
+fn line_holds<'t, C: Calls>(
     alloc: Global,
     calls: &C,
     named: &mut Vec<Named<'t>>,
@@ -37,8 +49,8 @@ fn holds<'t, C: Calls>(
         _ => {
             let mut words = words_of(alloc, named, rest)?;
             let wanted = words.pop()?;
-            let came = calls.answer(alloc, call, &words)?;
-            Some(came.as_slice() == wanted.as_slice())
+            let answer = calls.answer(alloc, call, &words)?;
+            Some(answer.as_slice() == wanted.as_slice())
         }
     }
 }
@@ -99,7 +111,7 @@ fn put_digits(alloc: Global, bytes: &mut Vec<u8>, count: u32, digits: &str) -> O
     Some(())
 }
 
-// The bytes of a name, by the last line that named some so.
+// The bytes of a name, by the last line that gave it to some.
 fn found<'n>(named: &'n [Named<'_>], name: &str) -> Option<&'n [u8]> {
     for one in named.iter().rev() {
         if one.name == name {

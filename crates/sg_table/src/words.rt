@@ -1,10 +1,10 @@
-//! What words are as arguments, and the words of answers.
+//! What words are as arguments, and words that are answers.
 ghost use Rattle.std.specs.Prelude.{◌≡◌, ◌↔◌, ◌-◌, ◌^◌, if◌then◌else◌, codes, length, IfSome, IsSome};
 ghost use Rattle.sg_base.specs.Words.{number};
 
-use sg_base::{Name, read_number};
+use sg_base::{ByteOut, Name, read_number};
 use std::alloc::Global;
-use std::str;
+use std::{fmt, str};
 
 /// A number in decimal digits.
 pub fn number(word: &[u8]) -> Option<u32>
@@ -50,6 +50,13 @@ pub fn bytes(alloc: Global, bytes: &[u8]) -> Option<Vec<u8>>
     ensures { IfSome result (λ answer. answer.items ≡ bytes.now) }
 {
     bytes.to_vec(alloc).ok()
+}
+
+/// An answer of this value's text.
+pub fn text<T: fmt::Display>(alloc: Global, value: &T) -> Option<Vec<u8>> {
+    let mut out = ByteOut::new(alloc);
+    write!(out, "{value}").ok()?;
+    Some(out.done())
 }
 
 /// The answer `yes` or `no`.

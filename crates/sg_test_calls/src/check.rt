@@ -22,7 +22,7 @@ impl Calls for Shapes {
 
 #[test]
 fn a_graph_without_a_node(rt: HostRuntime) -> Result<(), &'static str> {
-    hold(rt.alloc(), &Shapes, LINES)
+    hold(rt.alloc(), &Shapes, &[LINES])
 }
 
 const LINES: &str = "

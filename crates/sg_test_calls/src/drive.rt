@@ -7,7 +7,7 @@ use sg_drive::generate;
 use sg_graph::Graph;
 use sg_parse::parse_graph;
 use sg_program::{Programs, compile_all};
-use sg_table::{Calls, bytes, hold, number};
+use sg_table::{Calls, bytes, hold, number, text};
 use std::alloc::Global;
 use std::slice;
 
@@ -16,12 +16,12 @@ struct Runs;
 impl Calls for Runs {
     fn answer(&self, alloc: Global, call: &str, args: &[Vec<u8>]) -> Option<Vec<u8>> {
         let _ = call;
-        let [seed, sessions, text] = args else {
+        let [seed, sessions, graph] = args else {
             return None;
         };
-        let graph = graph_of(alloc, text)?;
+        let graph = graph_of(alloc, graph)?;
         let programs = programs_of(alloc, &graph)?;
-        told(alloc, number(seed)?, number(sessions)?, &graph, &programs)
+        generated(alloc, number(seed)?, number(sessions)?, &graph, &programs)
     }
 }
 
@@ -52,7 +52,7 @@ fn programs_of(alloc: Global, graph: &Graph) -> Option<Programs>
 }
 
 // Why a run isn't generated, if it isn't.
-fn told(
+fn generated(
     alloc: Global,
     seed: u32,
     sessions: u32,
@@ -67,13 +67,13 @@ fn told(
     }
     match generate(alloc, seed, sessions, graph, programs) {
         Ok(_) => bytes(alloc, b"a run"),
-        Err(fault) => bytes(alloc, format!(in alloc; "{fault}").ok()?.as_bytes()),
+        Err(fault) => text(alloc, &fault),
     }
 }
 
 #[test]
 fn a_full_record_ends_a_run(rt: HostRuntime) -> Result<(), &'static str> {
-    hold(rt.alloc(), &Runs, LINES)
+    hold(rt.alloc(), &Runs, &[LINES])
 }
 
 const LINES: &str = "

@@ -7,7 +7,7 @@ ghost use Rattle.sg_protocol.specs.Graph.{AreNumbers};
 use sg_base::{ByteOut, Label, Name, NodeId, Role, RoleSet, VarSet, VarType};
 use sg_graph::{AddFault, Graph, canonical_text, is_walk};
 use sg_parse::parse_graph;
-use sg_table::{Calls, hold, number, parts, yes};
+use sg_table::{Calls, Target, answers, hold, number, parts, yes};
 use std::alloc::Global;
 
 struct Graphs;
@@ -21,7 +21,10 @@ impl Calls for Graphs {
                 let labels = labels_of(alloc, labels)?;
                 yes(alloc, is_walk(&graph, start, labels.as_slice()))
             }
-            [text, parts @ ..] => played(alloc, &mut begun(alloc, text)?, parts),
+            [text, parts @ ..] => {
+                let graph = begun(alloc, text)?;
+                answers(alloc, &mut Parts { graph }, parts)
+            }
             _ => None,
         }
     }
@@ -30,8 +33,11 @@ impl Calls for Graphs {
 /// The graph of the first word, with the parts of the others.
 pub fn made(alloc: Global, args: &[Vec<u8>]) -> Option<Graph> {
     let (text, parts) = args.split_first()?;
-    let mut graph = begun(alloc, text)?;
-    let _ = played(alloc, &mut graph, parts)?;
+    let mut made = Parts {
+        graph: begun(alloc, text)?,
+    };
+    let _ = answers(alloc, &mut made, parts)?;
+    let Parts { graph } = made;
     Some(graph)
 }
 
@@ -43,17 +49,21 @@ fn begun(alloc: Global, text: &[u8]) -> Option<Graph> {
     }
 }
 
-// What comes of calls on a graph, each a word.
-fn played(alloc: Global, graph: &mut Graph, words: &[Vec<u8>]) -> Option<Vec<u8>> {
-    let mut out = ByteOut::new(alloc);
-    for word in words {
-        call(alloc, graph, &mut out, word)?;
-    }
-    Some(out.done())
+// A graph to which parts are added.
+#[derive(Drop)]
+struct Parts {
+    graph: Graph,
 }
 
 // A call is the kind of a part, its name, and what it is of: nothing for a role, a role for a node and for what it alone writes, and a node for an
-// edge from there to there. Where a count stands behind, so many are added, with their numbers behind the name. `text` and `edges` tell of the graph.
+// edge from there to there. With a count behind it so many are added, with their numbers behind the name. The answer to `text` is the graph's text,
+// and to `edges` their count.
+impl Target for Parts {
+    fn call(&mut self, alloc: Global, out: &mut ByteOut, word: &[u8]) -> Option<()> {
+        call(alloc, &mut self.graph, out, word)
+    }
+}
+
 fn call(alloc: Global, graph: &mut Graph, out: &mut ByteOut, word: &[u8]) -> Option<()> {
     match parts(alloc, word)?.as_slice() {
         ["text"] => out.bytes(&canonical_text(alloc, graph).ok()?).ok(),
@@ -83,7 +93,7 @@ fn add_many(
     Some(())
 }
 
-// Adds a part, and tells why not.
+// Adds a part. The inner answer is why it was refused, if it was.
 fn add(graph: &mut Graph, kind: &str, name: &[u8], of: &[u8]) -> Option<Option<AddFault>> {
     let name = free_name(name)?;
     match kind {
@@ -181,7 +191,7 @@ fn labels_of(alloc: Global, word: &[u8]) -> Option<Vec<Label>> {
 
 #[test]
 fn graphs_that_are_made_and_walked(rt: HostRuntime) -> Result<(), &'static str> {
-    hold(rt.alloc(), &Graphs, LINES)
+    hold(rt.alloc(), &Graphs, &[LINES])
 }
 
 const LINES: &str = "

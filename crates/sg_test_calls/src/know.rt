@@ -1,4 +1,4 @@
-//! Graphs that are refused before their reads are looked at, where a command looks.
+//! Graphs that a command refuses before it looks at their reads.
 use crate::graph::made;
 use sg_base::ByteOut;
 use sg_know::check_reads;
@@ -22,11 +22,11 @@ impl Calls for Reads {
 
 #[test]
 fn reads_that_no_command_looks_at(rt: HostRuntime) -> Result<(), &'static str> {
-    hold(rt.alloc(), &Reads, LINES)
+    hold(rt.alloc(), &Reads, &[LINES])
 }
 
 const LINES: &str = "
-# Without a node there is no walk, nor does one take an edge that no edge leads to. A walk from the start that reads what nobody wrote is told.
+# Without a node there is no walk, nor does one take an edge that no edge leads to. A walk from the start that reads what nobody wrote is refused.
 
 let G 'graph_g;role_a;role_b;var_x:int_by_a_b;node_n0:a;node_n1:b;node_n2:a;
 reads 'g 'role,a, 'role,b, 'ok

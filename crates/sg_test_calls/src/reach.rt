@@ -86,7 +86,7 @@ fn walk_to(alloc: Global, reach: &Reach<'_>, node: u8) -> Option<Vec<u8>> {
 
 #[test]
 fn closures_of_a_ring(rt: HostRuntime) -> Result<(), &'static str> {
-    hold(rt.alloc(), &Closures, LINES)
+    hold(rt.alloc(), &Closures, &[LINES])
 }
 
 const LINES: &str = "
@@ -100,7 +100,7 @@ let RING $RING+'edge_On:n1->n2;edge_Round:n2->n3;edge_Back:n3->n0;edge_Short:n0-
 reached $RING 00 ' 0000+0001+0002+0003
 reached $RING 04 ' 0000+0001+0002+0003+0004
 
-# A node of a role that isn't passed ends the walks to it, nor does a walk pass its first node where that has such a role.
+# A node of a role that isn't passed ends the walks to it, nor does a walk pass its first node if that has such a role.
 
 reached $RING 00 02 0000+0001+0002
 reached $RING 00 0102 0000+0001+0002

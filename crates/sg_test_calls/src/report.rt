@@ -10,21 +10,21 @@ impl Calls for Premises {
     fn answer(&self, alloc: Global, call: &str, args: &[Vec<u8>]) -> Option<Vec<u8>> {
         let collision_free = call == "collision_free";
         match args {
-            [] => told(alloc, None, collision_free).ok(),
+            [] => lines_of(alloc, None, collision_free).ok(),
             [step, one, two] => {
                 let forgery = Forgery {
                     step: number(step)?,
                     one: name(one)?,
                     two: name(two)?,
                 };
-                told(alloc, Some(&forgery), collision_free).ok()
+                lines_of(alloc, Some(&forgery), collision_free).ok()
             }
             _ => None,
         }
     }
 }
 
-fn told(
+fn lines_of(
     alloc: Global,
     forged: Option<&Forgery>,
     collision_free: bool,
@@ -36,7 +36,7 @@ fn told(
 
 #[test]
 fn premises_have_their_lines(rt: HostRuntime) -> Result<(), &'static str> {
-    hold(rt.alloc(), &Premises, LINES)
+    hold(rt.alloc(), &Premises, &[LINES])
 }
 
 const LINES: &str = "

@@ -48,7 +48,7 @@ fn put_view(out: &mut ByteOut, view: &View) -> Result<(), OutOfMemory> {
 fn views_of_walks_through_loops_differ_by_what_was_written(
     rt: HostRuntime,
 ) -> Result<(), &'static str> {
-    hold(rt.alloc(), &Spelled, LINES)
+    hold(rt.alloc(), &Spelled, &[LINES])
 }
 
 const LINES: &str = "

@@ -28,11 +28,11 @@ impl Calls for Replays {
         let Ok(world) = replayed(alloc, &programs, &schedule) else {
             return None;
         };
-        told(alloc, &world, call, asked)
+        of_world(alloc, &world, call, asked)
     }
 }
 
-// A line asks for a replay that there is not, or memory ran out.
+// A line asks for no replay, or memory ran out.
 #[derive(Drop)]
 struct NoReplay;
 
@@ -81,7 +81,7 @@ fn replayed<'p>(
     Ok(world)
 }
 
-fn told(alloc: Global, world: &World<'_>, call: &str, asked: &[Vec<u8>]) -> Option<Vec<u8>> {
+fn of_world(alloc: Global, world: &World<'_>, call: &str, asked: &[Vec<u8>]) -> Option<Vec<u8>> {
     let mut out = ByteOut::new(alloc);
     match asked {
         [sid] => put_walk(&mut out, world.walk_of(Sid(fixed(sid)?))).ok()?,
@@ -129,7 +129,7 @@ fn put_forged(out: &mut ByteOut, forged: Result<(), ForgedFault>) -> Result<(), 
 
 #[test]
 fn a_session_that_is_walked_and_a_forged_tag(rt: HostRuntime) -> Result<(), &'static str> {
-    hold(rt.alloc(), &Replays, LINES)
+    hold(rt.alloc(), &Replays, &[LINES])
 }
 
 const LINES: &str = "

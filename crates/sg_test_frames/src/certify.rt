@@ -2,11 +2,10 @@
 ghost use Rattle.std.specs.Prelude.{[], ◌∷◌};
 
 use crate::crypt::notes::{hashed, put_note, take};
-use crate::script::{Script, played};
 use sg_base::{ByteOut, Name, OutOfMemory};
 use sg_certify::{Forged, Honest, first_collision, first_forged};
 use sg_crypt::Notes;
-use sg_table::{Calls, bytes, hold, name};
+use sg_table::{Calls, Target, answers, bytes, hold, name};
 use std::alloc::Global;
 
 struct Premises;
@@ -16,20 +15,22 @@ impl Calls for Premises {
         let [one, two, steps @ ..] = args else {
             return None;
         };
-        let mut notes = Vec::new(alloc);
-        let _ = played(alloc, &mut notes, steps)?;
+        let mut noted = Steps {
+            notes: Vec::new(alloc),
+        };
+        let _ = answers(alloc, &mut noted, steps)?;
         if call == "forged" {
-            forged(alloc, name(one)?, name(two)?, &notes)
+            forged(alloc, name(one)?, name(two)?, &noted.notes)
         } else {
-            collision(alloc, one, two, &notes)
+            collision(alloc, one, two, &noted.notes)
         }
     }
 }
 
-// The first forged note of what the steps noted, where these two principals are honest.
+// The first forged note of what the steps noted, if these two principals are honest.
 fn forged(alloc: Global, one: Name, two: Name, notes: &[Notes]) -> Option<Vec<u8>> {
     match first_forged(alloc, &Two { one, two }, notes).ok()? {
-        Some(forged) => told(alloc, &forged).ok(),
+        Some(forged) => spelled(alloc, &forged).ok(),
         None => bytes(alloc, b"none"),
     }
 }
@@ -60,20 +61,27 @@ impl Honest for Two {
     }
 }
 
-// A call is a note of a new step, or of the last one behind `also,`.
-impl Script for Vec<Notes> {
+// The notes of each step.
+#[derive(Drop)]
+struct Steps {
+    notes: Vec<Notes>,
+}
+
+// A call is a note of a new step, or of the last one if it begins with `also,`.
+impl Target for Steps {
     fn call(&mut self, alloc: Global, out: &mut ByteOut, word: &[u8]) -> Option<()> {
         let _ = out;
         if let Some(note) = word.strip_prefix(b"also,") {
-            return take(alloc, self.last_mut()?, note);
+            return take(alloc, self.notes.last_mut()?, note);
         }
         let mut notes = Notes::new(alloc);
         take(alloc, &mut notes, word)?;
-        self.push(notes).ok()
+        self.notes.push(notes).ok()
     }
 }
 
-fn told(alloc: Global, forged: &Forged<'_>) -> Result<Vec<u8>, OutOfMemory> {
+// The step and the note.
+fn spelled(alloc: Global, forged: &Forged<'_>) -> Result<Vec<u8>, OutOfMemory> {
     let mut out = ByteOut::new(alloc);
     let step = forged.step;
     write!(out, "{step},")?;
@@ -83,7 +91,7 @@ fn told(alloc: Global, forged: &Forged<'_>) -> Result<Vec<u8>, OutOfMemory> {
 
 #[test]
 fn forged_texts_and_collisions(rt: HostRuntime) -> Result<(), &'static str> {
-    hold(rt.alloc(), &Premises, LINES)
+    hold(rt.alloc(), &Premises, &[LINES])
 }
 
 const LINES: &str = "

@@ -34,11 +34,11 @@ fn recorded(alloc: Global, frame: &[u8], at: u32) -> Option<Vec<u8>> {
 
 #[test]
 fn frames_that_are_found_and_changed(rt: HostRuntime) -> Result<(), &'static str> {
-    hold(rt.alloc(), &Crafts, LINES)
+    hold(rt.alloc(), &Crafts, &[LINES])
 }
 
 const LINES: &str = "
-# The frame of a number, from 1, where one is recorded.
+# The frame of a number, from 1, if one is recorded.
 
 frame_at 'SGF1 '0 'none
 frame_at 'SGF1 '1 'SGF1

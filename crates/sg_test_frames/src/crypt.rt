@@ -1,7 +1,6 @@
 //! Hashes, tags, the texts under them, and notes of these.
 use crate::crypt::notes::Noted;
-use crate::script::played;
-use sg_table::{Calls, hold};
+use sg_table::{Calls, answers, hold};
 use std::alloc::Global;
 
 pub mod notes;
@@ -13,7 +12,7 @@ struct Crypt;
 impl Calls for Crypt {
     fn answer(&self, alloc: Global, call: &str, args: &[Vec<u8>]) -> Option<Vec<u8>> {
         match call {
-            "notes" => played(alloc, &mut Noted::new(alloc), args),
+            "notes" => answers(alloc, &mut Noted::new(alloc), args),
             "session_text" | "session_id" => texts::of_cast(alloc, call, args),
             "principal" => texts::principal(alloc, args),
             "commit_text" | "commit" => texts::of_opening(alloc, call, args),
@@ -26,7 +25,7 @@ impl Calls for Crypt {
 
 #[test]
 fn hashes_tags_and_texts(rt: HostRuntime) -> Result<(), &'static str> {
-    hold(rt.alloc(), &Crypt, LINES)
+    hold(rt.alloc(), &Crypt, &[LINES])
 }
 
 const LINES: &str = "
@@ -125,7 +124,7 @@ let BODY 'SGF2+00+$SID+00+01+$DIGEST+$NONCE+$NAMES+0001+00+0000+00000001+01+00+$
 frame_text 02 $BODY 'sg-frame-2+$BODY
 
 # Notes of texts that were made, found and hashed, each pair with the lesser name first. `count` tells how many there are of each, `mark` remembers
-# it, `keep` keeps so many, and `clear` empties the lists; in the end all are told.
+# it, `keep` keeps so many, and `clear` empties the lists; in the end come all that there are.
 
 notes 'made,ab,a,one 'mark 'found,a,ab,two 'hashed,three 'made,a,ab,one;found,a,ab,two;hashed,three;
 notes 'made,ab,a,one 'mark 'found,a,ab,two 'hashed,three 'count 'keep 'count '1,1,1;1,0,0;made,a,ab,one;

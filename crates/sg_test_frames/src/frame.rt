@@ -1,7 +1,7 @@
 //! Bytes that are frames, and others.
 use sg_craft::{first_bytes, flipped};
 use sg_frame::{decode, encode};
-use sg_table::{Calls, bytes, hold, number};
+use sg_table::{Calls, hold, number, text};
 use std::alloc::Global;
 
 struct Frames;
@@ -9,39 +9,37 @@ struct Frames;
 impl Calls for Frames {
     fn answer(&self, alloc: Global, call: &str, args: &[Vec<u8>]) -> Option<Vec<u8>> {
         match args {
-            [text] => spelled(alloc, text),
-            [text, count] if call == "cut" => spelled(alloc, first_bytes(text, number(count)?)),
-            [text, at] => spelled(alloc, &flipped(alloc, text, number(at)?).ok()?),
-            [text, first, end] => {
-                let count = frames_among(alloc, text, number(first)?, number(end)?)?;
-                bytes(alloc, &count.to_be_bytes())
+            [whole] => spelled(alloc, whole),
+            [whole, count] if call == "cut" => spelled(alloc, first_bytes(whole, number(count)?)),
+            [whole, at] => spelled(alloc, &flipped(alloc, whole, number(at)?).ok()?),
+            [whole, first, end] => {
+                let count = frames_among(alloc, whole, number(first)?, number(end)?)?;
+                text(alloc, &count)
             }
             _ => None,
         }
     }
 }
 
-// How many bytes the frame is spelled by that these bytes spell, where these are the same; or why they are no frame.
-fn spelled(alloc: Global, text: &[u8]) -> Option<Vec<u8>> {
-    let told = match decode(alloc, text) {
+// How many bytes spell the frame of these bytes, if they are the same ones; or why these are no frame.
+fn spelled(alloc: Global, whole: &[u8]) -> Option<Vec<u8>> {
+    match decode(alloc, whole) {
         Ok(frame) => {
             let again = encode(alloc, &frame).ok()?;
-            if again.as_slice() != text {
+            if again.as_slice() != whole {
                 return None;
             }
-            let count = again.len();
-            format!(in alloc; "{count} bytes")
+            text(alloc, &again.len())
         }
-        Err(fault) => format!(in alloc; "{fault}"),
-    };
-    bytes(alloc, told.ok()?.as_bytes())
+        Err(fault) => text(alloc, &fault),
+    }
 }
 
 // At how many of these indices the bytes are a frame with the lowest bit changed of the byte there.
-fn frames_among(alloc: Global, text: &[u8], first: u32, end: u32) -> Option<u32> {
+fn frames_among(alloc: Global, whole: &[u8], first: u32, end: u32) -> Option<u32> {
     let mut count = 0u32;
     for index in first..end {
-        if decode(alloc, &flipped(alloc, text, index).ok()?).is_ok() {
+        if decode(alloc, &flipped(alloc, whole, index).ok()?).is_ok() {
             count = count.wrapping_add(1);
         }
     }
@@ -50,10 +48,12 @@ fn frames_among(alloc: Global, text: &[u8], first: u32, end: u32) -> Option<u32>
 
 #[test]
 fn frames_and_their_first_wrong_fields(rt: HostRuntime) -> Result<(), &'static str> {
-    hold(rt.alloc(), &Frames, LINES)
+    hold(rt.alloc(), &Frames, &[LINES])
 }
 
 const LINES: &str = "
+# How many bytes a frame has, or the first wrong field.
+
 frame ' 'malformed_at_0
 frame 'SGF1 'malformed_at_4
 frame 60001*00 'malformed_at_60000
@@ -67,18 +67,18 @@ let FIRST 'SGF1+00+0e7bc807d33403b829056fbe288db09e59726d48de330d84201c8c7768214
 let FIRST $FIRST+a24c92c4f3a3fa8b158f1217e1938345e389c3da171f94596c5e4a7f3e26ffa2
 let SECOND 'SGF2+00+2edbb1fda3ad922d09898091ddcaefb2c94aac4e79c0df4f5bb1cdd1969fabae+$JOIN
 let SECOND $SECOND+4f90b3ea38a078e4a7bcfd09dc051282
-frame $FIRST '136_bytes
-frame $SECOND '120_bytes
+frame $FIRST '136
+frame $SECOND '120
 
 # A frame of version 2 that continues: a step with two commitments and a tag, and openings of a number and a text.
 
 let STEP 02+01ff+000f4240+02+03+32*55+1f+32*66+01+0f+16*44
 let OPENED 03+16*77+00+00000008+fffffffffffffffe+1f+16*77+01+00000003+'tea
-frame 'SGF2+01+32*22+02+01+0001+$STEP+02+$OPENED+16*33 '205_bytes
+frame 'SGF2+01+32*22+02+01+0001+$STEP+02+$OPENED+16*33 '205
 
 # One of 60,000 bytes, which continues: 6,656 steps and an opening of an empty text.
 
-frame 'SGF1+01+32*22+00+01+1a00+6656*000000000000010000+01+00+16*00+01+00000000+32*00 '60000_bytes
+frame 'SGF1+01+32*22+00+01+1a00+6656*000000000000010000+01+00+16*00+01+00000000+32*00 '60000
 
 # The first frame, cut off after so many bytes.
 
@@ -105,10 +105,10 @@ flipped $FIRST '100 'malformed_at_97
 
 # The same at each place from the first number to before the second one: at how many it is a frame.
 
-frames_among $FIRST '5 '37 00000020
-frames_among $FIRST '39 '87 00000030
-frames_among $FIRST '91 '92 00000001
-frames_among $FIRST '94 '97 00000003
-frames_among $FIRST '98 '100 00000002
-frames_among $FIRST '104 '136 00000020
+frames_among $FIRST '5 '37 '32
+frames_among $FIRST '39 '87 '48
+frames_among $FIRST '91 '92 '1
+frames_among $FIRST '94 '97 '3
+frames_among $FIRST '98 '100 '2
+frames_among $FIRST '104 '136 '32
 ";

@@ -1,9 +1,8 @@
 //! Key files, and keyrings.
-use crate::script::{Script, played};
 use sg_base::{Addr, ByteOut, OutOfMemory};
 use sg_crypt::Cast;
 use sg_keys::{KeyFault, Keyring};
-use sg_table::{Calls, bytes, hold, name, name_or_none, number};
+use sg_table::{Calls, Target, answers, bytes, hold, name, name_or_none, number, text};
 use std::alloc::Global;
 
 const ADDR: Addr = Addr {
@@ -20,7 +19,8 @@ impl Calls for Keys {
             "many" => many(alloc, args),
             "added" => {
                 let (me, peers) = args.split_first()?;
-                played(alloc, &mut Keyring::new(alloc, name(me)?, ADDR), peers)
+                let keys = Keyring::new(alloc, name(me)?, ADDR);
+                answers(alloc, &mut Peers { keys }, peers)
             }
             _ => {
                 let (text, asked) = args.split_first()?;
@@ -35,7 +35,7 @@ fn read(alloc: Global, args: &[Vec<u8>]) -> Option<Vec<u8>> {
     let [text] = args else {
         return None;
     };
-    told(alloc, Keyring::from_toml(alloc, text))
+    is_read(alloc, Keyring::from_toml(alloc, text))
 }
 
 fn many(alloc: Global, args: &[Vec<u8>]) -> Option<Vec<u8>> {
@@ -44,14 +44,14 @@ fn many(alloc: Global, args: &[Vec<u8>]) -> Option<Vec<u8>> {
     };
     let mut text = ByteOut::new(alloc);
     put_many(&mut text, head, number(count)?, peer, last).ok()?;
-    told(alloc, Keyring::from_toml(alloc, &text.done()))
+    is_read(alloc, Keyring::from_toml(alloc, &text.done()))
 }
 
 // `read`, or why the bytes are no key file.
-fn told(alloc: Global, keys: Result<Keyring, KeyFault>) -> Option<Vec<u8>> {
+fn is_read(alloc: Global, keys: Result<Keyring, KeyFault>) -> Option<Vec<u8>> {
     match keys {
         Ok(_) => bytes(alloc, b"read"),
-        Err(fault) => bytes(alloc, format!(in alloc; "{fault}").ok()?.as_bytes()),
+        Err(fault) => text(alloc, &fault),
     }
 }
 
@@ -100,16 +100,22 @@ fn spelled(alloc: Global, addr: Option<Addr>) -> Option<Vec<u8>> {
     Some(out.done())
 }
 
-// A call adds a peer, a byte of its key and its name. Its answer has the key with this name afterwards.
-impl Script for Keyring {
+// A keyring to which peers are added.
+#[derive(Drop)]
+struct Peers {
+    keys: Keyring,
+}
+
+// A call is a byte of a peer's key, and its name. The answer has the key with this name afterwards.
+impl Target for Peers {
     fn call(&mut self, alloc: Global, out: &mut ByteOut, word: &[u8]) -> Option<()> {
         let (byte, peer) = word.split_first()?;
         let peer = name(peer)?;
-        match self.add(alloc, peer, ADDR, [*byte; 32]) {
+        match self.keys.add(alloc, peer, ADDR, [*byte; 32]) {
             Ok(()) => out.bytes(b"ok,").ok()?,
             Err(fault) => write!(out, "{fault},").ok()?,
         }
-        match self.key(&peer) {
+        match self.keys.key(&peer) {
             Some(key) => out.bytes(key).ok(),
             None => Some(()),
         }
@@ -118,10 +124,10 @@ impl Script for Keyring {
 
 #[test]
 fn key_files_and_keyrings(rt: HostRuntime) -> Result<(), &'static str> {
-    hold(rt.alloc(), &Keys, LINES)
+    hold(rt.alloc(), &Keys, &[LINES])
 }
 
-// What is told of shorter key files is in the tables of cases.
+// What is said of shorter key files is in tools/cases/runs.cases.
 const LINES: &str = "
 let HEAD 'me_=_\"a\"^listen_=_\"127.0.0.1:4001\"^
 let B '[[peer]]^name_=_\"b\"^addr_=_\"127.0.0.1:4002\"^key_=_\"1111111111111111111111111111111111111111111111111111111111111111\"^
@@ -145,7 +151,7 @@ keys 'me_=_\"1\"^listen_=_\"127.0.0.1:4001\"^+$B 'entry_0
 
 added 'a 07+'b 08+'b 08+'a 'ok,+32*07+'a_peer_twice,+32*07+'a_peer_twice,
 
-# Entries that are bad, or whose name was there, are told by their number, however many are before them: here 65,535.
+# An entry that is bad, or whose name was there, is named by its number, however many are before it: here 65,535.
 
 let PEER 'addr_=_\"1.2.3.4:5\"^key_=_\"AAAAAAAAAAAAAAAAAAAAAAAAAAAAAAAAaaaaaaaaaaaaaaaaaaaaaaaaaaaaaaaa\"^
 many $HEAD '65535 $PEER ' 'read

@@ -1,8 +1,7 @@
 //! Ledgers: what a crash leaves, slots, and a file of the system.
-use crate::script::{Script, played};
 use sg_base::{ByteOut, Failed, OutOfMemory, Role, Sid};
 use sg_ledger::{AddJoinFault, Disk, FileDisk, Ledger, MemDisk, OpenFault};
-use sg_table::{Calls, bytes, fixed, hold, number};
+use sg_table::{Calls, Target, answers, fixed, hold, number, text};
 use std::alloc::Global;
 use std::fs;
 use std::test::Fail;
@@ -14,12 +13,13 @@ struct Ledgers;
 impl Calls for Ledgers {
     fn answer(&self, alloc: Global, call: &str, args: &[Vec<u8>]) -> Option<Vec<u8>> {
         match args {
-            [slots] => told(alloc, Ledger::open(alloc, &mut disk_with(alloc, slots)?)),
+            [slots] => count_of(alloc, Ledger::open(alloc, &mut disk_with(alloc, slots)?)),
             [calls, picks] if call == "crash" => crashed(alloc, number(calls)?, picks),
             [count, joins @ ..] => {
                 let mut slots = ByteOut::new(alloc);
                 put_many(&mut slots, number(count)?).ok()?;
-                played(alloc, &mut disk_with(alloc, &slots.done())?, joins)
+                let disk = disk_with(alloc, &slots.done())?;
+                answers(alloc, &mut Joins { disk }, joins)
             }
             _ => None,
         }
@@ -39,15 +39,11 @@ fn made<D: Disk>(alloc: Global, disk: &mut D) -> Option<Result<(), AddJoinFault>
 }
 
 // How many joins a ledger has, or why it isn't opened.
-fn told(alloc: Global, ledger: Result<Ledger, OpenFault>) -> Option<Vec<u8>> {
-    let told = match ledger {
-        Ok(ledger) => {
-            let count = ledger.joins().len();
-            format!(in alloc; "{count}")
-        }
-        Err(fault) => format!(in alloc; "{fault}"),
-    };
-    bytes(alloc, told.ok()?.as_bytes())
+fn count_of(alloc: Global, ledger: Result<Ledger, OpenFault>) -> Option<Vec<u8>> {
+    match ledger {
+        Ok(ledger) => text(alloc, &ledger.joins().len()),
+        Err(fault) => text(alloc, &fault),
+    }
 }
 
 // The same after a crash that comes after so many calls of a disk within `add`, and leaves these bytes of what was written. There is no other
@@ -62,7 +58,7 @@ fn crashed(alloc: Global, calls: u32, picks: &[u8]) -> Option<Vec<u8>> {
             return None;
         }
     }
-    told(alloc, ledger)
+    count_of(alloc, ledger)
 }
 
 // A disk whose file has the head and the length of a ledger, and these slots first.
@@ -87,10 +83,16 @@ fn put_many(out: &mut ByteOut, count: u32) -> Result<(), OutOfMemory> {
     Ok(())
 }
 
+// A disk with a ledger, to which joins are added.
+#[derive(Drop)]
+struct Joins {
+    disk: MemDisk,
+}
+
 // A call opens the ledger and adds the join of a session.
-impl Script for MemDisk {
+impl Target for Joins {
     fn call(&mut self, alloc: Global, out: &mut ByteOut, word: &[u8]) -> Option<()> {
-        match added(alloc, self, Sid(fixed(word)?))? {
+        match added(alloc, &mut self.disk, Sid(fixed(word)?))? {
             Ok(()) => out.bytes(b"added,").ok(),
             Err(fault) => write!(out, "{fault},").ok(),
         }
@@ -99,11 +101,11 @@ impl Script for MemDisk {
 
 #[test]
 fn a_crash_within_add(rt: HostRuntime) -> Result<(), &'static str> {
-    hold(rt.alloc(), &Ledgers, CRASHES)
+    hold(rt.alloc(), &Ledgers, &[CRASHES])
 }
 
 const CRASHES: &str = "
-# How many joins a ledger has after a crash within the first `add`, after so many of its calls of the disk, where these bytes are left of what was
+# How many joins a ledger has after a crash within the first `add`, after so many of its calls of the disk, if these bytes are left of what was
 # written. The write of the pair may leave any bytes behind the gate.
 
 crash '1 ' '0
@@ -120,7 +122,7 @@ crash '4 00 '1
 
 #[test]
 fn slots_that_no_ledger_has_and_the_last_one(rt: HostRuntime) -> Result<(), &'static str> {
-    hold(rt.alloc(), &Ledgers, SLOTS)
+    hold(rt.alloc(), &Ledgers, &[SLOTS])
 }
 
 const SLOTS: &str = "

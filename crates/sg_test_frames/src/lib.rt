@@ -17,8 +17,6 @@ mod ledger;
 #[cfg(test)]
 mod lines;
 #[cfg(test)]
-mod script;
-#[cfg(test)]
 mod stream;
 #[cfg(test)]
 mod table;

@@ -1,8 +1,7 @@
 //! How values are written, and what sessions are called.
 use crate::crypt::texts::typed;
-use crate::script::{Script, played};
 use sg_base::{ByteOut, Name, OutOfMemory, Sid};
-use sg_table::{Calls, hold};
+use sg_table::{Calls, Target, answers, hold};
 use sg_text::{SessionNames, put_value};
 use std::alloc::Global;
 
@@ -11,7 +10,8 @@ struct Values;
 impl Calls for Values {
     fn answer(&self, alloc: Global, call: &str, args: &[Vec<u8>]) -> Option<Vec<u8>> {
         if call == "sessions" {
-            return played(alloc, &mut SessionNames::new(alloc, b'x'), args);
+            let names = SessionNames::new(alloc, b'x');
+            return answers(alloc, &mut Sessions { names }, args);
         }
         let [kind, value] = args else {
             return None;
@@ -23,21 +23,30 @@ impl Calls for Values {
     }
 }
 
+// The names of sessions.
+#[derive(Drop)]
+struct Sessions {
+    names: SessionNames,
+}
+
 // A call is `?` and a session, which asks for its name; a session that is met; or a session and the name that it is declared with. In the end all
-// sessions are told in order. The bytes of an identifier are all the same, and a call has one of them.
-impl Script for SessionNames {
+// sessions come in order. The bytes of an identifier are all the same, and a call has one of them.
+impl Target for Sessions {
     fn call(&mut self, alloc: Global, out: &mut ByteOut, word: &[u8]) -> Option<()> {
         match word {
-            [b'?', sid] => put_name(out, self.name_of(&Sid([*sid; 32]))).ok(),
-            [sid] => self.meet(alloc, Sid([*sid; 32])).ok(),
-            [sid, name @ ..] => self.declare(Name::new(name)?, Sid([*sid; 32])).ok(),
+            [b'?', sid] => put_name(out, self.names.name_of(&Sid([*sid; 32]))).ok(),
+            [sid] => self.names.meet(alloc, Sid([*sid; 32])).ok(),
+            [sid, name @ ..] => {
+                let sid = Sid([*sid; 32]);
+                self.names.declare(Name::new(name)?, sid).ok()
+            }
             [] => None,
         }
     }
 
     fn end(&self, out: &mut ByteOut) -> Result<(), OutOfMemory> {
-        for index in 0..self.len() {
-            if let Some((sid, name)) = self.at(index) {
+        for index in 0..self.names.len() {
+            if let Some((sid, name)) = self.names.at(index) {
                 out.bytes(&sid.0)?;
                 put_name(out, Some(name))?;
             }
@@ -55,7 +64,7 @@ fn put_name(out: &mut ByteOut, name: Option<Name>) -> Result<(), OutOfMemory> {
 
 #[test]
 fn values_and_sessions(rt: HostRuntime) -> Result<(), &'static str> {
-    hold(rt.alloc(), &Values, LINES)
+    hold(rt.alloc(), &Values, &[LINES])
 }
 
 const LINES: &str = "

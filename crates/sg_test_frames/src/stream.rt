@@ -2,10 +2,9 @@
 ghost use Rattle.std.specs.Prelude.{◌≡◌, ◌==◌};
 ghost use Rattle.std.specs.List.{list_any};
 
-use crate::script::{Script, played};
 use sg_base::{Addr, ByteOut, Failed, Link, LinkFault, MemSink, OutOfMemory, Sealed, Seq};
 use sg_stream::{Conns, MemConns, StreamLink, StreamReader};
-use sg_table::{Calls, byte, bytes, fixed, hold, name, number};
+use sg_table::{Calls, Target, answers, byte, bytes, fixed, hold, name, number};
 use std::alloc::{AllocError, Global};
 use std::fmt;
 
@@ -14,27 +13,35 @@ struct Streams;
 impl Calls for Streams {
     fn answer(&self, alloc: Global, call: &str, args: &[Vec<u8>]) -> Option<Vec<u8>> {
         if call == "reader" {
-            return played(alloc, &mut StreamReader::new(alloc), args);
+            let reader = StreamReader::new(alloc);
+            return answers(alloc, &mut Pieces { reader }, args);
         }
         let [count, room, fails, calls @ ..] = args else {
             return None;
         };
-        let mut conns = conns(alloc, count, room, fails, calls)?;
+        let conns = conns(alloc, count, room, fails, calls)?;
         if call == "conns" {
-            played(alloc, &mut conns, calls)
+            answers(alloc, &mut OnConns { conns }, calls)
         } else {
-            played(alloc, &mut StreamLink::new(alloc, conns).ok()?, calls)
+            let link = StreamLink::new(alloc, conns).ok()?;
+            answers(alloc, &mut OnLink { link }, calls)
         }
     }
 }
 
+// A reader of pieces.
+#[derive(Drop)]
+struct Pieces {
+    reader: StreamReader,
+}
+
 // A call is a piece, or nothing for a call of `next`.
-impl Script for StreamReader {
+impl Target for Pieces {
     fn call(&mut self, alloc: Global, out: &mut ByteOut, word: &[u8]) -> Option<()> {
         if word.is_empty() {
-            put_next(alloc, self, out).ok()
+            put_next(alloc, &mut self.reader, out).ok()
         } else {
-            self.feed(word).ok()
+            self.reader.feed(word).ok()
         }
     }
 }
@@ -52,35 +59,28 @@ fn put_next(
     out.u8(b',')
 }
 
-// Connections with room for so many of them for writing, and for so many bytes in each, of which a call fails. The pieces to come are those of a
-// script.
+// Connections with room for so many of them for writing, and for so many bytes in each, of which a call fails. The pieces to come are those of these
+// words: behind `piece` each has the number of its connection and its bytes.
 fn conns(
     alloc: Global,
     count: &[u8],
     room: &[u8],
     fails: &[u8],
-    script: &[Vec<u8>],
+    words: &[Vec<u8>],
 ) -> Option<MemConns> {
     let mut pieces = Vec::new(alloc);
-    let _ = played(alloc, &mut pieces, script)?;
+    for word in words {
+        if let Some(piece) = word.strip_prefix(b"piece") {
+            let (conn, piece) = piece.split_first()?;
+            let piece = Seq::from_vec(bytes(alloc, piece)?);
+            pieces.push((*conn, piece)).ok()?;
+        }
+    }
     if has_writer(&pieces) {
         return None;
     }
     let fails = vec![in alloc; number(fails)?].ok()?;
     MemConns::new(alloc, pieces, number(count)?, number(room)?, fails).ok()
-}
-
-// A call is a piece behind the number of its connection. Others are passed over.
-impl Script for Vec<(u8, Seq<u8>)> {
-    fn call(&mut self, alloc: Global, out: &mut ByteOut, word: &[u8]) -> Option<()> {
-        let _ = out;
-        if let Some(piece) = word.strip_prefix(b"piece") {
-            let (conn, piece) = piece.split_first()?;
-            self.push((*conn, Seq::from_vec(bytes(alloc, piece)?)))
-                .ok()?;
-        }
-        Some(())
-    }
 }
 
 // A piece is of the connection for writing.
@@ -90,15 +90,21 @@ fn has_writer(pieces: &[(u8, Seq<u8>)]) -> bool
     pieces.iter().any(|piece| piece.0 == 255)
 }
 
-// A call is one on connections, with what stands behind its name. In the end it is told what each connection for writing was given that was
-// closed: its port, and the bytes.
-impl Script for MemConns {
+// Connections.
+#[derive(Drop)]
+struct OnConns {
+    conns: MemConns,
+}
+
+// A call is one of theirs, with what stands behind its name. In the end comes what each connection for writing was given that was closed: its port,
+// and the bytes.
+impl Target for OnConns {
     fn call(&mut self, alloc: Global, out: &mut ByteOut, word: &[u8]) -> Option<()> {
-        call_conns(alloc, self, out, word)
+        call_conns(alloc, &mut self.conns, out, word)
     }
 
     fn end(&self, out: &mut ByteOut) -> Result<(), OutOfMemory> {
-        put_closed(out, self.closed())
+        put_closed(out, self.conns.closed())
     }
 }
 
@@ -173,14 +179,20 @@ fn put_closed(out: &mut ByteOut, closed: &[(Addr, MemSink)]) -> Result<(), OutOf
     Ok(())
 }
 
-// The same of a link over connections.
-impl Script for StreamLink<MemConns> {
+// A link over connections.
+#[derive(Drop)]
+struct OnLink {
+    link: StreamLink<MemConns>,
+}
+
+// The same of its calls.
+impl Target for OnLink {
     fn call(&mut self, alloc: Global, out: &mut ByteOut, word: &[u8]) -> Option<()> {
-        call_link(alloc, self, out, word)
+        call_link(alloc, &mut self.link, out, word)
     }
 
     fn end(&self, out: &mut ByteOut) -> Result<(), OutOfMemory> {
-        put_closed(out, self.conns().closed())
+        put_closed(out, self.link.conns().closed())
     }
 }
 
@@ -227,7 +239,7 @@ fn send<L: Link>(link: &mut L, out: &mut ByteOut, to: Addr, frame: Vec<u8>) -> O
 
 #[test]
 fn streams_and_connections(rt: HostRuntime) -> Result<(), &'static str> {
-    hold(rt.alloc(), &Streams, LINES)
+    hold(rt.alloc(), &Streams, &[LINES])
 }
 
 const LINES: &str = "
@@ -235,7 +247,7 @@ let ABC 00000003+'abc
 let Z 00000001+'z
 let LONG 0000ea61
 
-# What a reader gives that takes these pieces, by a call of `next` wherever nothing stands. Pieces of one byte; many frames in a piece; and lengths of
+# What a reader gives that takes these pieces, by a call of `next` at each empty word. Pieces of one byte; many frames in a piece; and lengths of
 # 60,001 and 0, which stay.
 
 reader ' 00 ' 00 ' 00 ' 03 ' 'a ' 'b ' 'c ' ' 00 ' 00 ' 00 ' 01 ' 'z ' ' 'none,none,none,none,none,none,none,abc,none,none,none,none,none,z,none,
@@ -243,9 +255,9 @@ reader $ABC+$Z $ABC+$Z ' ' ' ' ' 'abc,z,abc,z,none,
 reader $LONG ' $ABC+$Z ' 'a_length_of_60001,a_length_of_60001,
 reader 00000000 ' 'a_length_of_0,
 
-# What comes of calls on connections in memory: these have room for so many connections for writing, with so many bytes each, and a call fails, whose
-# number comes next; then come the pieces, each behind its connection, and the calls. In the end it is told which connections for writing were closed,
-# by their ports, and what they were given.
+# Calls on connections in memory. These have room for so many connections for writing, with so many bytes each, and a call fails, whose
+# number comes next; then come the pieces, each behind its connection, and the calls. In the end come the connections for writing that were closed, by
+# their ports, and what they were given.
 
 # A closed connection gives no piece.
 

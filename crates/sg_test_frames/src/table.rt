@@ -16,16 +16,15 @@ impl Calls for Same {
 
 #[test]
 fn lines_that_hold(rt: HostRuntime) -> Result<(), &'static str> {
-    hold(rt.alloc(), &Same, RIGHT)
+    hold(rt.alloc(), &Same, &[RIGHT])
 }
 
-// Each of these is told, though it stands behind lines that hold.
+// Each of these is the first that does not hold, behind lines of another text that do.
 #[test]
 fn lines_that_do_not_hold(rt: HostRuntime) {
     for line in WRONG.lines() {
-        let table = format!(in rt.alloc(); "{RIGHT}{line}\n").expect(&rt, "memory");
-        let told = hold(rt.alloc(), &Same, table.as_str());
-        assert!(rt; matches!(told, Err(wrong) if wrong == line), "{line}");
+        let first = hold(rt.alloc(), &Same, &[RIGHT, line]);
+        assert!(rt; matches!(first, Err(wrong) if wrong == line), "{line}");
     }
 }
 

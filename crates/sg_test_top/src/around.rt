@@ -24,7 +24,7 @@ pub struct Around {
 }
 
 impl Around {
-    /// What is around it where a line gives these.
+    /// What is around it if a line gives these.
     pub fn new(alloc: Global, texts: &Texts, given: Given) -> Option<(Around, MemTimedLink)> {
         let fails = given.fails;
         let around = Around {
@@ -64,7 +64,7 @@ pub fn run<L: TimedLink>(
     )
 }
 
-/// The same eight random words each time.
+/// Random bytes for eight draws, the same in each run.
 pub fn random_source(alloc: Global) -> Result<MemFresh, OutOfMemory> {
     MemFresh::new(alloc, [7; 32], 8)
 }

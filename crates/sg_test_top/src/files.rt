@@ -1,28 +1,28 @@
 //! The commands on files.
-use crate::names::hold_all;
 use crate::outside::Top;
+use sg_table::hold;
 
 #[test]
-fn each_failing_call_is_told(rt: HostRuntime) {
-    hold_all(rt.alloc(), &rt, &Top, &[LINES, SCHEDULES, GRAPHS]);
+fn each_failing_call_is_told(rt: HostRuntime) -> Result<(), &'static str> {
+    hold(rt.alloc(), &Top, &[LINES, SCHEDULES, GRAPHS])
 }
 
 const LINES: &str = "
 let UNREAD 'status_5^says_file_failed:_f^
 let UNWRITTEN 'status_6^
 
-# A report that isn't taken, and what is told of claims: their first line where it finds too little room, and the file that isn't read.
+# A report that isn't taken, and the answer to claims: a prefix if it finds too little room, and the file that isn't read.
 
 let NOTE 'beside_f_graph_note;role_a;role_b;var_x:int_by_a_b;node_n0:a;node_n1:b;node_n2:a;\
   edge_Bid:n0->n1_writes_x_reads_x;edge_Ask:n1->n2_writes_x_reads_x;
 let CLAIMS 'beside_c_claims_note;claim_x:_Ask_needs_Bid;claim_y:_Bid_bars_Ask;
-top 'room_10 'words_replay_f 'status_6^premise_un
-top $NOTE $CLAIMS 'room_10 'words_claims_f_c 'status_6^claim_x_ho
-top $NOTE $CLAIMS 'fails_files_2 'words_claims_f_c 'status_5^says_file_failed:_c^
+top 'room_10 'args_replay_f 'status_6^premise_un
+top $NOTE $CLAIMS 'room_10 'args_claims_f_c 'status_6^claim_x_ho
+top $NOTE $CLAIMS 'fails_files_2 'args_claims_f_c 'status_5^says_file_failed:_c^
 ";
 
 // Each command reads its file by the first call, writes all that it has to say by the first, and makes no other; it says a line on standard error
-// only where it has failed, and asks nothing of a link.
+// only if it has failed, and asks nothing of a link.
 const SCHEDULES: &str = "
 # A replay of a request and its reply.
 
@@ -32,15 +32,15 @@ let REPLIED '1_a_s1_started_as_a^2_a_s1_sent_Request_time_1_to_b_as_f1^3_b_s1_re
   4_b_s1_sent_Reply_time_2_to_a_as_f2^5_a_s1_received_Reply_time_2^premise_unforged_holds^premise_collision-free_holds^\
   walk_s1:_Request_Reply^
 let WHOLE 'status_0^+$REPLIED
-top $PAIR 'words_replay_f $WHOLE
-top $PAIR 'fails_files_1 'words_replay_f $UNREAD
-top $PAIR 'fails_files_2 'words_replay_f $WHOLE
-top $PAIR 'fails_out_1 'words_replay_f $UNWRITTEN
-top $PAIR 'fails_out_2 'words_replay_f $WHOLE
-top $PAIR 'fails_err_1 'words_replay_f $WHOLE
-top $PAIR 'fails_files_1 'fails_err_1 'words_replay_f $UNWRITTEN
-top $PAIR 'fails_link_1 'words_replay_f $WHOLE
-fronts $REPLIED '16 $PAIR 'words_replay_f 'yes
+top $PAIR 'args_replay_f $WHOLE
+top $PAIR 'fails_files_1 'args_replay_f $UNREAD
+top $PAIR 'fails_files_2 'args_replay_f $WHOLE
+top $PAIR 'fails_out_1 'args_replay_f $UNWRITTEN
+top $PAIR 'fails_out_2 'args_replay_f $WHOLE
+top $PAIR 'fails_err_1 'args_replay_f $WHOLE
+top $PAIR 'fails_files_1 'fails_err_1 'args_replay_f $UNWRITTEN
+top $PAIR 'fails_link_1 'args_replay_f $WHOLE
+prefixes $REPLIED '16 $PAIR 'args_replay_f 'yes
 
 # A replay of a session of the shop, with a second order and a refusal.
 
@@ -60,15 +60,15 @@ let ORDERED '1_alice_s1_started_as_c^2_alice_s1_sent_Order_time_1_to_bob_as_f1_q
   15_bob_s1_received_Refuse_time_7^16_bob_s1_sent_Deny_time_8_to_alice_as_f8^17_alice_s1_received_Deny_time_8^premise_unforged_holds^\
   premise_collision-free_holds^walk_s1:_Order(q=\"tea\")_Ask_Offer(price=40)_Pass_Retry(q=\"green\\x20tea\")_Ask_Refuse_Deny^
 let WHOLE 'status_0^+$ORDERED
-top $ORDERS 'words_replay_f $WHOLE
-top $ORDERS 'fails_files_1 'words_replay_f $UNREAD
-top $ORDERS 'fails_files_2 'words_replay_f $WHOLE
-top $ORDERS 'fails_out_1 'words_replay_f $UNWRITTEN
-top $ORDERS 'fails_out_2 'words_replay_f $WHOLE
-top $ORDERS 'fails_err_1 'words_replay_f $WHOLE
-top $ORDERS 'fails_files_1 'fails_err_1 'words_replay_f $UNWRITTEN
-top $ORDERS 'fails_link_1 'words_replay_f $WHOLE
-fronts $ORDERED '16 $ORDERS 'words_replay_f 'yes
+top $ORDERS 'args_replay_f $WHOLE
+top $ORDERS 'fails_files_1 'args_replay_f $UNREAD
+top $ORDERS 'fails_files_2 'args_replay_f $WHOLE
+top $ORDERS 'fails_out_1 'args_replay_f $UNWRITTEN
+top $ORDERS 'fails_out_2 'args_replay_f $WHOLE
+top $ORDERS 'fails_err_1 'args_replay_f $WHOLE
+top $ORDERS 'fails_files_1 'fails_err_1 'args_replay_f $UNWRITTEN
+top $ORDERS 'fails_link_1 'args_replay_f $WHOLE
+prefixes $ORDERED '16 $ORDERS 'args_replay_f 'yes
 ";
 
 const GRAPHS: &str = "
@@ -77,30 +77,30 @@ const GRAPHS: &str = "
 let GRAPH 'beside_f_+$SHOP
 let ACCEPTED 'accepted_shop^views_c_4^views_p_5^views_w_2^
 let WHOLE 'status_0^+$ACCEPTED
-top $GRAPH 'words_check_f $WHOLE
-top $GRAPH 'fails_files_1 'words_check_f $UNREAD
-top $GRAPH 'fails_files_2 'words_check_f $WHOLE
-top $GRAPH 'fails_out_1 'words_check_f $UNWRITTEN
-top $GRAPH 'fails_out_2 'words_check_f $WHOLE
-top $GRAPH 'fails_err_1 'words_check_f $WHOLE
-top $GRAPH 'fails_files_1 'fails_err_1 'words_check_f $UNWRITTEN
-top $GRAPH 'fails_link_1 'words_check_f $WHOLE
-fronts $ACCEPTED '16 $GRAPH 'words_check_f 'yes
+top $GRAPH 'args_check_f $WHOLE
+top $GRAPH 'fails_files_1 'args_check_f $UNREAD
+top $GRAPH 'fails_files_2 'args_check_f $WHOLE
+top $GRAPH 'fails_out_1 'args_check_f $UNWRITTEN
+top $GRAPH 'fails_out_2 'args_check_f $WHOLE
+top $GRAPH 'fails_err_1 'args_check_f $WHOLE
+top $GRAPH 'fails_files_1 'fails_err_1 'args_check_f $UNWRITTEN
+top $GRAPH 'fails_link_1 'args_check_f $WHOLE
+prefixes $ACCEPTED '16 $GRAPH 'args_check_f 'yes
 
 # Its program for the warehouse.
 
 let PROGRAM 'sg-program_1^role_w^+$SHOP+'table^turn_n2:_Offer_Refuse^view_start:_Order/00000001_Ask/00000000^\
   view_Offer:_Retry/00000001_Ask/00000000^end^
 let WHOLE 'status_0^+$PROGRAM
-top $GRAPH 'words_compile_f_w $WHOLE
-top $GRAPH 'fails_files_1 'words_compile_f_w $UNREAD
-top $GRAPH 'fails_files_2 'words_compile_f_w $WHOLE
-top $GRAPH 'fails_out_1 'words_compile_f_w $UNWRITTEN
-top $GRAPH 'fails_out_2 'words_compile_f_w $WHOLE
-top $GRAPH 'fails_err_1 'words_compile_f_w $WHOLE
-top $GRAPH 'fails_files_1 'fails_err_1 'words_compile_f_w $UNWRITTEN
-top $GRAPH 'fails_link_1 'words_compile_f_w $WHOLE
-fronts $PROGRAM '16 $GRAPH 'words_compile_f_w 'yes
+top $GRAPH 'args_compile_f_w $WHOLE
+top $GRAPH 'fails_files_1 'args_compile_f_w $UNREAD
+top $GRAPH 'fails_files_2 'args_compile_f_w $WHOLE
+top $GRAPH 'fails_out_1 'args_compile_f_w $UNWRITTEN
+top $GRAPH 'fails_out_2 'args_compile_f_w $WHOLE
+top $GRAPH 'fails_err_1 'args_compile_f_w $WHOLE
+top $GRAPH 'fails_files_1 'fails_err_1 'args_compile_f_w $UNWRITTEN
+top $GRAPH 'fails_link_1 'args_compile_f_w $WHOLE
+prefixes $PROGRAM '16 $GRAPH 'args_compile_f_w 'yes
 
 # The summary of one session of a request and its reply, of which no delivery is refused.
 
@@ -108,13 +108,13 @@ let ASKED 'beside_f_graph_pair;role_a;role_b;node_n0:a;node_n1:b;node_n2:a;edge_
 let SUMMARY 'sessions_1^sent_2^received_2^refused_0^lost_0^abandoned_0^complete_1^premise_unforged_holds^\
   premise_collision-free_holds^walks_1^
 let WHOLE 'status_0^+$SUMMARY
-top $ASKED 'words_drive_0_1_f $WHOLE
-top $ASKED 'fails_files_1 'words_drive_0_1_f $UNREAD
-top $ASKED 'fails_files_2 'words_drive_0_1_f $WHOLE
-top $ASKED 'fails_out_1 'words_drive_0_1_f $UNWRITTEN
-top $ASKED 'fails_out_2 'words_drive_0_1_f $WHOLE
-top $ASKED 'fails_err_1 'words_drive_0_1_f $WHOLE
-top $ASKED 'fails_files_1 'fails_err_1 'words_drive_0_1_f $UNWRITTEN
-top $ASKED 'fails_link_1 'words_drive_0_1_f $WHOLE
-fronts $SUMMARY '16 $ASKED 'words_drive_0_1_f 'yes
+top $ASKED 'args_drive_0_1_f $WHOLE
+top $ASKED 'fails_files_1 'args_drive_0_1_f $UNREAD
+top $ASKED 'fails_files_2 'args_drive_0_1_f $WHOLE
+top $ASKED 'fails_out_1 'args_drive_0_1_f $UNWRITTEN
+top $ASKED 'fails_out_2 'args_drive_0_1_f $WHOLE
+top $ASKED 'fails_err_1 'args_drive_0_1_f $WHOLE
+top $ASKED 'fails_files_1 'fails_err_1 'args_drive_0_1_f $UNWRITTEN
+top $ASKED 'fails_link_1 'args_drive_0_1_f $WHOLE
+prefixes $SUMMARY '16 $ASKED 'args_drive_0_1_f 'yes
 ";

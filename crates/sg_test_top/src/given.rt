@@ -1,6 +1,6 @@
-//! What a line gives to the program: files, and for its next run the calls that fail, room, lines, deliveries and pieces.
-use crate::table::{bytes, number};
+//! What a line gives to the program: files, and for its next run calls that fail, room, lines, deliveries and pieces.
 use sg_base::Seq;
+use sg_table::{bytes, number};
 use sg_wait::Coming;
 use std::alloc::Global;
 
@@ -52,7 +52,7 @@ pub struct Fails {
     pub input: u32,
 }
 
-// The links over connections fail at once, as long as nothing is said of them.
+// If nothing is said of the links over connections, they fail at their first call.
 const WHOLE: Fails = Fails {
     files: 0,
     out: 0,

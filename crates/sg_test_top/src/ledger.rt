@@ -1,11 +1,12 @@
 //! Ledgers, and runs over them, on disks in memory.
-use crate::names::{NAMES, hold_all};
+use crate::names::NAMES;
 use crate::outside::Top;
+use sg_table::hold;
 
 // The principal who requests; a run of it over a ledger, and what comes of that.
 const NAMED: &str = "
-let MAKE 'words_ledger_book
-let KEEP 'words_keep_book_k_s_0_p
+let MAKE 'args_ledger_book
+let KEEP 'args_keep_book_k_s_0_p
 let MADE 'status_0^ledger_made^
 let JOINS 'status_0^+$LINE2+$SENDS
 let JOINED 'status_0^1_a_refused_joined^
@@ -13,8 +14,8 @@ let FAILED 'status_11^says_disk_failed^
 ";
 
 #[test]
-fn a_session_is_joined_once_over_restarts(rt: HostRuntime) {
-    hold_all(rt.alloc(), &rt, &Top, &[NAMES, NAMED, RESTARTS]);
+fn a_session_is_joined_once_over_restarts(rt: HostRuntime) -> Result<(), &'static str> {
+    hold(rt.alloc(), &Top, &[NAMES, NAMED, RESTARTS])
 }
 
 const RESTARTS: &str = "
@@ -23,7 +24,7 @@ const RESTARTS: &str = "
 let STANDS 'stands_2228232_SGLEDG01+01+$SID+00+'^
 top $KEYS $ONCE $REQUESTER 'disk $MAKE $KEEP 'stands $KEEP 'crash $KEEP 'stands $MADE+$JOINS+$STANDS+$JOINED+$JOINED+$STANDS
 
-# To make the ledger takes four calls of the disk, to open it four more, and to add the join four. Where one of these fails, it is told, and nothing
+# To make the ledger takes four calls of the disk, to open it four more, and to add the join four. If one of these fails, the run says so, and nothing
 # goes out. After a crash the session is joined.
 
 top $KEYS $ONCE $REQUESTER 'disk_0 $MAKE $FAILED
@@ -51,8 +52,8 @@ top $KEYS $ONCE $REQUESTER 'disk $MAKE 'fails_link_2 $KEEP 'stands $KEEP $MADE+'
 ";
 
 #[test]
-fn each_refusal_of_a_ledger_is_told_in_order(rt: HostRuntime) {
-    hold_all(rt.alloc(), &rt, &Top, &[NAMES, NAMED, REFUSALS]);
+fn each_refusal_of_a_ledger_is_told_in_order(rt: HostRuntime) -> Result<(), &'static str> {
+    hold(rt.alloc(), &Top, &[NAMES, NAMED, REFUSALS])
 }
 
 const REFUSALS: &str = "

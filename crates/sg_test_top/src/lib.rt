@@ -1,5 +1,5 @@
-//! Tests of the whole program without its real objects. The cases are lines of tables, which `table` reads: what is around the program, the words of
-//! a command, and what must come of it. `outside` says which words a line may have.
+//! Tests of the whole program without its real objects. The cases are lines of tables, which `sg_table` reads: what is around the program, the
+//! arguments of a command, and what must come of it. `outside` says which words a line may have.
 #![tactic(auto)]
 
 #[cfg(test)]
@@ -22,7 +22,5 @@ mod play;
 mod serve;
 #[cfg(test)]
 mod stream;
-#[cfg(test)]
-mod table;
 #[cfg(test)]
 mod told;

@@ -1,9 +1,9 @@
 //! A run over the loopback.
-use crate::names::{NAMES, hold_all};
+use crate::names::NAMES;
 use crate::outside::Outside;
-use crate::table::{Calls, played};
 use sg_base::{Addr, ByteOut, Link};
 use sg_link::UdpLink;
+use sg_table::{Calls, answers, hold};
 use std::alloc::Global;
 
 #[derive(Drop)]
@@ -12,23 +12,23 @@ struct Loopback {
 }
 
 impl Calls for Loopback {
-    // The last argument is the words. Behind what a run says comes what its peer received.
+    // The last word has the arguments of the program. Behind what the run says comes what its peer received.
     fn answer(&self, alloc: Global, call: &str, args: &[Vec<u8>]) -> Option<Vec<u8>> {
         let _ = call;
-        let (args, given) = args.split_last()?;
+        let (line, given) = args.split_last()?;
         let mut outside = Outside::new(alloc)?;
-        let _ = played(alloc, &mut outside, given)?;
+        let _ = answers(alloc, &mut outside, given)?;
         let mut peer = self.peer()?;
         let mut link = UdpLink::new(self.rt.clone().ok()?);
         let mut out = ByteOut::new(alloc);
-        outside.run_over(alloc, &mut out, args, &mut link)?;
+        outside.run_over(alloc, &mut out, line, &mut link)?;
         put_received(alloc, &mut out, &mut peer)?;
         Some(out.done())
     }
 }
 
 impl Loopback {
-    // A link that waits where frames for b go.
+    // A link at b's address.
     fn peer(&self) -> Option<UdpLink<HostRuntime>> {
         let mut peer = UdpLink::new(self.rt.clone().ok()?);
         let at = Addr {
@@ -46,11 +46,11 @@ fn put_received<L: Link>(alloc: Global, out: &mut ByteOut, link: &mut L) -> Opti
 }
 
 #[test]
-fn a_run_sends_its_frame_over_the_loopback(rt: HostRuntime) {
+fn a_run_sends_its_frame_over_the_loopback(rt: HostRuntime) -> Result<(), &'static str> {
     let over = Loopback {
         rt: rt.clone().expect(&rt, "a runtime"),
     };
-    hold_all(rt.alloc(), &rt, &over, &[NAMES, LINES]);
+    hold(rt.alloc(), &over, &[NAMES, LINES])
 }
 
 const LINES: &str = "

@@ -1,22 +1,8 @@
-//! Tables of some texts, and what several of them name.
-use crate::table::{Calls, hold};
-use std::alloc::Global;
-use std::process::Abort;
+//! What several tables name.
 
-/// Compares what comes of each line of some texts, of which a later one has the names of those before it, with what must come.
-pub fn hold_all<C: Calls>(alloc: Global, rt: &impl Abort, calls: &C, texts: &[&str]) {
-    let mut lines = String::new(alloc);
-    for text in texts {
-        assert!(rt; lines.push_str(*text).is_ok());
-    }
-    if let Err(line) = hold(alloc, calls, lines.as_str()) {
-        assert!(rt; false, "{line}");
-    }
-}
-
-/// The names.
+/// Keys, programs, scripts and frames of two principals.
 pub const NAMES: &str = "
-# Two principals, a who requests and b who replies: their keys, programs and scripts.
+# A principal a, who requests, and b, who replies: their keys, programs and scripts.
 
 let KEY 'key_=_\"+64*31+'\"^
 let KEYS 'beside_k_me_=_\"a\"^listen_=_\"127.0.0.1:4001\"^[[peer]]^name_=_\"b\"^addr_=_\"127.0.0.1:4002\"^+$KEY
@@ -39,7 +25,7 @@ let LINE2 $LINE1+'2_a_s1_sent_Request_time_1_to_b_as_f1^
 let LINE3 $LINE2+'3_a_s2_started_as_a^
 let LINE4 $LINE3+'4_a_s2_sent_Request_time_1_to_b_as_f2^
 
-# The identifiers of these two sessions, whose nonces are the first two random words; the frames that request in them, and the one that replies in the
+# The identifiers of these two sessions, whose nonces are drawn first and second; the frames that request in them, and the one that replies in the
 # first; and where they go.
 
 let SID 61ec5a5ee619eec2f4086089fb1d042c460cd0abed521c9a4864532b255a7af0

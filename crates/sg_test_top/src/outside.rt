@@ -1,18 +1,20 @@
 //! What the words of a line do, one after the other.
 //!
 //! `beside FILE BYTES` gives a file its bytes, one of f, c, k, s and p. `disk` makes an empty disk with room for a ledger, `disk N` one that stops
-//! after N calls; without them the disk has no room. For the next run alone: `fails OBJECT N` has call N fail of the files, out, err, the link, the
-//! stream, the port or the input (none for 0; of stream and port else the first); `room N` has standard output take N bytes, `asks LINES` is what
-//! stands on standard input, `comes BYTES` and `silence` come on the link, and `piece` on the connection whose number is the first byte.
+//! after N calls; without them the disk has no room.
 //!
-//! `args WORD..` runs the program, whose random words are the same each time, and puts how it ended. `crash BYTES` leaves these bytes of what was
+//! For the next run alone: `fails OBJECT N` has call N fail of the files, out, err, the link, the stream, the port or the input (none for 0; of stream
+//! and port else the first); `room N` has standard output take N bytes; `asks LINES` gives standard input; `comes BYTES` and `silence` come on the link,
+//! and `piece BYTES` on the connection whose number is the first byte.
+//!
+//! `args ARG..` runs the program, whose random bytes are the same each time, and puts how it ended. `crash BYTES` leaves these bytes of what was
 //! written to the disk and not synced. `stands`, `left link`, `left stream` and `unasked` put what there is then.
 use crate::around::{Around, disk, run};
 use crate::given::{Given, Texts, parted};
-use crate::table::{Calls, Script, bytes, number, played, yes};
 use crate::told::{put_coming, put_disk, put_left, put_said, put_unasked};
 use sg_base::ByteOut;
 use sg_ledger::MemDisk;
+use sg_table::{Calls, Target, answers, bytes, number, yes};
 use sg_wait::{MemTimedLink, TimedLink};
 use std::alloc::Global;
 use std::{mem, str};
@@ -48,7 +50,7 @@ impl Outside {
 
     // Runs the program.
     fn run(&mut self, alloc: Global, args: &[u8]) -> Option<()> {
-        let args = words_of(alloc, args)?;
+        let args = args_of(alloc, args)?;
         self.renew(alloc)?;
         self.status = run(
             alloc,
@@ -68,7 +70,7 @@ impl Outside {
         args: &[u8],
         link: &mut L,
     ) -> Option<()> {
-        let args = words_of(alloc, args)?;
+        let args = args_of(alloc, args)?;
         self.renew(alloc)?;
         let status = run(alloc, &args, &mut self.around, link, &mut self.disk);
         put_said(out, status, &self.around).ok()
@@ -110,11 +112,11 @@ impl Outside {
     }
 }
 
-impl Script for Outside {
+impl Target for Outside {
     fn call(&mut self, alloc: Global, out: &mut ByteOut, word: &[u8]) -> Option<()> {
         let (what, rest) = parted(word)?;
         match str::from_utf8(what).ok()? {
-            "words" => {
+            "args" => {
                 self.run(alloc, rest)?;
                 put_left(out, self.status, &self.around, &self.link).ok()
             }
@@ -128,49 +130,50 @@ impl Script for Outside {
     }
 }
 
-fn words_of(alloc: Global, line: &[u8]) -> Option<Vec<String>> {
+// The arguments of a line, with a blank between them.
+fn args_of(alloc: Global, line: &[u8]) -> Option<Vec<String>> {
     let mut args = Vec::new(alloc);
-    for word in str::from_utf8(line).ok()?.split(' ') {
-        args.push(String::from_str(alloc, word).ok()?).ok()?;
+    for arg in str::from_utf8(line).ok()?.split(' ') {
+        args.push(String::from_str(alloc, arg).ok()?).ok()?;
     }
     Some(args)
 }
 
-/// The call `top`, whose arguments are words as above; and `prefixes TEXT STEP WORD..`, which answers `yes` where each run that finds room for 0, STEP,
+/// The call `top`, whose arguments are words as above; and `prefixes TEXT STEP WORD..`, whose answer is `yes` if each run that finds room for 0, STEP,
 /// twice STEP.. bytes of the text, and not for all, ends with 6, has written just these, and says nothing.
 pub struct Top;
 
 impl Calls for Top {
     fn answer(&self, alloc: Global, call: &str, args: &[Vec<u8>]) -> Option<Vec<u8>> {
         if call == "top" {
-            return played(alloc, &mut Outside::new(alloc)?, args);
+            return answers(alloc, &mut Outside::new(alloc)?, args);
         }
         let [text, step, args @ ..] = args else {
             return None;
         };
-        yes(alloc, leaves_fronts(alloc, text, number(step)?, args)?)
+        yes(alloc, leaves_prefixes(alloc, text, number(step)?, args)?)
     }
 }
 
-fn leaves_fronts(alloc: Global, text: &[u8], step: u32, args: &[Vec<u8>]) -> Option<bool> {
+fn leaves_prefixes(alloc: Global, text: &[u8], step: u32, args: &[Vec<u8>]) -> Option<bool> {
     for (index, _) in text.iter().enumerate() {
         let index = u32::try_from(index).ok()?;
-        if index.checked_rem(step)? == 0 && !leaves_front(alloc, text, index, args)? {
+        if index.checked_rem(step)? == 0 && !leaves_prefix(alloc, text, index, args)? {
             return Some(false);
         }
     }
     Some(true)
 }
 
-fn leaves_front(alloc: Global, text: &[u8], room: u32, args: &[Vec<u8>]) -> Option<bool> {
+fn leaves_prefix(alloc: Global, text: &[u8], room: u32, args: &[Vec<u8>]) -> Option<bool> {
     let mut outside = Outside::new(alloc)?;
     outside.given.room = room;
-    let _ = played(alloc, &mut outside, args)?;
+    let _ = answers(alloc, &mut outside, args)?;
     let (prefix, _) = text.split_at_checked(room as usize)?;
-    Some(is_front(&outside, prefix))
+    Some(is_prefix(&outside, prefix))
 }
 
-fn is_front(outside: &Outside, prefix: &[u8]) -> bool {
+fn is_prefix(outside: &Outside, prefix: &[u8]) -> bool {
     outside.status == 6
         && outside.around.out.bytes() == prefix
         && outside.around.err.bytes().is_empty()

@@ -1,15 +1,16 @@
 //! Runs of one principal over a link.
-use crate::names::{NAMES, hold_all};
+use crate::names::NAMES;
 use crate::outside::Top;
+use sg_table::hold;
 
 #[test]
-fn each_failing_call_ends_a_run(rt: HostRuntime) {
-    hold_all(rt.alloc(), &rt, &Top, &[NAMES, FAILURES]);
+fn each_failing_call_ends_a_run(rt: HostRuntime) -> Result<(), &'static str> {
+    hold(rt.alloc(), &Top, &[NAMES, FAILURES])
 }
 
 // A principal reads its keys, its program and its script, opens the link, starts two sessions and sends in each, and waits.
 const FAILURES: &str = "
-let RUN 'words_run_k_s_1_p
+let RUN 'args_run_k_s_1_p
 let SENDS2 $SENDS+'sends_+$TO_B+$FRAME2+'^
 let WHOLE 'status_0^+$LINE4+$SENDS2
 let LINK_FAILED 'status_7^says_link_failed^
@@ -51,21 +52,21 @@ top $KEYS $CUT 'fails_err_1 $RUN 'status_6^
 ";
 
 #[test]
-fn a_session_is_played(rt: HostRuntime) {
-    hold_all(rt.alloc(), &rt, &Top, &[NAMES, PLAYS]);
+fn a_session_is_played(rt: HostRuntime) -> Result<(), &'static str> {
+    hold(rt.alloc(), &Top, &[NAMES, PLAYS])
 }
 
 // Of the deliveries as many are taken as are asked for, and a run ends at the link's end.
 const PLAYS: &str = "
-# A request, its reply, and what comes of both where they come twice.
+# A request, its reply, and what comes of both if they come twice.
 
 let REQUESTS 'comes_+$FRAME1
 let REPLIED '1_b_s1_received_Request_time_1^2_b_s1_sent_Reply_time_2_to_a_as_f1^
 let ANSWERS 'sends_+$TO_A+$REPLY+'^
 let COMES 'comes_+$REPLY
-top $KEYS $ONCE $REQUESTER 'words_run_k_s_1_p 'status_0^+$LINE2+$SENDS
-top $KEYS_OF_B $REPLIES $REPLIER $REQUESTS $REQUESTS 'words_run_k_s_1_p 'left_link 'status_0^+$REPLIED+$ANSWERS+'left_+$FRAME1+'^
-top $KEYS_OF_B $REPLIES $REPLIER $REQUESTS $REQUESTS 'words_run_k_s_3_p 'left_link 'status_0^+$REPLIED+'3_b_refused_joined^+$ANSWERS
-top $KEYS $ONCE $REQUESTER $COMES $COMES 'words_run_k_s_1_p 'left_link \
+top $KEYS $ONCE $REQUESTER 'args_run_k_s_1_p 'status_0^+$LINE2+$SENDS
+top $KEYS_OF_B $REPLIES $REPLIER $REQUESTS $REQUESTS 'args_run_k_s_1_p 'left_link 'status_0^+$REPLIED+$ANSWERS+'left_+$FRAME1+'^
+top $KEYS_OF_B $REPLIES $REPLIER $REQUESTS $REQUESTS 'args_run_k_s_3_p 'left_link 'status_0^+$REPLIED+'3_b_refused_joined^+$ANSWERS
+top $KEYS $ONCE $REQUESTER $COMES $COMES 'args_run_k_s_1_p 'left_link \
   'status_0^+$LINE2+'3_a_s1_received_Reply_time_2^+$SENDS+'left_+$REPLY+'^
 ";

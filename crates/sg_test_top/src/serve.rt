@@ -1,10 +1,11 @@
 //! Runs for an application.
-use crate::names::{NAMES, hold_all};
+use crate::names::NAMES;
 use crate::outside::Top;
+use sg_table::hold;
 
 #[test]
-fn each_failing_call_is_answered_or_ends_the_run(rt: HostRuntime) {
-    hold_all(rt.alloc(), &rt, &Top, &[NAMES, FAILURES]);
+fn each_failing_call_is_answered_or_ends_the_run(rt: HostRuntime) -> Result<(), &'static str> {
+    hold(rt.alloc(), &Top, &[NAMES, FAILURES])
 }
 
 // The link opens by its first call, sends by the second and the third, and waits by the fourth. The first pieces of the input end in the midst of the
@@ -13,7 +14,7 @@ const FAILURES: &str = "
 # Lines for a. None is read behind the one that asks for the end.
 
 let ASKS 'asks_start_pair_1_a,b^turn_s1^act_s1_Request^again_s1^turn_s1^recv_5^quit^turn_s1^
-let SERVE 'words_serve_k_p
+let SERVE 'args_serve_k_p
 let READY $LINE1+'turn_s1_at_n0:_Request^
 let SENT $READY+'2_a_s1_sent_Request_time_1_to_b_as_f1^
 let AGAIN 'again_f1_to_b^
@@ -39,15 +40,17 @@ top $KEYS $REQUESTER $ASKS 'fails_out_1 $SERVE 'status_6^
 top $KEYS $REQUESTER $ASKS 'fails_out_3 $SERVE 'status_6^+$READY+$SENDS
 top $KEYS $REQUESTER $ASKS 'fails_out_4 $SERVE 'status_6^+$SENT+$SENDS+$SENDS
 
-# Answers that find less room than they need end the run, and a front part of them is left.
+# Answers that find less room than they need end the run, and a prefix of them is left.
 
-fronts $ANSWERED '8 $KEYS $REQUESTER $ASKS $SERVE 'yes
-fronts $UNSENT '8 $KEYS $REQUESTER $ASKS 'fails_link_2 $SERVE 'yes
+prefixes $ANSWERED '8 $KEYS $REQUESTER $ASKS $SERVE 'yes
+prefixes $UNSENT '8 $KEYS $REQUESTER $ASKS 'fails_link_2 $SERVE 'yes
 ";
 
 #[test]
-fn what_the_words_do_not_ask_for_is_left_as_it_was(rt: HostRuntime) {
-    hold_all(rt.alloc(), &rt, &Top, &[NAMES, UNASKED]);
+fn what_the_arguments_do_not_ask_for_is_left_as_it_was(
+    rt: HostRuntime,
+) -> Result<(), &'static str> {
+    hold(rt.alloc(), &Top, &[NAMES, UNASKED])
 }
 
 const UNASKED: &str = "
@@ -56,30 +59,30 @@ const UNASKED: &str = "
 let ASKS 'asks_start_pair_1_a,b^act_s1_Request^
 let POSTS 'posts_+$TO_B+$FRAME1+'^
 let NONE 'status_4^says_input_refused:_ledger_not_made^
-top $KEYS $REQUESTER 'disk $ASKS 'words_serve_k_p 'unasked 'status_0^+$LINE2+$SENDS+'unasked_port_stream_disk^
-top $KEYS $REQUESTER 'disk $ASKS 'fails_link_1 'fails_port_0 'words_serve_--tcp_k_p 'unasked \
+top $KEYS $REQUESTER 'disk $ASKS 'args_serve_k_p 'unasked 'status_0^+$LINE2+$SENDS+'unasked_port_stream_disk^
+top $KEYS $REQUESTER 'disk $ASKS 'fails_link_1 'fails_port_0 'args_serve_--tcp_k_p 'unasked \
   'status_0^+$LINE2+$POSTS+'unasked_link_stream_disk^
-top $KEYS $ONCE $REQUESTER 'disk $ASKS 'fails_input_1 'words_run_k_s_0_p 'unasked 'status_0^+$LINE2+$SENDS+'unasked_port_stream_disk_input^
-top $KEYS $REQUESTER 'disk $ASKS 'fails_link_1 'fails_input_1 'words_serve_--tcp_k_p 'unasked \
+top $KEYS $ONCE $REQUESTER 'disk $ASKS 'fails_input_1 'args_run_k_s_0_p 'unasked 'status_0^+$LINE2+$SENDS+'unasked_port_stream_disk_input^
+top $KEYS $REQUESTER 'disk $ASKS 'fails_link_1 'fails_input_1 'args_serve_--tcp_k_p 'unasked \
   'status_7^says_link_failed^unasked_link_stream_disk_input_fresh^
-top $KEYS $REQUESTER 'disk $ASKS 'fails_link_1 'fails_input_1 'words_serve_--ledger_f_--tcp_k_p 'unasked \
+top $KEYS $REQUESTER 'disk $ASKS 'fails_link_1 'fails_input_1 'args_serve_--ledger_f_--tcp_k_p 'unasked \
   $NONE+'unasked_link_port_stream_input_fresh^
-top $KEYS $REQUESTER 'disk $ASKS 'fails_link_1 'fails_input_1 'words_serve_k_nofile 'unasked \
+top $KEYS $REQUESTER 'disk $ASKS 'fails_link_1 'fails_input_1 'args_serve_k_nofile 'unasked \
   'status_9^says_no_such_file:_nofile^unasked_link_port_stream_disk_input_fresh^
 ";
 
 #[test]
-fn a_session_is_joined_once_over_a_ledger(rt: HostRuntime) {
-    hold_all(rt.alloc(), &rt, &Top, &[NAMES, JOINS]);
+fn a_session_is_joined_once_over_a_ledger(rt: HostRuntime) -> Result<(), &'static str> {
+    hold(rt.alloc(), &Top, &[NAMES, JOINS])
 }
 
 const JOINS: &str = "
-# To make the ledger takes four calls of the disk, to open it four more, and to add the join four. A start joins, and so does a delivery. Where the
+# To make the ledger takes four calls of the disk, to open it four more, and to add the join four. A start joins, and so does a delivery. If the
 # disk fails, the line has no answer and no frame goes out; who begins anew after a crash joins.
 
-let MAKE 'words_ledger_book
+let MAKE 'args_ledger_book
 let MADE 'status_0^ledger_made^
-let SERVE 'words_serve_--ledger_book_k_p
+let SERVE 'args_serve_--ledger_book_k_p
 let UNKNOWN 'unknown_s1^
 let ASKS 'asks_turn_s1^start_pair_1_a,b^act_s1_Request^
 let SENT 'status_0^+$UNKNOWN+$LINE2+$SENDS
@@ -100,7 +103,7 @@ top $KEYS_OF_B $REPLIER 'disk_9 $MAKE $COMES $HEARS $SERVE 'crash $COMES $HEARS 
 top $KEYS_OF_B $REPLIER 'disk_10 $MAKE $COMES $HEARS $SERVE 'crash $COMES $HEARS $SERVE $MADE+$FAILED+$UNKNOWN+$HEARD
 top $KEYS_OF_B $REPLIER 'disk_11 $MAKE $COMES $HEARS $SERVE 'crash $COMES $HEARS $SERVE $MADE+$FAILED+$UNKNOWN+$HEARD
 
-# A join is kept before its answer is written and before a frame of its session goes out: who begins anew with the same random words is refused.
+# A join is kept before its answer is written and before a frame of its session goes out: who begins anew with the same random bytes is refused.
 
 let UNSENT $LINE1+'unsent_2_a_s1_sent_Request_time_1_to_b_as_f1^
 let JOINED 'status_0^+$UNKNOWN+'1_a_refused_joined^+$UNKNOWN
@@ -110,15 +113,15 @@ top $KEYS $REQUESTER 'disk $MAKE $ASKS 'room_11 $SERVE 'crash $ASKS $SERVE $MADE
 ";
 
 #[test]
-fn no_delivery_is_lost_between_silences(rt: HostRuntime) {
-    hold_all(rt.alloc(), &rt, &Top, &[NAMES, WAITS]);
+fn no_delivery_is_lost_between_silences(rt: HostRuntime) -> Result<(), &'static str> {
+    hold(rt.alloc(), &Top, &[NAMES, WAITS])
 }
 
 const WAITS: &str = "
 # A wait with a limit takes a silence or a delivery, and one without takes silences off until there is a delivery. What a failing link has is still to
 # come.
 
-let SERVE 'words_serve_k_p
+let SERVE 'args_serve_k_p
 let COMES 'comes_+$FRAME1
 let RECEIVED '1_b_s1_received_Request_time_1^
 top $KEYS_OF_B $REPLIER 'silence $COMES 'silence $COMES 'silence \

@@ -1,4 +1,4 @@
-//! What a run left, as a table has it.
+//! What a run left, as lines have it.
 use crate::around::{Around, random_source};
 use sg_base::{Addr, ByteOut, Fresh, Link, MemFresh, MemSink, OutOfMemory};
 use sg_input::{Input, MemInput};
@@ -8,7 +8,7 @@ use std::alloc::Global;
 
 /// Puts how a run ended: `status` and its status; `says` and what was written to standard error, if that is anything; what was written to standard
 /// output; for each frame that went out over the link a line `sends`, over the connections that are kept a line `posts`; and for each connection
-/// that was made for writing a line `gives`, with what it was given. Each line has the address and the bytes.
+/// that was made for writing a line `gives`, with what it was given. These lines have the address and the bytes.
 pub fn put_left(
     out: &mut ByteOut,
     status: u8,
@@ -85,7 +85,7 @@ pub fn put_coming<L: Link>(alloc: Global, out: &mut ByteOut, link: &mut L) -> Op
     None
 }
 
-/// Puts `unasked` and the names of the objects of which nothing was asked. Of the links and the input these are told where their first call fails.
+/// Puts `unasked` and the names of the objects of which nothing was asked. Of the links and the input this shows only if their first call fails.
 pub fn put_unasked(
     alloc: Global,
     out: &mut ByteOut,
@@ -94,16 +94,16 @@ pub fn put_unasked(
     disk: &MemDisk,
 ) -> Option<()> {
     out.bytes(b"unasked").ok()?;
-    put_where(out, is_new(link), b" link").ok()?;
-    put_where(out, is_new(&mut around.port), b" port").ok()?;
-    put_where(out, is_new(&mut around.stream), b" stream").ok()?;
-    put_where(out, disk.calls().is_empty(), b" disk").ok()?;
-    put_where(out, is_unread(&mut around.input), b" input").ok()?;
-    put_where(out, is_whole(alloc, &mut around.fresh)?, b" fresh").ok()?;
+    put_if(out, is_new(link), b" link").ok()?;
+    put_if(out, is_new(&mut around.port), b" port").ok()?;
+    put_if(out, is_new(&mut around.stream), b" stream").ok()?;
+    put_if(out, disk.calls().is_empty(), b" disk").ok()?;
+    put_if(out, is_unread(&mut around.input), b" input").ok()?;
+    put_if(out, is_undrawn(alloc, &mut around.fresh)?, b" fresh").ok()?;
     out.u8(b'\n').ok()
 }
 
-fn put_where(out: &mut ByteOut, is_so: bool, name: &[u8]) -> Result<(), OutOfMemory> {
+fn put_if(out: &mut ByteOut, is_so: bool, name: &[u8]) -> Result<(), OutOfMemory> {
     if is_so {
         return out.bytes(name);
     }
@@ -125,8 +125,8 @@ fn is_unread(input: &mut MemInput) -> bool {
     input.read(&mut room).is_err() && input.read(&mut room).is_ok()
 }
 
-// Whether no random word was taken.
-fn is_whole(alloc: Global, fresh: &mut MemFresh) -> Option<bool> {
+// Whether no random bytes were drawn.
+fn is_undrawn(alloc: Global, fresh: &mut MemFresh) -> Option<bool> {
     let mut again = random_source(alloc).ok()?;
     Some(fresh.next() == again.next())
 }

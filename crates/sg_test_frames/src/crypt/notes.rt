@@ -1,8 +1,7 @@
 //! Notes of texts.
-use crate::script::Script;
 use sg_base::{ByteOut, Name, OutOfMemory};
 use sg_crypt::{Counts, Hashed, Note, Notes, Pair};
-use sg_table::parts;
+use sg_table::{Target, parts};
 use std::alloc::Global;
 
 /// Notes, and the counts that were marked.
@@ -21,7 +20,7 @@ impl Noted {
     }
 }
 
-impl Script for Noted {
+impl Target for Noted {
     fn call(&mut self, alloc: Global, out: &mut ByteOut, word: &[u8]) -> Option<()> {
         match word {
             b"count" => return put_counts(out, self.notes.counts()).ok(),

@@ -103,7 +103,7 @@ pub fn typed(alloc: Global, kind: &[u8], value: &[u8]) -> Option<Value> {
     }
 }
 
-// A commitment, or none where nothing stands.
+// A commitment, or none if the word is empty.
 fn commitment(word: &[u8]) -> Option<Option<[u8; 32]>> {
     if word.is_empty() {
         return Some(None);
