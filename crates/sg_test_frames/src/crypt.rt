@@ -72,15 +72,15 @@ let DIGEST 881c67cddeba1fa0c350b5b486954f6cb59864b1a380e7d43a3f161c6c614cd2
 graph_text $SHOP 'sg-graph-1+$SHOP
 graph_digest $SHOP $DIGEST
 
-# Its session with the nonce 7: alice is c, bob is p and carl is w. Alice orders tea; carl might offer a price of -2. Both are hidden by bytes 33, and
-# alice tags her order for carl by a key of bytes 22.
+# Its session with the nonce 7: alice is c, bob is p and carl is w. Alice orders tea; carl might offer a price of -2. The confounder of both has the
+# bytes 33, and alice tags her order for carl by a key of bytes 22.
 
 let NONCE 15*00+07
 let NAMES 03+05+'alice+03+'bob+04+'carl
-let HIDES 16*33
+let CONFOUNDER 16*33
 
 # session_text and session_id VERSION DIGEST NONCE PRINCIPALS, and principal ROLE before the same.
-# commit_text and commit SID VARIABLE HIDES TYPE VALUE. item_text VERSION SID SENDER TARGET LABEL TIME COMMITMENTS, each as it is or nothing.
+# commit_text and commit SID VARIABLE CONFOUNDER TYPE VALUE. item_text VERSION SID SENDER TARGET LABEL TIME, and two commitments or empty words.
 # frame_text VERSION BYTES: all of a frame but its tag.
 
 # In version 1.
@@ -92,15 +92,15 @@ principal 01 01 $DIGEST $NONCE 'alice 'bob 'carl 'bob
 principal 03 01 $DIGEST $NONCE 'alice 'bob 'carl 'none
 let TEA 0d86512a82007fd1040c8870e2884fe8f7876901d70f2b17d5ffdc9c53818619
 let PRICE 1a80994ad752684eb802f50c76628a768d55717c65cfa61565c4ae700f12f3fd
-commit_text $SID 00 $HIDES 01 'tea 'sg-commit-1+$SID+00+$HIDES+01+00000003+'tea
-commit_text $SID 01 $HIDES 00 fffffffffffffffe 'sg-commit-1+$SID+01+$HIDES+00+00000008+fffffffffffffffe
-commit $SID 00 $HIDES 01 'tea $TEA
-commit $SID 01 $HIDES 00 fffffffffffffffe $PRICE
+commit_text $SID 00 $CONFOUNDER 01 'tea 'sg-commit-1+$SID+00+$CONFOUNDER+01+00000003+'tea
+commit_text $SID 01 $CONFOUNDER 00 fffffffffffffffe 'sg-commit-1+$SID+01+$CONFOUNDER+00+00000008+fffffffffffffffe
+commit $SID 00 $CONFOUNDER 01 'tea $TEA
+commit $SID 01 $CONFOUNDER 00 fffffffffffffffe $PRICE
 let ITEM 'sg-item-1+$SID+00+02+0000+00000001+01+$TEA+00
 let TAG a1c987b69ca6c89cf00f67de6575bff31f5bdb19e4b7c32740687001e328539e
 item_text 01 $SID 00 02 0000 00000001 $TEA ' $ITEM
 cut 01 32*22 $ITEM ' $TAG
-let BODY 'SGF1+00+$SID+00+01+$DIGEST+$NONCE+$NAMES+0001+00+0000+00000001+01+00+$TEA+01+02+$TAG+01+00+$HIDES+01+00000003+'tea
+let BODY 'SGF1+00+$SID+00+01+$DIGEST+$NONCE+$NAMES+0001+00+0000+00000001+01+00+$TEA+01+02+$TAG+01+00+$CONFOUNDER+01+00000003+'tea
 frame_text 01 $BODY 'sg-frame-1+$BODY
 
 # In version 2.
@@ -112,15 +112,15 @@ principal 01 02 $DIGEST $NONCE 'alice 'bob 'carl 'bob
 principal 03 02 $DIGEST $NONCE 'alice 'bob 'carl 'none
 let TEA 9f3218c7d08b1b3b05de180db0dec50004583414469836a549c43d729b88cca6
 let PRICE d0a89b16bcd922573096be9e85f3ab9ccdaf57b724c8710e254e52dad8457c81
-commit_text $SID 00 $HIDES 01 'tea 'sg-commit-1+$SID+00+$HIDES+01+00000003+'tea
-commit_text $SID 01 $HIDES 00 fffffffffffffffe 'sg-commit-1+$SID+01+$HIDES+00+00000008+fffffffffffffffe
-commit $SID 00 $HIDES 01 'tea $TEA
-commit $SID 01 $HIDES 00 fffffffffffffffe $PRICE
+commit_text $SID 00 $CONFOUNDER 01 'tea 'sg-commit-1+$SID+00+$CONFOUNDER+01+00000003+'tea
+commit_text $SID 01 $CONFOUNDER 00 fffffffffffffffe 'sg-commit-1+$SID+01+$CONFOUNDER+00+00000008+fffffffffffffffe
+commit $SID 00 $CONFOUNDER 01 'tea $TEA
+commit $SID 01 $CONFOUNDER 00 fffffffffffffffe $PRICE
 let ITEM 'sg-item-2+$SID+00+02+0000+00000001+01+$TEA+00
 let TAG fd701bdf51341b78b6f2fcd2ee3abed1
 item_text 02 $SID 00 02 0000 00000001 $TEA ' $ITEM
 cut 02 32*22 $ITEM ' $TAG+16*00
-let BODY 'SGF2+00+$SID+00+01+$DIGEST+$NONCE+$NAMES+0001+00+0000+00000001+01+00+$TEA+01+02+$TAG+01+00+$HIDES+01+00000003+'tea
+let BODY 'SGF2+00+$SID+00+01+$DIGEST+$NONCE+$NAMES+0001+00+0000+00000001+01+00+$TEA+01+02+$TAG+01+00+$CONFOUNDER+01+00000003+'tea
 frame_text 02 $BODY 'sg-frame-2+$BODY
 
 # Notes of texts that were made, found and hashed, each pair with the lesser name first. `count` tells how many there are of each, `mark` remembers

@@ -4,8 +4,8 @@
 //! after N calls; without them the disk has no room.
 //!
 //! For the next run alone: `fails OBJECT N` has call N fail of the files, out, err, the link, the stream, the port or the input (none for 0; of stream
-//! and port else the first); `room N` has standard output take N bytes; `asks LINES` gives standard input; `comes BYTES` and `silence` come on the link,
-//! and `piece BYTES` on the connection whose number is the first byte.
+//! and port else the first); `room N` has standard output take N bytes; `asks LINES` gives standard input; `comes BYTES` and `silence` come on the
+//! link, and `piece BYTES` on the connection whose number is the first byte.
 //!
 //! `args ARG..` runs the program, whose random bytes are the same each time, and puts how it ended. `crash BYTES` leaves these bytes of what was
 //! written to the disk and not synced. `stands`, `left link`, `left stream` and `unasked` put what there is then.
