@@ -44,7 +44,7 @@ frame_at 'SGF1 '0 'none
 frame_at 'SGF1 '1 'SGF1
 frame_at 'SGF1 '2 'none
 
-# The first bytes of a frame, and the frame with the lowest bit of the byte at a place changed.
+# The first bytes of a frame, and the frame with the lowest bit changed of the byte at an index.
 
 first_bytes 'SGF1 '3 'SGF
 first_bytes 'SGF1 '5 'SGF1

@@ -89,7 +89,7 @@ cut $FIRST '3 'malformed_at_0
 cut $FIRST '135 'malformed_at_104
 cut $SECOND '119 'malformed_at_104
 
-# The first frame in version 1, with the lowest bit changed of the byte at one place.
+# The first frame in version 1, with the lowest bit changed of the byte at one index.
 
 flipped $FIRST '0 'malformed_at_0
 flipped $FIRST '1 'malformed_at_0
@@ -103,7 +103,7 @@ flipped $FIRST '93 'malformed_at_92
 flipped $FIRST '97 'malformed_at_97
 flipped $FIRST '100 'malformed_at_97
 
-# The same at each place from the first number to before the second one: at how many it is a frame.
+# The same at each index from the first number to before the second one: at how many it is a frame.
 
 frames_among $FIRST '5 '37 '32
 frames_among $FIRST '39 '87 '48
