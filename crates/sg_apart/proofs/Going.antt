@@ -1,0 +1,298 @@
+-- The calls at principals that run apart are to the law one list of moves of a session.
+use Rattle.std.specs.Prelude.{◌≡◌, ℕ, suc, ◌+◌, ◌==◌, nat_lt, not, if◌then◌else◌, ◌&&◌, Bool, true, false, List, [], ◌∷◌, ◌++◌, map, filter, flat_map, length, bytes_eq, refl, Option, Some, None, option_map, ⊤}
+use Rattle.std.specs.List.{AllByRecursion}
+use Rattle.std.specs.Option.{option_map_or}
+use Rattle.std.proofs.Common.{sym, ◌∙◌, ap, subst, inl, inr, arith, append_assoc, append-nil}
+use Rattle.std.proofs.lemmas.Bool.{cases_Bool, eq-eqb, and_parts}
+use Rattle.std.proofs.lemmas.List.{map-append}
+use Rattle.std.proofs.lemmas.List.Elements.{filter-append}
+use Rattle.std.proofs.lemmas.Slice.Eq.{bytes_eq-Decides}
+use Rattle.sg_model.specs.Last.{Map}
+use Rattle.sg_model.specs.Lists.{first_some, is_in, keys_of, rises_from}
+use Rattle.sg_model.specs.Names.{Name}
+use Rattle.sg_model.specs.Values.{Value, Opening}
+use Rattle.sg_model.proofs.Numbers.{absent}
+use Rattle.sg_model.proofs.Small.{same_bytes, all-append, all_weaker}
+use Rattle.sg_law.specs.Values as V
+use Rattle.sg_law.specs.Values.{State, Move, Commit, AllMay, moved_all, deed_of, all_openings}
+use Rattle.sg_law.proofs.Members.{in_right, in_flat, in_parts}
+use Rattle.sg_law.proofs.Take.{contains_from_in}
+use Rattle.sg_law.proofs.Upto.{In, in_from_Contains}
+use Rattle.sg_protocol.specs.Graph.{Graph, shape}
+use Rattle.sg_protocol.specs.Frame.{Cast, Frame, IsOpening}
+use Rattle.sg_protocol.specs.Spelling.{HasSpelling}
+use Rattle.sg_protocol.specs.Texts.{Hash, IsHash, commitment, commitment_text_of, graph_text_of}
+use Rattle.sg_protocol.specs.TextLaws.{OpeningFits}
+use Rattle.sg_protocol.specs.Keyring.{Program}
+use Rattle.sg_protocol.specs.Session.{Session}
+use Rattle.sg_protocol.specs.Sending.{frame_sent}
+use Rattle.sg_protocol.specs.Calls.{ActFault, Event, Call, Start, Act, Abandon, Deliver, Answer, Sends, NotActed, events_of_answer, sid_of}
+use Rattle.sg_protocol.specs.Node.{Node, session_with, program_for}
+use Rattle.sg_protocol.specs.NodeAfter.{node_after}
+use Rattle.sg_protocol.specs.Acting.{answer, answer_act, acted, sent, rows_of_act, openings_for}
+use Rattle.sg_protocol.specs.Notes.{Note, notes, notes_of_act, no_notes}
+use Rattle.sg_protocol.specs.Past.{Past, node_of, new_node, past_after}
+use Rattle.sg_protocol.specs.Walk.{acts_of_event}
+use Rattle.sg_protocol.specs.Schedule.{Schedule, is_honest, honest_role}
+use Rattle.sg_protocol.specs.World.{World, Logged, Answered, past_of}
+use Rattle.sg_protocol.specs.Run.{called, frame_in, events_of, events_of_outcome}
+use Rattle.sg_protocol.specs.Premises.{hashed, Unforged}
+use Rattle.sg_protocol.specs.IsSchedule.{IsProgram}
+use Rattle.sg_protocol.specs.Ranges.{IsCallInRange, AreValues}
+use Rattle.sg_protocol.specs.Bounds.{IsSession}
+use Rattle.sg_protocol.proofs.Acts as C
+use Rattle.sg_protocol.proofs.AfterCalls.{nothing, node_kept}
+use Rattle.sg_protocol.proofs.AbandonCall.{abandon_out}
+use Rattle.sg_protocol.proofs.ActCall.{act_out}
+use Rattle.sg_protocol.proofs.Calls.{NodeOk, Out}
+use Rattle.sg_protocol.proofs.Course.{Suffix, suffix_refl, suffix_one, suffix_trans, in_before, in_after, node_more, next_past, past_called, moved-append, may-append, small_values}
+use Rattle.sg_protocol.proofs.DeliverCall.{deliver_out}
+use Rattle.sg_protocol.proofs.Finding.{find_passes, find_all}
+use Rattle.sg_protocol.proofs.Gives.{keys_are}
+use Rattle.sg_protocol.proofs.KnownSession.{SessionOfCast}
+use Rattle.sg_protocol.proofs.Moves.{NoteOk}
+use Rattle.sg_protocol.proofs.Nodes.{ActSent}
+use Rattle.sg_protocol.proofs.Paths.{acts_of, TypedDeed, flat_map-append, writes_rise}
+use Rattle.sg_protocol.proofs.Ranges.{act_in_range, node_in_range}
+use Rattle.sg_protocol.proofs.StartCall.{start_out}
+use Rattle.sg_protocol.proofs.TextLaws.{opening_fits}
+use Rattle.sg_apart.specs.Apart.{CallAt, world_called, world_after_calls}
+
+-- ---- logs
+
+suffix_past : (sha : Hash) (w : World) (k : ℕ) (c : CallAt) (o : Option Past) → Suffix k w.log (option_map_or (called sha w k c.who c.call) o w).log
+suffix_past sha w k c None = suffix_refl k w.log
+suffix_past sha w k c (Some past) = suffix_one k w.log _ refl
+
+pub suffix_call : (sha : Hash) (w : World) (k : ℕ) (c : CallAt) → Suffix k w.log (world_called sha w k c).log
+suffix_call sha w k c = suffix_past sha w k c (past_of w c.who)
+
+pub suffix_calls : (sha : Hash) (w : World) (k : ℕ) (cs : List CallAt) → Suffix k w.log (world_after_calls sha w k cs).log
+suffix_calls sha w k [] = suffix_refl k w.log
+suffix_calls sha w k (c ∷ cs) = suffix_trans k (k + 1) w.log (world_called sha w k c).log (world_after_calls sha (world_called sha w k c) (k + 1) cs).log (omega arith) (suffix_call sha w k c) (suffix_calls sha (world_called sha w k c) (k + 1) cs)
+
+note_more : (g : Graph) (sid : List ℕ) (log log' : List V.SentItem) → ((mk : V.SentItem) → In log mk → In log' mk) → (nt : Note) → NoteOk g sid log nt → NoteOk g sid log' nt
+note_more g sid log log' f nt ok = record {
+  item = λ v from to label time held fits e. let r = ok.item v from to label time held fits e in record { made = r.made; there = contains_from_in log' r.made (f r.made (in_from_Contains log r.made r.there)); same = r.same; is_held = r.is_held };
+  frame = λ v fr spelled same e. let r = ok.frame v fr spelled same e in record { made = r.made; there = contains_from_in log' r.made (f r.made (in_from_Contains log r.made r.there)); steps = r.steps; written = r.written };
+}
+
+openings-append : (ms ns : List Move) → all_openings (ms ++ ns) ≡ all_openings ms ++ all_openings ns
+openings-append [] ns = refl
+openings-append (m ∷ ms) ns = ap (λ l. V.openings m ++ l) (openings-append ms ns) ∙ sym (append_assoc (V.openings m) (all_openings ms) (all_openings ns))
+
+events-append : (sid : List ℕ) (xs ys : List Logged) → flat_map acts_of_event (events_of sid (xs ++ ys)) ≡ flat_map acts_of_event (events_of sid xs) ++ flat_map acts_of_event (events_of sid ys)
+events-append sid xs ys =
+    ap (λ l. flat_map acts_of_event (filter (λ e. bytes_eq (sid_of e) sid) l)) (flat_map-append (λ (l : Logged). events_of_outcome l.outcome) xs ys)
+    ∙ ap (flat_map acts_of_event) (filter-append (λ e. bytes_eq (sid_of e) sid) (flat_map (λ (l : Logged). events_of_outcome l.outcome) xs) (flat_map (λ (l : Logged). events_of_outcome l.outcome) ys))
+    ∙ flat_map-append acts_of_event (events_of sid xs) (events_of sid ys)
+
+-- ---- confounders
+
+other : (c : List ℕ) (k : ℕ) (G : ℕ × Value → List ℕ) (vs : Map Value) → is_in k (keys_of vs) ≡ false → map (λ (u : ℕ × Value). if u.0 == k then c else G u) vs ≡ map G vs
+other c k G [] h = refl
+other c k G (v ∷ vs) h = elim (cases_Bool (v.0 == k)) [
+  | inl e ↦ absurd (let f : true ≡ false = rw e at h in cc)
+  | inr e ↦ rw e (ap (λ l. G v ∷ l) (other c k G vs (rw e at h)))
+]
+
+-- as many confounders as values of different variables are some function of these
+as_function : (vs : Map Value) (cs : List (List ℕ)) (n : ℕ) → rises_from n (keys_of vs) ≡ true → length cs ≡ length vs → (F : ℕ × Value → List ℕ) × (map F vs ≡ cs)
+as_function [] [] n r l = ((λ v. []), refl)
+as_function [] (c ∷ cs) n r l = absurd (omega (arith, l))
+as_function (v ∷ vs) [] n r l = absurd (omega (arith, l))
+as_function (v ∷ vs) (c ∷ cs) n r l =
+    let rest : rises_from (suc v.0) (keys_of vs) ≡ true = (and_parts (not (nat_lt v.0 n)) (rises_from (suc v.0) (keys_of vs)) r).1 in
+    let f : (F : ℕ × Value → List ℕ) × (map F vs ≡ cs) = as_function vs cs (suc v.0) rest (omega (arith, l)) in
+    ((λ u. if u.0 == v.0 then c else f.0 u), (rw (eq-eqb v.0 v.0 refl) (ap (λ l. c ∷ l) (other c v.0 f.0 vs (absent (suc v.0) v.0 (omega arith) (keys_of vs) rest) ∙ f.1))))
+
+-- a session in a run of principals apart that ends in the world wf. Own says which programs a principal may have
+pub record SessionApart (sha : Hash) (s : Schedule) (sid : List ℕ) (cast : Cast) (g : Graph) (wf : World) (Own : List Program → Type 0) : Type 0 where
+  pub is_hash : IsHash sha
+  pub of_cast : (ps : List Program) → Own ps → SessionOfCast sha ps sid cast g (λ t. In (hashed s wf) t)
+  pub programs : (ps : List Program) → Own ps → AllByRecursion (IsProgram sha) ps
+  pub unforged : Unforged s wf
+
+module _ {sha : Hash} {s : Schedule} {sid : List ℕ} {cast : Cast} {g : Graph} {wf : World} {Own : List Program → Type 0} (known : SessionApart sha s sid cast g wf Own) where
+  abbrev commit : Commit
+  commit o = commitment sha sid o
+
+  abbrev honest : ℕ → Bool
+  honest h = honest_role s cast h
+
+  abbrev Hashed : List ℕ → Type 0
+  Hashed t = In (hashed s wf) t
+
+  -- whoever has no session any more may have left it
+  abbrev Left : Name → Type 0
+  Left who = ⊤
+
+  -- a principal's node and the law's state fit
+  pub record Fits (st : State) (who : Name) (p : Past) : Type 0 where
+    pub own : Own p.programs
+    pub ok : NodeOk (known.of_cast p.programs own) s Left st who (node_of p)
+    pub honest : is_honest s who ≡ true
+    pub live : AllByRecursion IsSession (node_of p).live
+
+  pub record Progress (w : World) : Type 0 where
+    pub moves : List Move
+    pub may : AllMay (shape g) honest commit (V.at_first (shape g)) moves
+    pub nodes : (who : Name) (p : Past) → past_of w who ≡ Some p → Fits (moved_all commit (V.at_first (shape g)) moves) who p
+    pub noted : (l : Logged) (nt : Note) → In w.log l → In l.notes.made nt → NoteOk g sid (moved_all commit (V.at_first (shape g)) moves).log nt
+    pub events : flat_map acts_of_event (events_of sid w.log) ≡ flat_map (acts_of g) (map deed_of moves)
+    pub typed : AllByRecursion (TypedDeed g honest) (map deed_of moves)
+    pub used : AllByRecursion (λ (o : Opening). Hashed (commitment_text_of sid o) × OpeningFits o) (all_openings moves)
+
+  module _ (w : World) (k : ℕ) (p : Progress w) (who : Name) (past : Past) (its_past : past_of w who ≡ Some past) where
+    abbrev st : State
+    st = moved_all commit (V.at_first (shape g)) p.moves
+
+    abbrev n : Node
+    n = node_of past
+
+    here : Fits st who past
+    here = p.nodes who past its_past
+
+    abbrev its : SessionOfCast sha past.programs sid cast g Hashed
+    its = known.of_cast past.programs here.own
+
+    programs : AllByRecursion (IsProgram sha) n.programs
+    programs = subst (AllByRecursion (IsProgram sha)) (sym (here.ok).has_programs) (known.programs past.programs here.own)
+
+    abbrev Outs : Call → Type 0
+    Outs c = Out its s Left st who n c (answer sha n c) (notes sha n c)
+
+    abbrev entry_ : Call → Logged
+    entry_ c = record { number = k; who = Some who; call = Some c; outcome = Answered (answer sha n c); frame = frame_in (answer sha n c); notes = notes sha n c }
+
+    -- an act, whatever its confounders
+    module _ (sid0 : List ℕ) (label : ℕ) (values : Map Value) (confs : List (List ℕ)) (good : AreValues values confs) where
+      abbrev act_of_rows : Session → Program → Option ActFault → Answer
+      act_of_rows x q o = acted (sent sha n.keys q x label values confs) o
+
+      abbrev act_of_program : Session → Option Program → Answer
+      act_of_program x o = option_map_or (λ q. act_of_rows x q (first_some (rows_of_act q x label values))) o (NotActed ActFault.UnknownSession)
+
+      abbrev act_of_session : Option Session → Answer
+      act_of_session o = option_map_or (λ x. act_of_program x (program_for n.programs x.cast.graph x.role)) o (NotActed ActFault.UnknownSession)
+
+      not_acted : (fault : ActFault) → answer_act sha n sid0 label values confs ≡ NotActed fault → Outs (Act sid0 label values confs)
+      not_acted fault e = subst (λ a. Out its s Left st who n (Act sid0 label values confs) a (notes_of_act n sid0 (openings_for values confs) a)) (sym e) (nothing its s Left st who n (Act sid0 label values confs) (NotActed fault) no_notes here.ok refl refl (λ nt i. absurd i) (inl refl) (λ r j. j) (λ r j. j))
+
+      abbrev Spelled : List (List ℕ) → Type 0
+      Spelled z = ((e : Event) (to : Name) (f : Frame) → answer sha n (Act sid0 label values z) ≡ Sends e to f → HasSpelling f) × AllByRecursion OpeningFits (openings_for values z)
+
+      act_done : (x : Session) → session_with n.live sid0 ≡ Some x → (q : Program) → program_for n.programs x.cast.graph x.role ≡ Some q → first_some (rows_of_act q x label values) ≡ None → Outs (Act sid0 label values confs)
+      act_done x found q found_q rows =
+          let ip : IsProgram sha q = find_all (λ (z : Program). bytes_eq z.digest x.cast.graph && (z.role == x.role)) (IsProgram sha) n.programs q programs found_q in
+          let small = small_values values good.each in
+          let ks : keys_of values ≡ _ = keys_are q.graph ip.is_graph label values small (C.act_rows q x label values rows).good in
+          let rise : rises_from 0 (keys_of values) ≡ true = subst (λ l. rises_from 0 l ≡ true) (sym ks) (writes_rise q.graph ip.is_graph label) in
+          let f : (F : ℕ × Value → List ℕ) × (map F values ≡ confs) = as_function values confs 0 rise good.count in
+          let a : ActSent sha n sid0 label values confs (frame_sent sha n.keys q x label (openings_for values confs)) = record { x = x; found = found; p = q; found_p = found_q; rows = rows; its = refl } in
+          let r = act_in_range sha known.is_hash n programs here.live sid0 label values confs good (frame_sent sha n.keys q x label (openings_for values confs)) a in
+          let ans : answer sha n (Act sid0 label values confs) ≡ act_of_rows x q None = ap act_of_session found ∙ ap (act_of_program x) found_q ∙ ap (act_of_rows x q) rows in
+          let sp : Spelled confs = ((λ e to y b. (let same : act_of_rows x q None ≡ Sends e to y = sym ans ∙ b in let its_frame : frame_sent sha n.keys q x label (openings_for values confs) ≡ y = cc in subst HasSpelling its_frame r.0.spelled)), all_weaker IsOpening OpeningFits (λ o h. opening_fits o h) (openings_for values confs) r.1) in
+          let sp' : Spelled (map f.0 values) = subst Spelled (sym f.1) sp in
+          subst (λ z. Outs (Act sid0 label values z)) f.1 (act_out its s Left st who n here.ok here.honest sid0 label values f.0 small sp'.1 sp'.0)
+
+      act_any : Outs (Act sid0 label values confs)
+      act_any = by_session (session_with n.live sid0) refl
+        where
+          by_rows : (x : Session) (q : Program) → session_with n.live sid0 ≡ Some x → program_for n.programs x.cast.graph x.role ≡ Some q → (o : Option ActFault) → first_some (rows_of_act q x label values) ≡ o → Outs (Act sid0 label values confs)
+          by_rows x q e e2 (Some fault) e3 = not_acted fault (ap act_of_session e ∙ ap (act_of_program x) e2 ∙ ap (act_of_rows x q) e3)
+          by_rows x q e e2 None e3 = act_done x e q e2 e3
+
+          by_program : (x : Session) → session_with n.live sid0 ≡ Some x → (o : Option Program) → program_for n.programs x.cast.graph x.role ≡ o → Outs (Act sid0 label values confs)
+          by_program x e None e2 = not_acted ActFault.UnknownSession (ap act_of_session e ∙ ap (act_of_program x) e2)
+          by_program x e (Some q) e2 = by_rows x q e e2 (first_some (rows_of_act q x label values)) refl
+
+          by_session : (o : Option Session) → session_with n.live sid0 ≡ o → Outs (Act sid0 label values confs)
+          by_session None e = not_acted ActFault.UnknownSession (ap act_of_session e)
+          by_session (Some x) e = by_program x e (program_for n.programs x.cast.graph x.role) refl
+
+    -- any call
+    module _ (c : Call) (range : IsCallInRange c) (after : Suffix (k + 1) (called sha w k who c past).log wf.log) where
+      in_end : In wf.log (entry_ c)
+      in_end = in_after (k + 1) (called sha w k who c past).log wf.log after (entry_ c) (C.in_last w.log (entry_ c))
+
+      founds : (nt : Note) → In (notes sha n c).found nt → is_honest s nt.one ≡ true → is_honest s nt.two ≡ true → NoteOk g sid st.log nt
+      founds nt i h1 h2 =
+          let m = known.unforged (entry_ c) nt (contains_from_in wf.log (entry_ c) in_end) (contains_from_in (notes sha n c).found nt i) h1 h2 in
+          let before : Suffix k w.log wf.log = suffix_trans k (k + 1) w.log (called sha w k who c past).log wf.log (omega arith) (suffix_one k w.log (entry_ c) refl) after in
+          p.noted m.0 nt (in_before k w.log wf.log before m.0 (in_from_Contains wf.log m.0 m.1) m.2) (in_from_Contains (m.0).notes.made nt m.3)
+
+      hashes : (t : List ℕ) → In (notes sha n c).hashed t → Hashed t
+      hashes t i = in_right (map graph_text_of s.graphs) (flat_map (λ (l : Logged). l.notes.hashed) wf.log) t (in_flat (λ (l : Logged). l.notes.hashed) wf.log (entry_ c) t in_end i)
+
+    out_of : (c : Call) → IsCallInRange c → Suffix (k + 1) (called sha w k who c past).log wf.log → Outs c
+    out_of (Start c) h after = start_out its s Left st who n here.ok c (record { version = h.version; graph = h.fields.graph.0; nonce = h.fields.nonce.0 }) (hashes (Start c) h after)
+    out_of (Act sid0 label values confs) h after = act_any sid0 label values confs h
+    out_of (Abandon sid0) h after = abandon_out its s Left st who n here.ok sid0 (λ q a. tt)
+    out_of (Deliver bs) h after = deliver_out its s Left st who n here.ok here.honest bs h (founds (Deliver bs) h after) (hashes (Deliver bs) h after)
+
+    progress_called : (c : Call) → IsCallInRange c → Suffix (k + 1) (called sha w k who c past).log wf.log → Outs c → Progress (called sha w k who c past)
+    progress_called c range after out = record {
+      moves = p.moves ++ out.moves;
+      may = may-append (shape g) honest commit (V.at_first (shape g)) p.moves out.moves p.may out.may;
+      nodes = λ me p' e. subst (λ z. Fits z me p') (sym (moved-append commit (V.at_first (shape g)) p.moves out.moves)) (nodes_ me p' (past_of w me) refl (sym (past_called sha w k who c past me) ∙ e));
+      noted = λ l nt i j. subst (λ (z : State). NoteOk g sid z.log nt) (sym (moved-append commit (V.at_first (shape g)) p.moves out.moves)) (elim (in_parts w.log (entry_ c ∷ []) l i) [
+        | inl a ↦ note_more g sid st.log (moved_all commit st out.moves).log out.log nt (p.noted l nt a j)
+        | inr a ↦ elim a [ inl b ↦ out.made nt (subst (λ (z : Logged). In z.notes.made nt) b j) | inr b ↦ absurd b ]
+      ]);
+      events = events-append sid w.log (entry_ c ∷ []) ∙ ap (λ l. l ++ flat_map acts_of_event (events_of sid (entry_ c ∷ []))) p.events
+          ∙ ap (λ l. flat_map (acts_of g) (map deed_of p.moves) ++ flat_map acts_of_event (filter (λ e. bytes_eq (sid_of e) sid) l)) (append-nil (events_of_answer (answer sha n c)))
+          ∙ ap (λ l. flat_map (acts_of g) (map deed_of p.moves) ++ l) out.events ∙ sym (flat_map-append (acts_of g) (map deed_of p.moves) (map deed_of out.moves)) ∙ ap (flat_map (acts_of g)) (sym (map-append deed_of p.moves out.moves));
+      typed = subst (AllByRecursion (TypedDeed g honest)) (sym (map-append deed_of p.moves out.moves)) (all-append (TypedDeed g honest) (map deed_of p.moves) (map deed_of out.moves) p.typed out.typed);
+      used = subst (AllByRecursion (λ (o : Opening). Hashed (commitment_text_of sid o) × OpeningFits o)) (sym (openings-append p.moves out.moves)) (all-append (λ (o : Opening). Hashed (commitment_text_of sid o) × OpeningFits o) (all_openings p.moves) (all_openings out.moves) p.used (all_weaker _ _ (λ o h. (hashes c range after (commitment_text_of sid o) h.0, h.1)) (all_openings out.moves) out.used));
+    }
+      where
+        node_is : node_of (past_after sha past c) ≡ node_after n c (answer sha n c)
+        node_is = node_more (new_node past.keys past.programs past.first) past.calls (record { call = c; answer = answer sha n c })
+
+        called_fits : Fits (moved_all commit st out.moves) who (past_after sha past c)
+        called_fits = record {
+          own = here.own;
+          ok = subst (NodeOk its s Left (moved_all commit st out.moves) who) (sym node_is) out.node;
+          honest = here.honest;
+          live = subst (λ (z : Node). AllByRecursion IsSession z.live) (sym node_is) (node_in_range sha known.is_hash n programs here.live c range);
+        }
+
+        other_fits : (me : Name) (y : Past) → (me ≡ who → ⊥) → Fits st me y → Fits (moved_all commit st out.moves) me y
+        other_fits me y ne f = record {
+          own = f.own;
+          ok = node_kept (known.of_cast y.programs f.own) s Left st (moved_all commit st out.moves) who me (node_of y) ne (record { transcript = (out.kept).transcript; machine = (out.kept).machine }) f.ok;
+          honest = f.honest;
+          live = f.live;
+        }
+
+        nodes_ : (me : Name) (p' : Past) (o : Option Past) → past_of w me ≡ o → option_map (next_past sha who c) o ≡ Some p' → Fits (moved_all commit st out.moves) me p'
+        nodes_ me p' None q e = absurd (cc)
+        nodes_ me p' (Some y) q e =
+            let r : next_past sha who c y ≡ p' = cc in
+            let is_me : y.keys.me ≡ me = same_bytes y.keys.me me (find_passes (λ (z : Past). bytes_eq z.keys.me me) w.pasts y q) in
+            elim (cases_Bool (bytes_eq y.keys.me who)) [
+              | inl h ↦
+                  let same : me ≡ who = sym is_me ∙ same_bytes y.keys.me who h in
+                  let two : Some y ≡ Some past = sym q ∙ ap (past_of w) same ∙ its_past in
+                  let y_past : y ≡ past = cc in
+                  let after_ : past_after sha past c ≡ p' = ap (λ z. past_after sha z c) (sym y_past) ∙ (rw h at r) in
+                  subst (λ z. Fits (moved_all commit st out.moves) z p') (sym same) (subst (Fits (moved_all commit st out.moves) who) after_ called_fits)
+              | inr h ↦
+                  let r' : y ≡ p' = rw h at r in
+                  subst (Fits (moved_all commit st out.moves) me) r' (other_fits me y (λ z. no_clash (bytes_eq y.keys.me who) ((bytes_eq-Decides y.keys.me who).1 (is_me ∙ z)) h) (p.nodes me y q))
+            ]
+          where
+            no_clash : (b : Bool) → b ≡ true → b ≡ false → ⊥
+            no_clash b t f = absurd (cc)
+
+  by_past : (w : World) (k : ℕ) → Progress w → (c : CallAt) → IsCallInRange c.call → (o : Option Past) → past_of w c.who ≡ o → Suffix (k + 1) (option_map_or (called sha w k c.who c.call) o w).log wf.log → Progress (option_map_or (called sha w k c.who c.call) o w)
+  by_past w k p c range None q after = p
+  by_past w k p c range (Some past) q after = progress_called w k p c.who past q c.call range after (out_of w k p c.who past q c.call range after)
+
+  -- all calls
+  pub all_calls : (w : World) (k : ℕ) → Progress w → (cs : List CallAt) → AllByRecursion (λ (c : CallAt). IsCallInRange c.call) cs → world_after_calls sha w k cs ≡ wf → Progress wf
+  all_calls w k p [] range e = subst Progress e p
+  all_calls w k p (c ∷ cs) range e =
+      let after : Suffix (k + 1) (world_called sha w k c).log wf.log = subst (λ (z : World). Suffix (k + 1) (world_called sha w k c).log z.log) e (suffix_calls sha (world_called sha w k c) (k + 1) cs) in
+      all_calls (world_called sha w k c) (k + 1) (by_past w k p c range.0 (past_of w c.who) refl after) cs range.1 e

@@ -1,0 +1,7 @@
+pub mod Begun
+pub mod Going
+pub mod Whole
+pub mod Once
+pub mod Honest
+pub mod Schedules
+pub mod Lives

@@ -1,0 +1,294 @@
+-- The run of a schedule is one of its honest principals apart.
+use Rattle.std.specs.Prelude.{◌≡◌, ℕ, ◌+◌, ◌<◌, IsTrue, All, Bool, true, false, List, [], ◌∷◌, ◌++◌, map, filter, flat_map, length, bytes_eq, is_some, refl, slice_get, Option, Some, None, option_map}
+use Rattle.std.specs.List.{AllByRecursion, list_all}
+use Rattle.std.specs.Option.{option_map_or}
+use Rattle.std.proofs.Common.{sym, ◌∙◌, ap, subst, inl, inr, arith, append-nil}
+use Rattle.std.proofs.lemmas.Bool.{cases_Bool, and_parts}
+use Rattle.std.proofs.lemmas.List.Elements.{filter-append, All-from_recursion, recursion_from_All}
+use Rattle.sg_model.specs.Bytes.{AreBytes}
+use Rattle.sg_model.specs.Last.{Map}
+use Rattle.sg_model.specs.Lists.{all_differ, has_text}
+use Rattle.sg_model.specs.Names.{Name, is_name}
+use Rattle.sg_model.specs.Values.{Value}
+use Rattle.sg_model.proofs.Small.{all-append, cases_Option, same_bytes}
+use Rattle.sg_law.proofs.Members.{all_in, in_left, in_map, in_parts, in_right}
+use Rattle.sg_law.proofs.Take.{contains_from_in}
+use Rattle.sg_law.proofs.Upto.{In, in_from_Contains}
+use Rattle.sg_protocol.specs.Accepted.{Accepted}
+use Rattle.sg_protocol.specs.Graph.{Graph, IsGraph}
+use Rattle.sg_protocol.specs.Frame.{IsValue}
+use Rattle.sg_protocol.specs.Spelling.{u64}
+use Rattle.sg_protocol.specs.Texts.{Hash, IsHash, graph_text_of}
+use Rattle.sg_protocol.specs.Keyring.{Program}
+use Rattle.sg_protocol.specs.Calls.{Call, Start, Act, Abandon, Deliver}
+use Rattle.sg_protocol.specs.Notes.{no_notes}
+use Rattle.sg_protocol.specs.Past.{Past}
+use Rattle.sg_protocol.specs.Schedule.{PairKey, NamedSession, Schedule, Step, StartStep, ActStep, AbandonStep, DeliverStep, CraftStep, What, is_honest, who_of, sid_at, confounder}
+use Rattle.sg_protocol.specs.World.{World, Logged, Outcome, Crafted, NoFrame, past_of, new_world, call_of, bytes_of}
+use Rattle.sg_protocol.specs.Run.{called, called_if, uncalled, world_after, world_after_all, run}
+use Rattle.sg_protocol.specs.Premises.{MadeBefore, Premises, hashed}
+use Rattle.sg_protocol.specs.IsSchedule.{AreCompiled, IsDeclared, IsSchedule, IsStep}
+use Rattle.sg_protocol.specs.Ranges.{AreValues, IsCallInRange, IsCast}
+use Rattle.sg_protocol.proofs.Course.{confounder_length, past_called}
+use Rattle.sg_protocol.proofs.Fits.{Fit, declared_in, fit_bytes, fit_new, fit_next}
+use Rattle.sg_protocol.proofs.Spelled.{bytes-append, to_bytes, u64_bytes}
+use Rattle.sg_protocol.proofs.Whole.{first_past, new_past, program_graph}
+use Rattle.sg_apart.specs.Apart.{Begins, CallAt, honest_are, names_of, run_apart, world_after_calls, world_called}
+use Rattle.sg_apart.specs.Laws.{IsApart, SchedulesRunApart}
+
+-- ---- lists
+
+in_filter : {A : Type 0} (q : A → Bool) (xs : List A) (x : A) → In (filter q xs) x → In xs x
+in_filter q [] x i = i
+in_filter q (y ∷ ys) x i = elim (cases_Bool (q y)) [
+  | inl h ↦ (let j : In (y ∷ filter q ys) x = rw h at i in elim j [ inl e ↦ inl e | inr j ↦ inr (in_filter q ys x j) ])
+  | inr h ↦ (let j : In (filter q ys) x = rw h at i in inr (in_filter q ys x j))
+]
+
+filter_in : {A : Type 0} (q : A → Bool) (xs : List A) (x : A) → In xs x → q x ≡ true → In (filter q xs) x
+filter_in q [] x i h = i
+filter_in q (y ∷ ys) x (inl e) h = (let k : q y ≡ true = ap q (sym e) ∙ h in rw k (inl e))
+filter_in q (y ∷ ys) x (inr i) h = elim (cases_Bool (q y)) [
+  | inl k ↦ rw k (inr (filter_in q ys x i h))
+  | inr k ↦ rw k (filter_in q ys x i h)
+]
+
+of_filtered : {A B : Type 0} (q : A → Bool) (f : A → List B) (xs : List A) (b : B) → In (flat_map f (filter q xs)) b → In (flat_map f xs) b
+of_filtered q f [] b i = i
+of_filtered q f (x ∷ xs) b i = elim (cases_Bool (q x)) [
+  | inl h ↦ (let j : In (f x ++ flat_map f (filter q xs)) b = rw h at i in elim (in_parts (f x) (flat_map f (filter q xs)) b j) [ inl k ↦ in_left (f x) (flat_map f xs) b k | inr k ↦ in_right (f x) (flat_map f xs) b (of_filtered q f xs b k) ])
+  | inr h ↦ (let j : In (flat_map f (filter q xs)) b = rw h at i in in_right (f x) (flat_map f xs) b (of_filtered q f xs b j))
+]
+
+-- ---- entries with a call
+
+abbrev has_call : Logged → Bool
+has_call l = is_some l.call
+
+-- the world with these entries alone
+abbrev bare : World → World
+bare w = record { pasts = w.pasts; log = filter has_call w.log }
+
+-- an entry without a call notes nothing
+abbrev Quiet : Logged → Type 0
+Quiet l = has_call l ≡ false → l.notes ≡ no_notes
+
+-- a call that nobody gets
+abbrev nothing : CallAt
+nothing = record { who = []; call = Abandon [] }
+
+abbrev call_at : Option Name → Option Call → CallAt
+call_at (Some who) (Some c) = record { who = who; call = c }
+call_at who c = nothing
+
+module _ (sha : Hash) (s : Schedule) where
+  -- the calls of steps
+  abbrev calls_from : World → ℕ → List Step → List CallAt
+  calls_from w k [] = []
+  calls_from w k (x ∷ xs) = call_at (who_of x) (call_of sha s w k x) ∷ calls_from (world_after sha s w k x) (k + 1) xs
+
+  module _ (w : World) (k : ℕ) (nobody : past_of w [] ≡ None) where
+    quiet_call : world_called sha (bare w) k nothing ≡ bare w
+    quiet_call = ap (λ o. option_map_or (called sha (bare w) k [] (Abandon [])) o (bare w)) nobody
+
+    idle_bare : (who : Option Name) (o : Outcome) (fr : Option (List ℕ)) → bare w ≡ bare (uncalled w k who o fr)
+    idle_bare who o fr = ap (λ l. record { pasts = w.pasts; log = l }) (sym (filter-append has_call w.log _ ∙ append-nil (filter has_call w.log)))
+
+    past_bare : (who : Name) (c : Option Call) (o : Option Past) → past_of w who ≡ o → world_called sha (bare w) k (call_at (Some who) c) ≡ bare (option_map_or (called_if sha w k who c) o w)
+    past_bare who None None e = quiet_call
+    past_bare who None (Some past) e = quiet_call ∙ idle_bare (Some who) NoFrame None
+    past_bare who (Some c) None e = ap (λ o. option_map_or (called sha (bare w) k who c) o (bare w)) e
+    past_bare who (Some c) (Some past) e = ap (λ o. option_map_or (called sha (bare w) k who c) o (bare w)) e ∙ ap (λ l. record { pasts = (called sha w k who c past).pasts; log = l }) (sym (filter-append has_call w.log _))
+
+    step_bare : (x : Step) → world_called sha (bare w) k (call_at (who_of x) (call_of sha s w k x)) ≡ bare (world_after sha s w k x)
+    step_bare (CraftStep c) = quiet_call ∙ idle_bare None Crafted _
+    step_bare (StartStep who n) = past_bare who (call_of sha s w k (StartStep who n)) (past_of w who) refl
+    step_bare (ActStep who n label values) = past_bare who (call_of sha s w k (ActStep who n label values)) (past_of w who) refl
+    step_bare (AbandonStep who n) = past_bare who (call_of sha s w k (AbandonStep who n)) (past_of w who) refl
+    step_bare (DeliverStep who what) = past_bare who (call_of sha s w k (DeliverStep who what)) (past_of w who) refl
+
+    -- nobody stays nobody
+    past_nobody : (who : Name) (c : Option Call) (o : Option Past) → past_of (option_map_or (called_if sha w k who c) o w) [] ≡ None
+    past_nobody who c None = nobody
+    past_nobody who None (Some past) = nobody
+    past_nobody who (Some c) (Some past) = past_called sha w k who c past [] ∙ ap (option_map _) nobody
+
+    step_nobody : (x : Step) → past_of (world_after sha s w k x) [] ≡ None
+    step_nobody (CraftStep c) = nobody
+    step_nobody (StartStep who n) = past_nobody who (call_of sha s w k (StartStep who n)) (past_of w who)
+    step_nobody (ActStep who n label values) = past_nobody who (call_of sha s w k (ActStep who n label values)) (past_of w who)
+    step_nobody (AbandonStep who n) = past_nobody who (call_of sha s w k (AbandonStep who n)) (past_of w who)
+    step_nobody (DeliverStep who what) = past_nobody who (call_of sha s w k (DeliverStep who what)) (past_of w who)
+
+  all_bare : (w : World) (k : ℕ) (xs : List Step) → past_of w [] ≡ None → world_after_calls sha (bare w) k (calls_from w k xs) ≡ bare (world_after_all sha s w k xs)
+  all_bare w k [] nobody = refl
+  all_bare w k (x ∷ xs) nobody = ap (λ z. world_after_calls sha z (k + 1) (calls_from (world_after sha s w k x) (k + 1) xs)) (step_bare w k nobody x) ∙ all_bare (world_after sha s w k x) (k + 1) xs (step_nobody w k nobody x)
+
+  -- entries without a call note nothing
+  module _ (w : World) (k : ℕ) (h : AllByRecursion Quiet w.log) where
+    past_quiet : (who : Name) (c : Option Call) (o : Option Past) → AllByRecursion Quiet (option_map_or (called_if sha w k who c) o w).log
+    past_quiet who c None = h
+    past_quiet who None (Some past) = all-append Quiet w.log _ h ((λ e. refl), tt)
+    past_quiet who (Some c) (Some past) = all-append Quiet w.log _ h ((λ e. absurd (cc)), tt)
+
+    step_quiet : (x : Step) → AllByRecursion Quiet (world_after sha s w k x).log
+    step_quiet (CraftStep c) = all-append Quiet w.log _ h ((λ e. refl), tt)
+    step_quiet (StartStep who n) = past_quiet who (call_of sha s w k (StartStep who n)) (past_of w who)
+    step_quiet (ActStep who n label values) = past_quiet who (call_of sha s w k (ActStep who n label values)) (past_of w who)
+    step_quiet (AbandonStep who n) = past_quiet who (call_of sha s w k (AbandonStep who n)) (past_of w who)
+    step_quiet (DeliverStep who what) = past_quiet who (call_of sha s w k (DeliverStep who what)) (past_of w who)
+
+  all_quiet : (w : World) (k : ℕ) (xs : List Step) → AllByRecursion Quiet w.log → AllByRecursion Quiet (world_after_all sha s w k xs).log
+  all_quiet w k [] h = h
+  all_quiet w k (x ∷ xs) h = all_quiet (world_after sha s w k x) (k + 1) xs (step_quiet w k h x)
+
+-- ---- principals
+
+begin_new : (sha : Hash) (keys : List PairKey) (programs : List Program) (gs : List Graph) → AreCompiled sha gs programs → (names : List Name) → AllByRecursion (Begins sha) (map (new_past keys programs) names)
+begin_new sha keys programs gs compiled [] = tt
+begin_new sha keys programs gs compiled (n ∷ ns) = (record { calls = refl; programs = compiled.each; first = refl }, begin_new sha keys programs gs compiled ns)
+
+names_new : (keys : List PairKey) (programs : List Program) (names : List Name) → names_of (map (new_past keys programs) names) ≡ names
+names_new keys programs [] = refl
+names_new keys programs (n ∷ ns) = ap (λ l. n ∷ l) (names_new keys programs ns)
+
+module _ (sha : Hash) (hash : IsHash sha) (programs : List Program) (s : Schedule) (compiled : AreCompiled sha s.graphs programs) (sched : IsSchedule sha s) (accepted : All Accepted s.graphs) where
+  abbrev ps : List Past
+  ps = (new_world programs s).pasts
+
+  abbrev wf : World
+  wf = run sha programs s
+
+  nobody : past_of (new_world programs s) [] ≡ None
+  nobody = elim (cases_Option (past_of (new_world programs s) [])) [
+    | inl e ↦ e
+    | inr p ↦ absurd (let t = first_past s.keys programs s.honest [] p.0 p.1 in let n : is_name [] ≡ true = named s.honest (and_parts (all_differ s.honest) (list_all is_name s.honest) sched.honest_names).1 t.1 in cc)
+  ]
+    where
+      named : (ts : List Name) → list_all is_name ts ≡ true → has_text [] ts ≡ true → is_name [] ≡ true
+      named [] a h = absurd (cc)
+      named (t ∷ ts) a h =
+          let p = and_parts (is_name t) (list_all is_name ts) a in
+          elim (cases_Bool (bytes_eq [] t)) [ inl e ↦ subst (λ z. is_name z ≡ true) (sym (same_bytes [] t e)) p.0 | inr e ↦ named ts p.1 (rw e at h) ]
+
+  -- ---- ranges
+
+  declared_cast : (d : NamedSession) → IsDeclared sha s.graphs d → IsCast d.cast
+  declared_cast d h =
+      let i = in_from_Contains s.graphs h.graph h.is_there in
+      let is : IsGraph h.graph = all_in IsGraph s.graphs h.graph sched.are_graphs i in
+      let acc : Accepted h.graph = all_in Accepted s.graphs h.graph accepted i in
+      let len = h.count in
+      record {
+        version = h.version;
+        fields = record {
+          version = refl;
+          graph = subst (AreBytes 32) (sym h.digest) (hash (graph_text_of h.graph));
+          nonce = h.nonce;
+          count = ((let a = acc.two_roles in omega (arith, a, len)), (let a = is.sizes.0 in omega (arith, a, len)));
+          names = names_rec d.cast.names (and_parts (all_differ d.cast.names) (list_all is_name d.cast.names) h.names).1;
+        };
+      }
+    where
+      names_rec : (ns : List Name) → list_all is_name ns ≡ true → AllByRecursion (λ n. IsTrue (is_name n)) ns
+      names_rec [] h = tt
+      names_rec (n ∷ ns) h = let q = and_parts (is_name n) (list_all is_name ns) h in (q.0, names_rec ns q.1)
+
+  step_values : (k : ℕ) (vs : Map Value) → AllByRecursion (λ (w : ℕ × Value). (w.0 < 256) × IsValue w.1) vs → AreValues vs (map (λ (v : ℕ × Value). confounder k v.0) vs)
+  step_values k vs a = record { each = a; count = count vs; bytes = bytes vs }
+    where
+      count : (vs : Map Value) → length (map (λ (v : ℕ × Value). confounder k v.0) vs) ≡ length vs
+      count [] = refl
+      count (v ∷ vs) = (let l = count vs in omega (arith, l))
+
+      bytes : (vs : Map Value) → AllByRecursion (AreBytes 16) (map (λ (v : ℕ × Value). confounder k v.0) vs)
+      bytes [] = tt
+      bytes (v ∷ vs) = ((confounder_length k v.0, to_bytes (u64 k ++ u64 v.0) (bytes-append (u64 k) (u64 v.0) (u64_bytes k) (u64_bytes v.0))), bytes vs)
+
+  call_ranged : (w : World) (k : ℕ) (x : Step) → Fit sha hash programs s compiled sched w → IsStep sha s x → (c : Call) → call_of sha s w k x ≡ Some c → IsCallInRange c
+  call_ranged w k x fit good c e = go x good c e
+    where
+      start_ : (o : Option NamedSession) (n : ℕ) → slice_get s.sessions n ≡ o → (c : Call) → option_map Start (option_map (λ (d : NamedSession). d.cast) o) ≡ Some c → IsCallInRange c
+      start_ None n q c e = absurd (cc)
+      start_ (Some d) n q c e = let r : Start d.cast ≡ c = cc in subst IsCallInRange r (declared_cast d (declared_in NamedSession (IsDeclared sha s.graphs) s.sessions n d sched.sessions q))
+
+      deliver_ : (who : Name) (what : What) → IsStep sha s (DeliverStep who what) → (o : Option (List ℕ)) → bytes_of w what ≡ o → (c : Call) → option_map Deliver o ≡ Some c → IsCallInRange c
+      deliver_ who what gd None q c e = absurd (cc)
+      deliver_ who what gd (Some bs) q c e = let r : Deliver bs ≡ c = cc in subst IsCallInRange r (fit_bytes sha hash programs s compiled sched w fit who what bs gd q)
+
+      go : (y : Step) → IsStep sha s y → (c : Call) → call_of sha s w k y ≡ Some c → IsCallInRange c
+      go (StartStep who n) gd c e = start_ (slice_get s.sessions n) n refl c e
+      go (ActStep who n label values) gd c e = let r : Act (sid_at sha s n) label values (map (λ (v : ℕ × Value). confounder k v.0) values) ≡ c = cc in subst IsCallInRange r (step_values k values gd)
+      go (AbandonStep who n) gd c e = let r : Abandon (sid_at sha s n) ≡ c = cc in subst IsCallInRange r tt
+      go (DeliverStep who what) gd c e = deliver_ who what gd (bytes_of w what) refl c e
+      go (CraftStep cr) gd c e = absurd (cc)
+
+  at_ranged : (who : Option Name) (o : Option Call) → ((c : Call) → o ≡ Some c → IsCallInRange c) → IsCallInRange (call_at who o).call
+  at_ranged None o h = tt
+  at_ranged (Some who) None h = tt
+  at_ranged (Some who) (Some c) h = h c refl
+
+  all_ranged : (w : World) (k : ℕ) (xs : List Step) → Fit sha hash programs s compiled sched w → AllByRecursion (IsStep sha s) xs → AllByRecursion (λ (c : CallAt). IsCallInRange c.call) (calls_from sha s w k xs)
+  all_ranged w k [] fit good = tt
+  all_ranged w k (x ∷ xs) fit good = (at_ranged (who_of x) (call_of sha s w k x) (call_ranged w k x fit good.0), all_ranged (world_after sha s w k x) (k + 1) xs (fit_next sha hash programs s compiled sched w k x fit good.0) good.1)
+
+  -- ---- assumptions
+
+  same_honest : (n : Name) → is_honest (honest_are ps) n ≡ is_honest s n
+  same_honest n = ap (has_text n) (names_new s.keys programs s.honest)
+
+  graph_there : (names : List Name) (g : Graph) → In (flat_map (λ (p : Past). map (λ (q : Program). q.graph) p.programs) (map (new_past s.keys programs) names)) g → In s.graphs g
+  graph_there [] g i = absurd i
+  graph_there (n ∷ ns) g i = elim (in_parts (map (λ (q : Program). q.graph) programs) _ g i) [
+    | inl j ↦ of_programs programs (λ q j. j) j
+    | inr j ↦ graph_there ns g j
+  ]
+    where
+      of_programs : (xs : List Program) → ((q : Program) → In xs q → In programs q) → In (map (λ (q : Program). q.graph) xs) g → In s.graphs g
+      of_programs [] there j = absurd j
+      of_programs (q ∷ xs) there (inl e) = subst (In s.graphs) (sym e) (program_graph sha s.graphs programs compiled q (there q (inl refl)))
+      of_programs (q ∷ xs) there (inr j) = of_programs xs (λ z k. there z (inr k)) j
+
+  text_there : (gs : List Graph) → ((g : Graph) → In gs g → In s.graphs g) → (t : List ℕ) → In (map graph_text_of gs) t → In (map graph_text_of s.graphs) t
+  text_there [] f t i = absurd i
+  text_there (g ∷ gs) f t (inl e) = subst (In (map graph_text_of s.graphs)) (sym e) (in_map graph_text_of s.graphs g (f g (inl refl)))
+  text_there (g ∷ gs) f t (inr i) = text_there gs (λ z j. f z (inr j)) t i
+
+  hashed_there : (t : List ℕ) → In (hashed (honest_are ps) (bare wf)) t → In (hashed s wf) t
+  hashed_there t i = elim (in_parts (map graph_text_of (honest_are ps).graphs) (flat_map (λ (l : Logged). l.notes.hashed) (bare wf).log) t i) [
+    | inl j ↦ in_left (map graph_text_of s.graphs) (flat_map (λ (l : Logged). l.notes.hashed) wf.log) t (text_there (honest_are ps).graphs (graph_there s.honest) t j)
+    | inr j ↦ in_right (map graph_text_of s.graphs) (flat_map (λ (l : Logged). l.notes.hashed) wf.log) t (of_filtered has_call (λ (l : Logged). l.notes.hashed) wf.log t j)
+  ]
+
+  quiet_in : (xs : List Logged) (l : Logged) → AllByRecursion Quiet xs → In xs l → Quiet l
+  quiet_in [] l a i = absurd i
+  quiet_in (x ∷ xs) l a (inl e) = subst Quiet (sym e) a.0
+  quiet_in (x ∷ xs) l a (inr i) = quiet_in xs l a.1 i
+
+  premises_hold : Premises sha s wf → Premises sha (honest_are ps) (bare wf)
+  premises_hold h = record {
+    unforged = λ l n i j one two. made l.number n (h.unforged l n (contains_from_in wf.log l (in_filter has_call wf.log l (in_from_Contains (bare wf).log l i))) j (sym (same_honest n.one) ∙ one) (sym (same_honest n.two) ∙ two));
+    collision_free = λ a b i j e. h.collision_free a b (contains_from_in (hashed s wf) a (hashed_there a (in_from_Contains (hashed (honest_are ps) (bare wf)) a i))) (contains_from_in (hashed s wf) b (hashed_there b (in_from_Contains (hashed (honest_are ps) (bare wf)) b j))) e;
+  }
+    where
+      made : (k : ℕ) (n : _) → MadeBefore k n wf.log → MadeBefore k n (bare wf).log
+      made k n m = elim (cases_Bool (has_call m.0)) [
+        | inl e ↦ (m.0, contains_from_in (bare wf).log m.0 (filter_in has_call wf.log m.0 (in_from_Contains wf.log m.0 m.1) e), m.2, m.3)
+        | inr e ↦ absurd (let q = quiet_in wf.log m.0 (all_quiet sha s (new_world programs s) 1 s.steps tt) (in_from_Contains wf.log m.0 m.1) e in subst (λ ns. In ns.made n) q (in_from_Contains (m.0).notes.made n m.3))
+      ]
+
+  is_apart : IsApart sha programs s
+  is_apart =
+      let calls : List CallAt = calls_from sha s (new_world programs s) 1 s.steps in
+      let same : run_apart sha ps calls ≡ bare wf = all_bare sha s (new_world programs s) 1 s.steps nobody in
+      record {
+        begin = All-from_recursion (Begins sha) ps (begin_new sha s.keys programs s.graphs compiled s.honest);
+        calls = calls;
+        range = All-from_recursion (λ (c : CallAt). IsCallInRange c.call) calls (all_ranged (new_world programs s) 1 s.steps (fit_new sha hash programs s compiled sched) (recursion_from_All (IsStep sha s) s.steps sched.steps));
+        pasts = ap (λ (w : World). w.pasts) same;
+        log = ap (λ (w : World). w.log) same;
+        premises = λ h. subst (Premises sha (honest_are ps)) (sym same) (premises_hold h);
+      }
+
+pub schedules_run_apart : (sha : Hash) → IsHash sha → SchedulesRunApart sha
+schedules_run_apart sha hash programs s compiled sched accepted = is_apart sha hash programs s compiled sched accepted
