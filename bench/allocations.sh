@@ -211,7 +211,7 @@ RUNS = [
     ('replay of the shop', ['replay', 'f'], here / 'examples/shop-honest.schedule'),
     ('replay of a stolen key', ['replay', 'f'], here / 'examples/stolen-key.schedule'),
     ('replay of what is no schedule', ['replay', 'f'], 'honest a\nhonest a\n'),
-    ('drive of two roles', ['drive', '0', '2', 'f'], PAIR),
+    ('drive of two roles', ['drive', '0', '1', 'f'], PAIR),
     ('drive of the shop', ['drive', '0', '1', 'f'], here / 'examples/shop.graph'),
     ('drive of a blinding', ['drive', '0', '1', 'f'], here / 'examples/blinded.graph'),
     ('audit', ['audit', 'f'], here / 'examples/honest.logs'),

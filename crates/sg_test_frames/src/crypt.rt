@@ -47,7 +47,9 @@ tag_matches 'Jefe 'what_do_ya_want_ 'for_nothing? $ONE 'no
 
 # The same, as a version sends them, which comes first: cut to sixteen bytes in version 2.
 
+cut 02 20*0b 'Hi '_There b0344c61d8db38535ca8afceaf0bf12b+16*00
 cut 02 'Jefe 'what_do_ya_want_ 'for_nothing? 5bdcc146bf60754e6a042426089575c7+16*00
+cut 02 131*aa ' $LONG 60e431591ee0b67f0d8a26aacbf5b77f+16*00
 cut_matches 02 20*0b 'Hi '_There b0344c61d8db38535ca8afceaf0bf12b+16*00 'yes
 cut_matches 02 131*aa ' $LONG 60e431591ee0b67f0d8a26aacbf5b77f+16*00 'yes
 cut_matches 01 131*aa ' $LONG 60e431591ee0b67f0d8a26aacbf5b77f+16*00 'no
