@@ -1,0 +1,9 @@
+pub mod Logs
+pub mod Owns
+pub mod Drops
+pub mod Added
+pub mod Claims
+pub mod Walks
+pub mod Delivery
+pub mod GoesOn
+pub mod Turns
