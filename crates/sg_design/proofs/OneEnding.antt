@@ -195,7 +195,7 @@ module _ (name bytes : List ℕ) where
   one_compiled x _ (NotRead e) (Lacks l) = absurd (not_read l.graph x l.spelled e)
   one_compiled _ _ (Unfit {g} {f} s r) (Compiled {text} t) = absurd (compiled_unfit text g f t s r)
   one_compiled _ y (Unfit {g} s r) (NotRead e) = absurd (not_read g y s e)
-  one_compiled _ _ (Unfit {g} s r) (Unfit {h} t q) = ap (λ (k : Graph). GraphRefused k OutOfMemory) (same_graph g h s t)
+  one_compiled _ _ (Unfit {g} s r) (Unfit {g = h} t q) = ap (λ (k : Graph). GraphRefused k OutOfMemory) (same_graph g h s t)
   one_compiled _ _ (Unfit {g} {f} s r) (Lacks l) = absurd (unfit_lacks g f s r l)
   one_compiled _ _ (Lacks l) (Compiled {text} t) = absurd (compiled_lacks text t l)
   one_compiled _ y (Lacks l) (NotRead e) = absurd (not_read l.graph y l.spelled e)

@@ -53,10 +53,10 @@ never_both Is Early d g h ps f i j c w (index, at, stopped) =
 
 pub one_cause : (Is : Graph → Type 0) (Early : Ending → Type 0) → Determined Is Early → (x y : Ending) → Cause Is Early x → Cause Is Early y → x ≡ y
 one_cause Is Early d _ _ (Taken i c w) (Taken j b v) = refl
-one_cause Is Early d _ _ (Taken {g} {ps} i c w) (Refused {h} {f} j r) = absurd (never_both Is Early d g h ps f i j c w r)
+one_cause Is Early d _ _ (Taken {g} {ps} i c w) (Refused {g = h} {f = f} j r) = absurd (never_both Is Early d g h ps f i j c w r)
 one_cause Is Early d _ y (Taken {g} i c w) (Before e) = absurd (d.apart g y i e)
-one_cause Is Early d _ _ (Refused {h} {f} j r) (Taken {g} {ps} i c w) = absurd (never_both Is Early d g h ps f i j c w r)
-one_cause Is Early d _ _ (Refused {g} i r) (Refused {h} j s) = ap (λ (k : Graph). GraphRefused k OutOfMemory) (d.graph g h i j)
+one_cause Is Early d _ _ (Refused {g = h} {f = f} j r) (Taken {g} {ps} i c w) = absurd (never_both Is Early d g h ps f i j c w r)
+one_cause Is Early d _ _ (Refused {g} i r) (Refused {g = h} j s) = ap (λ (k : Graph). GraphRefused k OutOfMemory) (d.graph g h i j)
 one_cause Is Early d _ y (Refused {g} i r) (Before e) = absurd (d.apart g y i e)
 one_cause Is Early d x _ (Before e) (Taken {g} i c w) = absurd (d.apart g x i e)
 one_cause Is Early d x _ (Before e) (Refused {g} i r) = absurd (d.apart g x i e)

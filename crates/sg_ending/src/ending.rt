@@ -1,7 +1,7 @@
 //! How the program ends, and what it says of it.
 ghost use Rattle.std.specs.Prelude.{◌≡◌, ◌≢◌, ◌++◌, ◌∷◌, [], IfOk, OnErr, OnOk, codes};
 ghost use Rattle.sg_program.specs.FaultText.{refusal_text};
-ghost use Rattle.sg_ending.specs.Ending.{status_of, line_of, shown_byte, shown_arg};
+ghost use Rattle.sg_ending.specs.Ending.{status_of, line_of, program_text, shown_byte, shown_arg};
 ghost use Rattle.sg_ending.specs.Model.{ending_held};
 
 use sg_base::{ByteOut, OutOfMemory};
