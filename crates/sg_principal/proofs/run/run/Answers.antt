@@ -16,7 +16,7 @@ is_link (Err Play.OutOfMemory) = false
 
 -- another end is none by the link
 other : {r q : Result (Unit {0}) PlayFault} → r ≡ q → is_link q ≡ false → r ≢ Err Play.LinkFailed
-other same no failed = true≢false (sym (ap is_link failed) ∙ ap is_link same ∙ no)
+other same unlike failed = true≢false (sym (ap is_link failed) ∙ ap is_link same ∙ unlike)
 
 -- what is played by
 abbrev setup : Held.Setup → Setup
