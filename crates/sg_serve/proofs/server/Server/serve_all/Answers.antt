@@ -128,7 +128,7 @@ loop-line-preserved g c =
                 ));
           })
       | in-Ok-Some-TooLong+in_ok-serve_line-in-Ok-Some-TooLong+else-not-branch-2 w ↦
-          (let found : c.next.result ≡ Ok (Some found.TooLong) = search in
+          (let found : c.next.result ≡ Ok (Some found.TooLong) = search rules in
           let new : Outside = record { written = g.O.Sink.written w.serve_line-in-Ok-Some-TooLong.new.out; sent = g.L.Link.sent w.serve_line-in-Ok-Some-TooLong.new.link; coming = g.L.TimedLink.coming w.serve_line-in-Ok-Some-TooLong.new.link; failed = g.L.Link.faults w.serve_line-in-Ok-Some-TooLong.new.link } in
           let more : w.in_ok-serve_line-in-Ok-Some-TooLong.field-0 ≡ true = w.if-not-branch-2.false in
           record {
