@@ -19,8 +19,8 @@ returns-in-Ok-clause-serves g c =
       c.ended.ensures.ending,
     )
 
-pub returns-in-Err-clause-serves : goal.returns-in-Err-clause-serves
-returns-in-Err-clause-serves g c = inl (
+pub returns-clause-serves : goal.returns-clause-serves
+returns-clause-serves g c = inl (
   record {
     bound = c.in-Err.ensures.kept_bound;
     risen = c.in-Err.ensures.failed;

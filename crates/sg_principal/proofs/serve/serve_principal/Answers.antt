@@ -1,4 +1,4 @@
-use Rattle.std.proofs.Common.{inl, true, ◌∙◌}
+use Rattle.std.proofs.Common.{inl, inr, true, refl, ◌∙◌}
 use Rattle.sg_ending.specs.Model.{ending_held}
 use Rattle.sg_setup.specs.Setup.{Principal}
 use Rattle.sg_principal.specs.Ledgers.{Disked}
@@ -20,3 +20,6 @@ returns-in-Ok-clause-serves g c =
       c.in-Ok.ensures.opened,
       over_later true c.in-Ok.ledger.joins principal old new disk disk1 disk2 c.open_ledger.ensures.falls (ending_held c.serve_over.result) c.open_ledger.ensures.left c.serve_over.ensures.serves,
     ))
+
+pub returns-in-Err-clause-serves : goal.returns-in-Err-clause-serves
+returns-in-Err-clause-serves g c = rw c.in-Some.is (inr ((refl, refl, refl, refl), c.open_ledger.ensures.left, c.in-Err.ensures.tried, c.in-Err.ensures.lacks))
