@@ -6,7 +6,7 @@ use Rattle.sg_audit.proofs.OneAnswer.{logs_one, fault_one, no_logs}
 use Rattle.sg_drive.specs.Faults.{IsFullAt}
 use Rattle.sg_drive.specs.Generated.{Generated}
 use Rattle.sg_drive.specs.Going.{Going}
-use Rattle.sg_drive.proofs.Turning.{generated_is_one}
+use Rattle.sg_drive.specs.Laws.{GeneratedIsOne}
 use Rattle.sg_model.specs.Limits.{most_graph_file, most_logs_file, most_schedule_file}
 use Rattle.sg_parse.specs.Grammar.{SpellsGraph}
 use Rattle.sg_program.specs.Compiled.{IsWhole}
@@ -136,7 +136,7 @@ replay_cause bytes a a' Written (text, t, w) n = Replayed t
 replay_cause bytes a a' NoCommand (text, t, w) n = absurd w
 replay_cause bytes a a' (NoGraph fault) (same, e) n = WrongAt e
 replay_cause bytes a a' (NoExpansion fault) (text, t, w) n = absurd w
-replay_cause bytes a a' (GraphRefused g fault) (same, (s, a, r)) n = RefusedIn a r
+replay_cause bytes a a' (GraphRefused g fault) (same, (s, spelled, r)) n = RefusedIn spelled r
 replay_cause bytes a a' (NoRole role) (text, t, w) n = absurd w
 replay_cause bytes a a' (WrongLine line wrong) (same, e) n = WrongAt e
 replay_cause bytes a a' (KeysRefused fault) (text, t, w) n = absurd w
@@ -170,7 +170,7 @@ data DriveCause (seed sessions : ℕ) (bytes : List ℕ) : Ending → Type 0 whe
   RefusedOf : {g : Graph} {f : CompileFault} → SpellsGraph bytes g → IsFirstRefused (g ∷ []) g f → DriveCause seed sessions bytes (GraphRefused g OutOfMemory)
   FullOf : DrivesTooLong seed sessions bytes → DriveCause seed sessions bytes (TooLarge (codes "record"))
 
-module _ (seed sessions : ℕ) (bytes : List ℕ) where
+module _ (generated_is_one : GeneratedIsOne) (seed sessions : ℕ) (bytes : List ℕ) where
   one_graph : (g h : Graph) → SpellsGraph bytes g → SpellsGraph bytes h → g ≡ h
   one_graph g h s t = (of_graph bytes).graph g h s t
 
@@ -235,7 +235,8 @@ drive_cause seed sessions bytes a a' NoMemory h n = absurd (cc)
 drive_cause seed sessions bytes a a' (NoSuchFile arg) (text, t, w) n = absurd w
 drive_cause seed sessions bytes a a' (TooLarge what) (same, is, o) n = subst (λ w. DriveCause seed sessions bytes (TooLarge w)) (sym is) (FullOf o)
 
-pub drive_once : (seed sessions : ℕ) → EndsOnce (Drives seed sessions) most_graph_file
-drive_once seed sessions =
+-- since there is one generated run
+pub drive_once : GeneratedIsOne → (seed sessions : ℕ) → EndsOnce (Drives seed sessions) most_graph_file
+drive_once one seed sessions =
     file_once (Drives seed sessions) most_graph_file
-    (λ bytes a a' b b' x y h k p q. one_drive seed sessions bytes (asked x) (asked y) (drive_cause seed sessions bytes a a' x h p) (drive_cause seed sessions bytes b b' y k q))
+    (λ bytes a a' b b' x y h k p q. one_drive one seed sessions bytes (asked x) (asked y) (drive_cause seed sessions bytes a a' x h p) (drive_cause seed sessions bytes b b' y k q))
