@@ -1,0 +1,3 @@
+pub mod NodeJoins
+pub mod Lives
+pub mod Plays
