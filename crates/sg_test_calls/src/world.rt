@@ -85,7 +85,7 @@ fn of_world(alloc: Global, world: &World<'_>, call: &str, asked: &[Vec<u8>]) -> 
     let mut out = ByteOut::new(alloc);
     match asked {
         [sid] => put_walk(&mut out, world.walk_of(Sid(fixed(sid)?))).ok()?,
-        [] if call == "unforged" => put_forged(&mut out, world.unforged()).ok()?,
+        [] if call == "unforged" => put_forged(&mut out, &world.unforged()).ok()?,
         [] => match world.collision_free() {
             Ok(()) => out.bytes(b"holds").ok()?,
             Err(fault) => write!(out, "{fault}").ok()?,
@@ -109,7 +109,7 @@ fn put_walk(out: &mut ByteOut, walk: Result<StoredWalk, WalkFault>) -> Result<()
 }
 
 // Puts the step of the first forged tag, its principals, and the text under it.
-fn put_forged(out: &mut ByteOut, forged: Result<(), ForgedFault>) -> Result<(), OutOfMemory> {
+fn put_forged(out: &mut ByteOut, forged: &Result<(), ForgedFault>) -> Result<(), OutOfMemory> {
     match forged {
         Ok(()) => out.bytes(b"holds"),
         Err(
