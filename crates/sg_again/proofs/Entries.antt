@@ -6,7 +6,7 @@ use Rattle.std.specs.Map.{keys_of, values_of, lookup, remove_entry, set_value}
 use Rattle.std.specs.Option.{unwrap_or}
 use Rattle.std.specs.Set.{remove_key}
 use Rattle.std.proofs.lemmas.Bool.{cases_Bool}
-use Rattle.sg_again.specs.LastFrames.{Kept, is_over}
+use Rattle.sg_again.specs.LastFrames.{KeptFrame, is_over}
 use Rattle.sg_again.specs.Invariant.{Entry, index_by}
 
 -- ---- what holds of each entry
@@ -32,7 +32,7 @@ over_indices es = keys_of (filter (λ (e : Entry). is_over e.1) es)
 
 -- ---- a test of the session
 
-module _ (s : Kept → Bool) where
+module _ (s : KeptFrame → Bool) where
   -- no entry passes
   abbrev pub NonePass : List Entry → Type 0
   NonePass es = AllByRecursion (λ (x : Entry). s x.1 ≡ false) es
@@ -58,14 +58,14 @@ module _ (s : Kept → Bool) where
   ]
 
   -- the entries, with those that pass written over
-  abbrev pub written : (Kept → Kept) → List Entry → List Entry
+  abbrev pub written : (KeptFrame → KeptFrame) → List Entry → List Entry
   written f es = map (λ (e : Entry). if s e.1 then (e.0, f e.1) else e) es
 
-  pub written-none : (f : Kept → Kept) (es : List Entry) → NonePass es → written f es ≡ es
+  pub written-none : (f : KeptFrame → KeptFrame) (es : List Entry) → NonePass es → written f es ≡ es
   written-none f [] h = refl
   written-none f (e ∷ es) h = rw h.0 (ap (λ r. e ∷ r) (written-none f es h.1))
 
-  pub values-written : (f : Kept → Kept) (es : List Entry) → values_of (written f es) ≡ map (λ k. if s k then f k else k) (values_of es)
+  pub values-written : (f : KeptFrame → KeptFrame) (es : List Entry) → values_of (written f es) ≡ map (λ k. if s k then f k else k) (values_of es)
   values-written f [] = refl
   values-written f (e ∷ es) = elim (cases_Bool (s e.1)) [
     | inl p ↦ rw p (ap (λ r. f e.1 ∷ r) (values-written f es))
@@ -115,11 +115,11 @@ module _ (s : Kept → Bool) where
     ]
 
     -- the one that passes is written over
-    pub set-written : (f : Kept → Kept) (k : Kept) (es : List Entry) → Agree es → Once es → lookup t es ≡ Some k → set_value t es (f k) ≡ written f es
+    pub set-written : (f : KeptFrame → KeptFrame) (k : KeptFrame) (es : List Entry) → Agree es → Once es → lookup t es ≡ Some k → set_value t es (f k) ≡ written f es
     set-written f k [] a o h = refl
     set-written f k (e ∷ es) a o h = elim (cases_Bool (s e.1)) [
       | inl p ↦ let n = rw (a.0, p) at h in
-          let same : e.1 ≡ k = ap (λ (x : Option Kept). unwrap_or x k) n in
+          let same : e.1 ≡ k = ap (λ (x : Option KeptFrame). unwrap_or x k) n in
           rw (a.0, p, written-none f es (o.0 p)) (ap (λ x. (e.0, f x) ∷ es) (sym same))
       | inr p ↦ let n = rw (a.0, p) at h in rw (a.0, p) (ap (λ r. e ∷ r) (set-written f k es a.1 o.1 n))
     ]

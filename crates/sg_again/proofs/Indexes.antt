@@ -13,7 +13,7 @@ use Rattle.sg_model.proofs.Small.{bytes_eq-flip}
 use Rattle.std.proofs.lemmas.Slice.Eq.{slice_eq-Decides, bytes_eq-Decides}
 use Rattle.std.proofs.lemmas.Bool.Decides.{Decides-eqb, nat_tests, same_from_decides}
 use Rattle.sg_base.specs.contracts.number.SidPartialEq.TheImpl.{eq-value}
-use Rattle.sg_again.specs.LastFrames.{Kept, SentFrame, most_over, is_of, is_over, over, without_first_over, within_limit, sent, ended, frame_of}
+use Rattle.sg_again.specs.LastFrames.{KeptFrame, SentFrame, most_over, is_of, is_over, over, without_first_over, within_limit, sent, ended, frame_of}
 use Rattle.sg_again.specs.Invariant.{Entry, index_by, Apart, Below, Indexed}
 use Rattle.sg_again.proofs.Entries.{all_more, all_filter, all_append, over_indices, NonePass, others, others-none, none_indexed, written, written-none, values-written, values-others, remove-others, remove_key-others, set-written, lookup-found, length-over}
 use Rattle.sg_again.proofs.Indices.{at, at_same, once, agree, apart-others, apart-append, apart-written, below-written, indexed-written, indexed-sent, indexed-others, insert-written, first_leaves, indexed_found}
@@ -34,7 +34,7 @@ lookup-same sid (p ∷ ps) = rw (same-bytes_eq sid p.0, lookup-same sid ps) refl
 -- ---- a frame is sent
 
 -- the frames after the new one was put behind the others, and the earlier one was taken out if there is one
-pub sent_entries : (es : List Entry) (sid : List ℕ) (n : ℕ) (k : Kept) (earlier : Option ℕ) (after : List Entry) → Apart es → index_by (is_of sid) es ≡ earlier
+pub sent_entries : (es : List Entry) (sid : List ℕ) (n : ℕ) (k : KeptFrame) (earlier : Option ℕ) (after : List Entry) → Apart es → index_by (is_of sid) es ≡ earlier
     → (earlier ≡ None → after ≡ es ++ (n, k) ∷ [])
     → ((m : ℕ) → earlier ≡ Some m → after ≡ remove_entry (at m) (es ++ (n, k) ∷ []))
     → after ≡ others (is_of sid) es ++ (n, k) ∷ []
@@ -48,18 +48,18 @@ pub sent_over : (es : List Entry) (sid : List ℕ) (earlier : Option ℕ) (befor
 sent_over es sid None before after h p o none some = none refl ∙ o ∙ ap over_indices (sym (others-none (is_of sid) es (none_indexed (is_of sid) es p)))
 sent_over es sid (Some m) before after h p o none some = some m refl ∙ ap (remove_key (at m)) o ∙ remove_key-others (is_of sid) (at m) es (agree sid m es h p) (once sid es h)
 
-over_indices-append : (es : List Entry) (n : ℕ) (k : Kept) → k.live ≡ true → over_indices (es ++ (n, k) ∷ []) ≡ over_indices es
+over_indices-append : (es : List Entry) (n : ℕ) (k : KeptFrame) → k.live ≡ true → over_indices (es ++ (n, k) ∷ []) ≡ over_indices es
 over_indices-append [] n k l = rw l refl
 over_indices-append (e ∷ es) n k l = elim (cases_Bool e.1.live) [
   | inl p ↦ rw p (over_indices-append es n k l)
   | inr p ↦ rw p (ap (λ r. e.0 ∷ r) (over_indices-append es n k l))
 ]
 
-values-append : (es : List Entry) (n : ℕ) (k : Kept) → values_of (es ++ (n, k) ∷ []) ≡ values_of es ++ k ∷ []
+values-append : (es : List Entry) (n : ℕ) (k : KeptFrame) → values_of (es ++ (n, k) ∷ []) ≡ values_of es ++ k ∷ []
 values-append [] n k = refl
 values-append (e ∷ es) n k = ap (λ r. e.1 ∷ r) (values-append es n k)
 
-not_others : (sid : List ℕ) (es : List Entry) (k : Kept) → k.session ≡ sid → AllByRecursion (λ (x : Entry). is_of x.1.session k ≡ false) (others (is_of sid) es)
+not_others : (sid : List ℕ) (es : List Entry) (k : KeptFrame) → k.session ≡ sid → AllByRecursion (λ (x : Entry). is_of x.1.session k ≡ false) (others (is_of sid) es)
 not_others sid [] k c = tt
 not_others sid (e ∷ es) k c = elim (cases_Bool (is_of sid e.1)) [
   | inl p ↦ rw p (not_others sid es k c)
@@ -76,23 +76,23 @@ pub sent_indexed : (es after : List Entry) (before over' : List ℕ) (ps ps' : L
     → ((q : List ℕ) → lookup (bytes_eq q) ps' ≡ (if bytes_eq sid q then Some n else lookup (bytes_eq q) ps))
     → Indexed after over' ps'
 sent_indexed es after before over' ps ps' sid n f h b e o l =
-    let k : Kept = record { session = sid; frame = f; live = true } in
+    let k : KeptFrame = record { session = sid; frame = f; live = true } in
     subst (λ (x : List Entry). Indexed x over' ps') (sym e) (record {
       apart = apart-append (others (is_of sid) es) n k (apart-others (is_of sid) es h.apart) (all_filter (λ (x : Entry). x.0 < n) (λ (x : Entry). not (is_of sid x.1)) es b) (not_others sid es k refl);
       over_is = o ∙ sym (over_indices-append (others (is_of sid) es) n k refl);
       found = λ q. l q ∙ rw (h.found q) (sym (indexed-sent sid q n k es refl));
     })
 
-pub sent_below : (es after : List Entry) (sid : List ℕ) (n : ℕ) (k : Kept) → Below n es → after ≡ others (is_of sid) es ++ (n, k) ∷ [] → Below (n + 1) after
+pub sent_below : (es after : List Entry) (sid : List ℕ) (n : ℕ) (k : KeptFrame) → Below n es → after ≡ others (is_of sid) es ++ (n, k) ∷ [] → Below (n + 1) after
 sent_below es after sid n k b e = subst (Below (n + 1)) (sym e) (all_append (λ (x : Entry). x.0 < n + 1) (others (is_of sid) es) (n, k) (all_more (λ x p. omega (arith, p)) (others (is_of sid) es) (all_filter (λ (x : Entry). x.0 < n) (λ (x : Entry). not (is_of sid x.1)) es b)) (omega arith))
 
 -- ---- a session ends
 
 -- a frame whose session is live no more
-abbrev pub ended_frame : Kept → Kept
+abbrev pub ended_frame : KeptFrame → KeptFrame
 ended_frame k = record { session = k.session; frame = k.frame; live = false }
 
-pub ended_entries : (es after : List Entry) (sid : List ℕ) (m : ℕ) (k : Kept) → Apart es → index_by (is_of sid) es ≡ Some m → lookup (at m) es ≡ Some k
+pub ended_entries : (es after : List Entry) (sid : List ℕ) (m : ℕ) (k : KeptFrame) → Apart es → index_by (is_of sid) es ≡ Some m → lookup (at m) es ≡ Some k
     → after ≡ set_value (at m) es (ended_frame k) → after ≡ written (is_of sid) ended_frame es
 ended_entries es after sid m k h p l e = e ∙ set-written (is_of sid) (at m) ended_frame k es (agree sid m es h p) (once sid es h) l
 
@@ -116,12 +116,12 @@ ended_values es after sid e = ap values_of e ∙ values-written (is_of sid) ende
 
 -- ---- the first of those that are live no more leaves
 
-pub first_is : (es after : List Entry) (n : ℕ) (k : Kept) → Apart es → lookup (at n) es ≡ Some k → after ≡ remove_entry (at n) es → after ≡ others (is_of k.session) es
+pub first_is : (es after : List Entry) (n : ℕ) (k : KeptFrame) → Apart es → lookup (at n) es ≡ Some k → after ≡ remove_entry (at n) es → after ≡ others (is_of k.session) es
 first_is es after n k h l e =
     let p = indexed_found n k es h l in
     e ∙ ap (remove_entry (at n)) (sym (append-nil es)) ∙ remove-others (is_of k.session) (at n) es [] n (agree k.session n es h p) (once k.session es h) p ∙ append-nil (others (is_of k.session) es)
 
-pub first_indexed : (es after : List Entry) (n : ℕ) (ns : List ℕ) (ps ps' : List (List ℕ × ℕ)) (k : Kept)
+pub first_indexed : (es after : List Entry) (n : ℕ) (ns : List ℕ) (ps ps' : List (List ℕ × ℕ)) (k : KeptFrame)
     → Indexed es (n ∷ ns) ps → lookup (at n) es ≡ Some k
     → after ≡ remove_entry (at n) es
     → ((q : List ℕ) → lookup (bytes_eq q) ps' ≡ (if bytes_eq k.session q then None else lookup (bytes_eq q) ps))
@@ -135,7 +135,7 @@ first_indexed es after n ns ps ps' k h l e f =
       found = λ q. f q ∙ rw (h.found q) (sym (indexed-others k.session q es));
     })
 
-pub first_below : (es after : List Entry) (n next : ℕ) (k : Kept) → Apart es → lookup (at n) es ≡ Some k → after ≡ remove_entry (at n) es → Below next es → Below next after
+pub first_below : (es after : List Entry) (n next : ℕ) (k : KeptFrame) → Apart es → lookup (at n) es ≡ Some k → after ≡ remove_entry (at n) es → Below next es → Below next after
 first_below es after n next k h l e b = subst (Below next) (sym (first_is es after n k h l e)) (all_filter (λ (x : Entry). x.0 < next) (λ (x : Entry). not (is_of k.session x.1)) es b)
 
 pub first_values : (es after : List Entry) (n : ℕ) (ns : List ℕ) → Apart es → n ∷ ns ≡ over_indices es → after ≡ remove_entry (at n) es → values_of after ≡ without_first_over (values_of es)
@@ -155,10 +155,10 @@ over_by b n e l = elim (cases_Bool b) [
   | inr f ↦ absurd (grind (arith, nat_tests, e, f, l))
 ]
 
-limit_few : (ks : List Kept) → length (filter is_over ks) ≤ most_over → within_limit ks ≡ ks
+limit_few : (ks : List KeptFrame) → length (filter is_over ks) ≤ most_over → within_limit ks ≡ ks
 limit_few ks l = rw (limit_by (nat_lt most_over (length (filter is_over ks))) (length (filter is_over ks)) refl l) refl
 
-limit_many : (ks : List Kept) → most_over < length (filter is_over ks) → within_limit ks ≡ without_first_over ks
+limit_many : (ks : List KeptFrame) → most_over < length (filter is_over ks) → within_limit ks ≡ without_first_over ks
 limit_many ks l = rw (over_by (nat_lt most_over (length (filter is_over ks))) (length (filter is_over ks)) refl l) refl
 
 counted : (es : List Entry) (before : List ℕ) (ps : List (List ℕ × ℕ)) → Indexed es before ps → length before ≡ length (filter is_over (values_of es))
@@ -186,30 +186,30 @@ pub record EndedAt (es after : List Entry) (over' : List ℕ) (ps : List (List �
 
 -- ---- what is asked
 
-found_by : (s : Kept → Bool) (es : List Entry) (m : ℕ) → index_by s es ≡ Some m → (k : Kept) × (find s (values_of es) ≡ Some k)
+found_by : (s : KeptFrame → Bool) (es : List Entry) (m : ℕ) → index_by s es ≡ Some m → (k : KeptFrame) × (find s (values_of es) ≡ Some k)
 found_by s [] m h = absurd (let z : None ≡ Some m = h in cc)
 found_by s (e ∷ es) m h = elim (cases_Bool (s e.1)) [
   | inl p ↦ (e.1, rw p refl)
   | inr p ↦ let n = rw p at h in let rest = found_by s es m n in (rest.0, rw p rest.1)
 ]
 
-none_by : (s : Kept → Bool) (es : List Entry) → NonePass s es → find s (values_of es) ≡ None
+none_by : (s : KeptFrame → Bool) (es : List Entry) → NonePass s es → find s (values_of es) ≡ None
 none_by s [] h = refl
 none_by s (e ∷ es) h = rw h.0 (none_by s es h.1)
 
 -- something is kept at a session's index
-pub kept_at : (es : List Entry) (before : List ℕ) (ps : List (List ℕ × ℕ)) (sid : List ℕ) (m : ℕ) → Indexed es before ps → index_by (is_of sid) es ≡ Some m → (k : Kept) × (lookup (at m) es ≡ Some k)
+pub kept_at : (es : List Entry) (before : List ℕ) (ps : List (List ℕ × ℕ)) (sid : List ℕ) (m : ℕ) → Indexed es before ps → index_by (is_of sid) es ≡ Some m → (k : KeptFrame) × (lookup (at m) es ≡ Some k)
 kept_at es before ps sid m h p = let found = found_by (is_of sid) es m p in (found.0, lookup-found (is_of sid) (at m) es (agree sid m es h.apart p) ∙ found.1)
 
-pub frame_found : (es : List Entry) (before : List ℕ) (ps : List (List ℕ × ℕ)) (sid : List ℕ) (m : ℕ) (o : Option Kept) → Indexed es before ps → lookup (bytes_eq sid) ps ≡ Some m → lookup (at m) es ≡ o → option_map (λ (k : Kept). k.frame) o ≡ frame_of (values_of es) sid
-frame_found es before ps sid m o h l f = ap (λ (x : Option Kept). option_map (λ (k : Kept). k.frame) x) (sym f ∙ lookup-found (is_of sid) (at m) es (agree sid m es h.apart (sym (h.found sid) ∙ l)))
+pub frame_found : (es : List Entry) (before : List ℕ) (ps : List (List ℕ × ℕ)) (sid : List ℕ) (m : ℕ) (o : Option KeptFrame) → Indexed es before ps → lookup (bytes_eq sid) ps ≡ Some m → lookup (at m) es ≡ o → option_map (λ (k : KeptFrame). k.frame) o ≡ frame_of (values_of es) sid
+frame_found es before ps sid m o h l f = ap (λ (x : Option KeptFrame). option_map (λ (k : KeptFrame). k.frame) x) (sym f ∙ lookup-found (is_of sid) (at m) es (agree sid m es h.apart (sym (h.found sid) ∙ l)))
 
 pub frame_missing : (es : List Entry) (before : List ℕ) (ps : List (List ℕ × ℕ)) (sid : List ℕ) → Indexed es before ps → lookup (bytes_eq sid) ps ≡ None → None ≡ frame_of (values_of es) sid
-frame_missing es before ps sid h l = ap (λ (x : Option Kept). option_map (λ (k : Kept). k.frame) x) (sym (none_by (is_of sid) es (none_indexed (is_of sid) es (sym (h.found sid) ∙ l))))
+frame_missing es before ps sid h l = ap (λ (x : Option KeptFrame). option_map (λ (k : KeptFrame). k.frame) x) (sym (none_by (is_of sid) es (none_indexed (is_of sid) es (sym (h.found sid) ∙ l))))
 
 pub ended_at : (es after : List Entry) (before over' : List ℕ) (ps : List (List ℕ × ℕ)) (sid : List ℕ) (m next : ℕ) (found : Option ℕ)
     → Indexed es before ps → Below next es → found ≡ lookup (bytes_eq sid) ps → found ≡ Some m
-    → ((k : Kept) → lookup (at m) es ≡ Some k → after ≡ set_value (at m) es (ended_frame k))
+    → ((k : KeptFrame) → lookup (at m) es ≡ Some k → after ≡ set_value (at m) es (ended_frame k))
     → over' ≡ insert_key nat_cmp before m
     → EndedAt es after over' ps sid next
 ended_at es after before over' ps sid m next found h b asked is e o =
@@ -228,7 +228,7 @@ pub record SentAt (es after : List Entry) (over' : List ℕ) (ps' : List (List �
   pub below : Below (n + 1) after
   pub values : values_of after ≡ sent (values_of es) sid f
 
-pub sent_at : (es after put : List Entry) (before over' : List ℕ) (ps asked ps' : List (List ℕ × ℕ)) (sid : List ℕ) (n : ℕ) (f : SentFrame) (k : Kept) (earlier : Option ℕ)
+pub sent_at : (es after put : List Entry) (before over' : List ℕ) (ps asked ps' : List (List ℕ × ℕ)) (sid : List ℕ) (n : ℕ) (f : SentFrame) (k : KeptFrame) (earlier : Option ℕ)
     → Indexed es before ps → Below n es
     → asked ≡ ps → earlier ≡ lookup (bytes_eq sid) asked
     → k ≡ record { session = sid; frame = f; live = true }
@@ -239,9 +239,9 @@ pub sent_at : (es after put : List Entry) (before over' : List ℕ) (ps asked ps
     → SentAt es after over' ps' sid n f
 sent_at es after put before over' ps asked ps' sid n f k earlier h b same found is last none some l =
     let p : index_by (is_of sid) es ≡ earlier = sym (h.found sid) ∙ sym (found ∙ ap (λ (xs : List (List ℕ × ℕ)). lookup (bytes_eq sid) xs) same) in
-    let new : Kept = record { session = sid; frame = f; live = true } in
+    let new : KeptFrame = record { session = sid; frame = f; live = true } in
     let e : after ≡ others (is_of sid) es ++ (n, new) ∷ [] =
-    subst (λ (x : Kept). after ≡ others (is_of sid) es ++ (n, x) ∷ []) is (sent_entries es sid n k earlier after h.apart p (λ z. (none z).0 ∙ last) (λ m z. (some m z).0 ∙ ap (remove_entry (at m)) last)) in
+    subst (λ (x : KeptFrame). after ≡ others (is_of sid) es ++ (n, x) ∷ []) is (sent_entries es sid n k earlier after h.apart p (λ z. (none z).0 ∙ last) (λ m z. (some m z).0 ∙ ap (remove_entry (at m)) last)) in
     let o = sent_over es sid earlier before over' h.apart p h.over_is (λ z. (none z).1) (λ m z. (some m z).1) in
     record {
       indexed = sent_indexed es after before over' ps ps' sid n f h b e o (λ q. l q ∙ ap (λ (xs : List (List ℕ × ℕ)). if bytes_eq sid q then Some n else lookup (bytes_eq q) xs) same);

@@ -13,7 +13,7 @@ use Rattle.std.proofs.lemmas.Bool.{cases_Bool}
 use Rattle.std.proofs.lemmas.Bool.Decides.{nat_tests}
 use Rattle.std.proofs.lemmas.Slice.Eq.{bytes_eq-Decides}
 use Rattle.sg_model.proofs.Small.{bytes_eq-swap, bytes_eq-flip, bytes_refl, same_or_not}
-use Rattle.sg_again.specs.LastFrames.{Kept, is_of, without_first_over}
+use Rattle.sg_again.specs.LastFrames.{KeptFrame, is_of, without_first_over}
 use Rattle.sg_again.specs.Invariant.{Entry, index_by, Apart}
 use Rattle.sg_again.proofs.Entries.{all_more, all_filter, all_append, over_indices, Once, others, written, written-none, Agree}
 
@@ -34,7 +34,7 @@ at_more n k l = ap is_eq (sym (nat_cmp_is n k Less l))
 
 -- ---- sessions compared
 
-pub other_session : (sid : List ℕ) (k x : Kept) → is_of sid k ≡ true → is_of k.session x ≡ false → is_of sid x ≡ false
+pub other_session : (sid : List ℕ) (k x : KeptFrame) → is_of sid k ≡ true → is_of k.session x ≡ false → is_of sid x ≡ false
 other_session sid k x p q = subst (λ (t : List ℕ). bytes_eq t x.session ≡ false) (sym ((bytes_eq-Decides sid k.session).0 p)) q
 
 -- each session has one entry at most
@@ -44,7 +44,7 @@ once sid (e ∷ es) h = (λ p. all_more (λ x q. other_session sid e.1 x.1 p q.1
 
 -- ---- the index of a session
 
-pub indexed_above : (s : Kept → Bool) (a m : ℕ) (es : List Entry) → AllByRecursion (λ (x : Entry). a < x.0) es → index_by s es ≡ Some m → a < m
+pub indexed_above : (s : KeptFrame → Bool) (a m : ℕ) (es : List Entry) → AllByRecursion (λ (x : Entry). a < x.0) es → index_by s es ≡ Some m → a < m
 indexed_above s a m [] h p = absurd (let n : None ≡ Some m = p in cc)
 indexed_above s a m (e ∷ es) h p = elim (cases_Bool (s e.1)) [
   | inl q ↦ let k = rw q at p in
@@ -67,28 +67,28 @@ agree sid m (e ∷ es) h p = elim (cases_Bool (is_of sid e.1)) [
 
 -- ---- what stays apart
 
-pub apart-others : (s : Kept → Bool) (es : List Entry) → Apart es → Apart (others s es)
+pub apart-others : (s : KeptFrame → Bool) (es : List Entry) → Apart es → Apart (others s es)
 apart-others s [] h = tt
 apart-others s (e ∷ es) h = elim (cases_Bool (s e.1)) [
   | inl p ↦ rw p (apart-others s es h.1)
   | inr p ↦ rw p (all_filter (λ (x : Entry). (e.0 < x.0) × (is_of e.1.session x.1 ≡ false)) (λ (x : Entry). not (s x.1)) es h.0, apart-others s es h.1)
 ]
 
-pub apart-append : (es : List Entry) (n : ℕ) (k : Kept) → Apart es → AllByRecursion (λ (x : Entry). x.0 < n) es → AllByRecursion (λ (x : Entry). is_of x.1.session k ≡ false) es → Apart (es ++ (n, k) ∷ [])
+pub apart-append : (es : List Entry) (n : ℕ) (k : KeptFrame) → Apart es → AllByRecursion (λ (x : Entry). x.0 < n) es → AllByRecursion (λ (x : Entry). is_of x.1.session k ≡ false) es → Apart (es ++ (n, k) ∷ [])
 apart-append [] n k h b o = (tt, tt)
 apart-append (e ∷ es) n k h b o = (all_append (λ (x : Entry). (e.0 < x.0) × (is_of e.1.session x.1 ≡ false)) es (n, k) h.0 (b.0, o.0), apart-append es n k h.1 b.1 o.1)
 
-all-written : (P : Entry → Type 0) (s : Kept → Bool) (f : Kept → Kept) (es : List Entry) → ((x : Entry) → P x → P (x.0, f x.1)) → AllByRecursion P es → AllByRecursion P (written s f es)
+all-written : (P : Entry → Type 0) (s : KeptFrame → Bool) (f : KeptFrame → KeptFrame) (es : List Entry) → ((x : Entry) → P x → P (x.0, f x.1)) → AllByRecursion P es → AllByRecursion P (written s f es)
 all-written P s f [] more h = tt
 all-written P s f (e ∷ es) more h = elim (cases_Bool (s e.1)) [
   | inl p ↦ rw p (more e h.0, all-written P s f es more h.1)
   | inr p ↦ rw p (h.0, all-written P s f es more h.1)
 ]
 
-pub below-written : (n : ℕ) (s : Kept → Bool) (f : Kept → Kept) (es : List Entry) → AllByRecursion (λ (x : Entry). x.0 < n) es → AllByRecursion (λ (x : Entry). x.0 < n) (written s f es)
+pub below-written : (n : ℕ) (s : KeptFrame → Bool) (f : KeptFrame → KeptFrame) (es : List Entry) → AllByRecursion (λ (x : Entry). x.0 < n) es → AllByRecursion (λ (x : Entry). x.0 < n) (written s f es)
 below-written n s f es h = all-written (λ (x : Entry). x.0 < n) s f es (λ x p. p) h
 
-module _ (s : Kept → Bool) (f : Kept → Kept) (keeps : (k : Kept) → (f k).session ≡ k.session) where
+module _ (s : KeptFrame → Bool) (f : KeptFrame → KeptFrame) (keeps : (k : KeptFrame) → (f k).session ≡ k.session) where
   abbrev After : Entry → Entry → Type 0
   After e x = (e.0 < x.0) × (is_of e.1.session x.1 ≡ false)
 
@@ -114,13 +114,13 @@ module _ (s : Kept → Bool) (f : Kept → Kept) (keeps : (k : Kept) → (f k).s
 
 -- ---- the indices after a frame is put behind those of other sessions, and after one is taken out
 
-not_of_other : (sid q : List ℕ) (k : Kept) → is_of sid k ≡ true → bytes_eq sid q ≡ false → is_of q k ≡ false
+not_of_other : (sid q : List ℕ) (k : KeptFrame) → is_of sid k ≡ true → bytes_eq sid q ≡ false → is_of q k ≡ false
 not_of_other sid q k p d = bytes_eq-flip k.session q (subst (λ (t : List ℕ). bytes_eq t q ≡ false) ((bytes_eq-Decides sid k.session).0 p) d)
 
-not_of_same : (sid q : List ℕ) (k : Kept) → is_of sid k ≡ false → bytes_eq sid q ≡ true → is_of q k ≡ false
+not_of_same : (sid q : List ℕ) (k : KeptFrame) → is_of sid k ≡ false → bytes_eq sid q ≡ true → is_of q k ≡ false
 not_of_same sid q k p d = subst (λ (t : List ℕ). bytes_eq t k.session ≡ false) ((bytes_eq-Decides sid q).0 d) p
 
-pub indexed-sent : (sid q : List ℕ) (n : ℕ) (k : Kept) (es : List Entry) → k.session ≡ sid → index_by (is_of q) (others (is_of sid) es ++ (n, k) ∷ []) ≡ (if bytes_eq sid q then Some n else index_by (is_of q) es)
+pub indexed-sent : (sid q : List ℕ) (n : ℕ) (k : KeptFrame) (es : List Entry) → k.session ≡ sid → index_by (is_of q) (others (is_of sid) es ++ (n, k) ∷ []) ≡ (if bytes_eq sid q then Some n else index_by (is_of q) es)
 indexed-sent sid q n k [] c = rw (c, bytes_eq-swap q sid) refl
 indexed-sent sid q n k (e ∷ es) c = elim (cases_Bool (is_of sid e.1)) [
   | inl p ↦ elim (cases_Bool (bytes_eq sid q)) [
@@ -148,7 +148,7 @@ indexed-others sid q (e ∷ es) = elim (cases_Bool (is_of sid e.1)) [
 
 -- ---- the order of indices
 
-pub insert_last : (es : List Entry) (n : ℕ) (k : Kept) → AllByRecursion (λ (x : Entry). x.0 < n) es → insert_entry nat_cmp es n k ≡ es ++ (n, k) ∷ []
+pub insert_last : (es : List Entry) (n : ℕ) (k : KeptFrame) → AllByRecursion (λ (x : Entry). x.0 < n) es → insert_entry nat_cmp es n k ≡ es ++ (n, k) ∷ []
 insert_last [] n k h = refl
 insert_last (e ∷ es) n k h = rw (sym (nat_cmp_is n e.0 Greater h.0)) (ap (λ r. e ∷ r) (insert_last es n k h.1))
 
@@ -160,7 +160,7 @@ insert_first (e ∷ es) n h = elim (cases_Bool e.1.live) [
 ]
 
 -- if the session is live no more, its index is among those of such sessions
-pub insert-written : (sid : List ℕ) (f : Kept → Kept) (m : ℕ) (es : List Entry) → ((k : Kept) → (f k).live ≡ false) → Apart es → index_by (is_of sid) es ≡ Some m → insert_key nat_cmp (over_indices es) m ≡ over_indices (written (is_of sid) f es)
+pub insert-written : (sid : List ℕ) (f : KeptFrame → KeptFrame) (m : ℕ) (es : List Entry) → ((k : KeptFrame) → (f k).live ≡ false) → Apart es → index_by (is_of sid) es ≡ Some m → insert_key nat_cmp (over_indices es) m ≡ over_indices (written (is_of sid) f es)
 insert-written sid f m [] ends h p = absurd (let n : None ≡ Some m = p in cc)
 insert-written sid f m (e ∷ es) ends h p = elim (cases_Bool (is_of sid e.1)) [
   | inl q ↦ let k = rw q at p in
@@ -199,7 +199,7 @@ first_found n ns (e ∷ es) o l = elim (cases_Bool (at n e.0)) [
   ]
 ]
 
-live_stays : (k : Kept) (ks : List Kept) → k.live ≡ true → without_first_over (k ∷ ks) ≡ k ∷ without_first_over ks
+live_stays : (k : KeptFrame) (ks : List KeptFrame) → k.live ≡ true → without_first_over (k ∷ ks) ≡ k ∷ without_first_over ks
 live_stays k ks p = rw p refl
 
 pub first_leaves : (n : ℕ) (ns : List ℕ) (es : List Entry) → Apart es → over_indices es ≡ n ∷ ns → values_of (remove_entry (at n) es) ≡ without_first_over (values_of es)
@@ -226,20 +226,20 @@ at_is n k t = elim (same_or_not k n) [
   ])
 ]
 
-found_all : (P : Kept → Type 0) (n : ℕ) (k : Kept) (es : List Entry) → AllByRecursion (λ (x : Entry). P x.1) es → lookup (at n) es ≡ Some k → P k
+found_all : (P : KeptFrame → Type 0) (n : ℕ) (k : KeptFrame) (es : List Entry) → AllByRecursion (λ (x : Entry). P x.1) es → lookup (at n) es ≡ Some k → P k
 found_all P n k [] h l = absurd (let z : None ≡ Some k = l in cc)
 found_all P n k (e ∷ es) h l = elim (cases_Bool (at n e.0)) [
-  | inl a ↦ let m = rw a at l in subst P (ap (λ (x : Option Kept). unwrap_or x k) m) h.0
+  | inl a ↦ let m = rw a at l in subst P (ap (λ (x : Option KeptFrame). unwrap_or x k) m) h.0
   | inr a ↦ let m = rw a at l in found_all P n k es h.1 m
 ]
 
 -- what is kept at an index has this index
-pub indexed_found : (n : ℕ) (k : Kept) (es : List Entry) → Apart es → lookup (at n) es ≡ Some k → index_by (is_of k.session) es ≡ Some n
+pub indexed_found : (n : ℕ) (k : KeptFrame) (es : List Entry) → Apart es → lookup (at n) es ≡ Some k → index_by (is_of k.session) es ≡ Some n
 indexed_found n k [] h l = absurd (let z : None ≡ Some k = l in cc)
 indexed_found n k (e ∷ es) h l = elim (cases_Bool (at n e.0)) [
   | inl a ↦ let m = rw a at l in
-      let same : e.1 ≡ k = ap (λ (x : Option Kept). unwrap_or x k) m in
-      let own : is_of k.session e.1 ≡ true = subst (λ (x : Kept). bytes_eq x.session e.1.session ≡ true) same (bytes_refl e.1.session) in
+      let same : e.1 ≡ k = ap (λ (x : Option KeptFrame). unwrap_or x k) m in
+      let own : is_of k.session e.1 ≡ true = subst (λ (x : KeptFrame). bytes_eq x.session e.1.session ≡ true) same (bytes_refl e.1.session) in
       rw own (ap (λ x. Some x) (at_is n e.0 a))
   | inr a ↦ let m = rw a at l in
       let other : is_of e.1.session k ≡ false = found_all (λ x. is_of e.1.session x ≡ false) n k es (all_more (λ x r. r.1) es h.0) m in

@@ -2,14 +2,14 @@
 use Rattle.std.specs.Prelude.{◌≡◌, ℕ, ◌<◌, ⊤, Bool, false, if◌then◌else◌, List, [], ◌∷◌, filter, Option, Some, None, bytes_eq}
 use Rattle.std.specs.List.{AllByRecursion}
 use Rattle.std.specs.Map.{keys_of, lookup}
-use Rattle.sg_again.specs.LastFrames.{Kept, is_of, is_over}
+use Rattle.sg_again.specs.LastFrames.{KeptFrame, is_of, is_over}
 
 -- an index in the order of sending, and what is kept there
 abbrev pub Entry : Type 0
-Entry = ℕ × Kept
+Entry = ℕ × KeptFrame
 
 -- the index of the first that passes
-abbrev pub index_by : (Kept → Bool) → List Entry → Option ℕ
+abbrev pub index_by : (KeptFrame → Bool) → List Entry → Option ℕ
 index_by test [] = None
 index_by test (e ∷ es) = if test e.1 then Some e.0 else index_by test es
 

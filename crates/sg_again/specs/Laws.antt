@@ -1,6 +1,6 @@
 -- What holds of the frames that are kept after any calls.
 use Rattle.std.specs.Prelude.{◌≡◌, ◌⊎◌, ℕ, Bool, true, false, bytes_eq, if◌then◌else◌, List, [], fold, Option, None, Some}
-use Rattle.sg_again.specs.LastFrames.{SentFrame, Kept, sent, ended, frame_of}
+use Rattle.sg_again.specs.LastFrames.{SentFrame, KeptFrame, sent, ended, frame_of}
 
 -- a session sends a frame, or it ends
 pub data Call : Type 0 where
@@ -8,12 +8,12 @@ pub data Call : Type 0 where
   Ends : (sid : List ℕ) → Call
 
 -- the frames that are kept after one more call
-abbrev pub after_call : List Kept → Call → List Kept
+abbrev pub after_call : List KeptFrame → Call → List KeptFrame
 after_call ks (Sends sid f) = sent ks sid f
 after_call ks (Ends sid) = ended ks sid
 
 -- the frames that are kept after the calls
-abbrev pub kept_after : List Call → List Kept
+abbrev pub kept_after : List Call → List KeptFrame
 kept_after calls = fold after_call [] calls
 
 -- the last frame that the session sent, one call later

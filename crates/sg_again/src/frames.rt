@@ -7,10 +7,10 @@ ghost use Rattle.std.specs.Ordering.{nat_cmp};
 ghost use Rattle.std.specs.Set.{remove_key};
 ghost use Rattle.indexmap.specs.IndexMap.{spare};
 ghost use Rattle.sg_again.specs.Invariant.{Below, Indexed};
-ghost use Rattle.sg_again.specs.LastFrames.{Kept as KeptFrame, sent, ended, frame_of, without_first_over};
+ghost use Rattle.sg_again.specs.LastFrames.{KeptFrame, sent, ended, frame_of, without_first_over};
 
 use crate::LastFrame;
-use crate::kept::Kept;
+use crate::entry::FrameEntry;
 use indexmap::IndexMap;
 use sg_base::{OutOfMemory, Sid};
 use std::alloc::{AllocError, Global};
@@ -24,7 +24,7 @@ const MOST_OVER: usize = 4_096;
 /// order in which they were sent, each with its session and whether that is live.
 #[derive(Drop)]
 pub struct LastFrames {
-    frames: BTreeMap<u64, Kept>,
+    frames: BTreeMap<u64, FrameEntry>,
     over: BTreeSet<u64>,
     indices: IndexMap<Sid, u64>,
     next: u64,
@@ -34,7 +34,7 @@ impl Model for LastFrames {
     ghost use Rattle.std.specs.Prelude.{◌≤◌, List, length};
     ghost use Rattle.std.specs.Map.{values_of};
     ghost use Rattle.sg_again.specs.Invariant.{Below, Indexed};
-    ghost use Rattle.sg_again.specs.LastFrames.{Kept as KeptFrame, most_over};
+    ghost use Rattle.sg_again.specs.LastFrames.{KeptFrame, most_over};
 
     ghost Value = { List KeptFrame };
 
@@ -64,7 +64,7 @@ impl LastFrames {
         let index = self.next;
         let next = next_index(index)?;
         self.indices.reserve(1)?;
-        put_last(&mut self.frames, index, Kept::new(sid, frame))?;
+        put_last(&mut self.frames, index, FrameEntry::new(sid, frame))?;
         let earlier = find_index(&self.indices, &sid);
         take_out(&mut self.frames, &mut self.over, earlier);
         put_label_and_var(&mut self.indices, sid, index);
@@ -139,7 +139,11 @@ fn drop_index(indices: &mut IndexMap<Sid, u64>, sid: Sid)
 }
 
 // Puts a frame behind the others.
-fn put_last(frames: &mut BTreeMap<u64, Kept>, index: u64, kept: Kept) -> Result<(), OutOfMemory>
+fn put_last(
+    frames: &mut BTreeMap<u64, FrameEntry>,
+    index: u64,
+    kept: FrameEntry,
+) -> Result<(), OutOfMemory>
     requires { Below index frames.old.entries }
     ensures ok { OnOk result (frames.new.entries ≡ frames.old.entries ++ (index, kept) ∷ []) }
     ensures err { OnErr result (frames.new.entries ≡ frames.old.entries) }
@@ -149,7 +153,7 @@ fn put_last(frames: &mut BTreeMap<u64, Kept>, index: u64, kept: Kept) -> Result<
 }
 
 // Takes out what is kept at an index, if one is given.
-fn take_out(frames: &mut BTreeMap<u64, Kept>, over: &mut BTreeSet<u64>, index: Option<u64>)
+fn take_out(frames: &mut BTreeMap<u64, FrameEntry>, over: &mut BTreeSet<u64>, index: Option<u64>)
     ensures none { index ≡ None → (frames.new.entries ≡ frames.old.entries) × (over.new.keys ≡ over.old.keys) }
     ensures some { (m : ℕ) → index ≡ Some m → (frames.new.entries ≡ remove_entry (is_at (nat_cmp m)) frames.old.entries) × (over.new.keys ≡ remove_key (is_at (nat_cmp m)) over.old.keys) }
     ensures fewer { length over.new.keys ≤ length over.old.keys }
@@ -161,7 +165,7 @@ fn take_out(frames: &mut BTreeMap<u64, Kept>, over: &mut BTreeSet<u64>, index: O
 }
 
 // Says of what is kept at an index that its session is live no more.
-fn end_at(frames: &mut BTreeMap<u64, Kept>, index: u64)
+fn end_at(frames: &mut BTreeMap<u64, FrameEntry>, index: u64)
     requires { IsSome (lookup (is_at (nat_cmp index)) frames.old.entries) }
     ensures { (k : KeptFrame) → lookup (is_at (nat_cmp index)) frames.old.entries ≡ Some k
         → frames.new.entries ≡ set_value (is_at (nat_cmp index)) frames.old.entries (record { session = k.session; frame = k.frame; live = false }) }
@@ -174,7 +178,7 @@ fn end_at(frames: &mut BTreeMap<u64, Kept>, index: u64)
 
 // The first frame of a session that is live no more leaves.
 fn let_first_go(
-    frames: &mut BTreeMap<u64, Kept>,
+    frames: &mut BTreeMap<u64, FrameEntry>,
     over: &mut BTreeSet<u64>,
     indices: &mut IndexMap<Sid, u64>,
 )

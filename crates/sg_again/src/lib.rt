@@ -8,9 +8,9 @@
 //! with the number of sessions.
 #![tactic(auto)]
 
+mod entry;
 mod frame;
 mod frames;
-mod kept;
 mod laws;
 
 pub use frame::LastFrame;

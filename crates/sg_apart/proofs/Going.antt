@@ -1,5 +1,5 @@
 -- The calls at principals that run apart are to the law one list of moves of a session.
-use Rattle.std.specs.Prelude.{◌≡◌, ℕ, suc, ◌+◌, ◌==◌, nat_lt, not, if◌then◌else◌, ◌&&◌, Bool, true, false, List, [], ◌∷◌, ◌++◌, map, filter, flat_map, length, bytes_eq, refl, Option, Some, None, option_map, ⊤}
+use Rattle.std.specs.Prelude.{◌≡◌, ℕ, suc, ◌+◌, ◌==◌, nat_lt, not, if◌then◌else◌, ◌&&◌, Bool, true, false, List, [], ◌∷◌, ◌++◌, map, filter, flat_map, length, bytes_eq, refl, Option, Some, None, option_map}
 use Rattle.std.specs.List.{AllByRecursion}
 use Rattle.std.specs.Option.{option_map_or}
 use Rattle.std.proofs.Common.{sym, ◌∙◌, ap, subst, inl, inr, arith, append_assoc, append-nil}
@@ -26,7 +26,7 @@ use Rattle.sg_protocol.specs.TextLaws.{OpeningFits}
 use Rattle.sg_protocol.specs.Keyring.{Program}
 use Rattle.sg_protocol.specs.Session.{Session}
 use Rattle.sg_protocol.specs.Sending.{frame_sent}
-use Rattle.sg_protocol.specs.Calls.{ActFault, Event, Call, Start, Act, Abandon, Deliver, Answer, Sends, NotActed, events_of_answer, sid_of}
+use Rattle.sg_protocol.specs.Calls.{ActFault, Event, Call, Start, Act, Abandon, Deliver, Answer, Sends, Abandoned, NotActed, events_of_answer, sid_of}
 use Rattle.sg_protocol.specs.Node.{Node, session_with, program_for}
 use Rattle.sg_protocol.specs.NodeAfter.{node_after}
 use Rattle.sg_protocol.specs.Acting.{answer, answer_act, acted, sent, rows_of_act, openings_for}
@@ -37,6 +37,7 @@ use Rattle.sg_protocol.specs.Schedule.{Schedule, is_honest, honest_role}
 use Rattle.sg_protocol.specs.World.{World, Logged, Answered, past_of}
 use Rattle.sg_protocol.specs.Run.{called, frame_in, events_of, events_of_outcome}
 use Rattle.sg_protocol.specs.Premises.{hashed, Unforged}
+use Rattle.sg_protocol.specs.Completeness.{HadAnswer}
 use Rattle.sg_protocol.specs.IsSchedule.{IsProgram}
 use Rattle.sg_protocol.specs.Ranges.{IsCallInRange, AreValues}
 use Rattle.sg_protocol.specs.Bounds.{IsSession}
@@ -123,9 +124,9 @@ module _ {sha : Hash} {s : Schedule} {sid : List ℕ} {cast : Cast} {g : Graph} 
   abbrev Hashed : List ℕ → Type 0
   Hashed t = In (hashed s wf) t
 
-  -- whoever has no session any more may have left it
-  abbrev Left : Name → Type 0
-  Left who = ⊤
+  -- the principal left the session, in the end
+  abbrev pub Left : Name → Type 0
+  Left who = HadAnswer wf.log who (Abandon sid) Abandoned
 
   -- a principal's node and the law's state fit
   pub record Fits (st : State) (who : Name) (p : Past) : Type 0 where
@@ -144,22 +145,22 @@ module _ {sha : Hash} {s : Schedule} {sid : List ℕ} {cast : Cast} {g : Graph} 
     pub used : AllByRecursion (λ (o : Opening). Hashed (commitment_text_of sid o) × OpeningFits o) (all_openings moves)
 
   module _ (w : World) (k : ℕ) (p : Progress w) (who : Name) (past : Past) (its_past : past_of w who ≡ Some past) where
-    abbrev st : State
+    abbrev pub st : State
     st = moved_all commit (V.at_first (shape g)) p.moves
 
-    abbrev n : Node
+    abbrev pub n : Node
     n = node_of past
 
-    here : Fits st who past
+    abbrev pub here : Fits st who past
     here = p.nodes who past its_past
 
-    abbrev its : SessionOfCast sha past.programs sid cast g Hashed
+    abbrev pub its : SessionOfCast sha past.programs sid cast g Hashed
     its = known.of_cast past.programs here.own
 
     programs : AllByRecursion (IsProgram sha) n.programs
     programs = subst (AllByRecursion (IsProgram sha)) (sym (here.ok).has_programs) (known.programs past.programs here.own)
 
-    abbrev Outs : Call → Type 0
+    abbrev pub Outs : Call → Type 0
     Outs c = Out its s Left st who n c (answer sha n c) (notes sha n c)
 
     abbrev entry_ : Call → Logged
@@ -225,13 +226,16 @@ module _ {sha : Hash} {s : Schedule} {sid : List ℕ} {cast : Cast} {g : Graph} 
       hashes : (t : List ℕ) → In (notes sha n c).hashed t → Hashed t
       hashes t i = in_right (map graph_text_of s.graphs) (flat_map (λ (l : Logged). l.notes.hashed) wf.log) t (in_flat (λ (l : Logged). l.notes.hashed) wf.log (entry_ c) t in_end i)
 
-    out_of : (c : Call) → IsCallInRange c → Suffix (k + 1) (called sha w k who c past).log wf.log → Outs c
+      lefts : (sid0 : List ℕ) → c ≡ Abandon sid0 → sid0 ≡ sid → answer sha n c ≡ Abandoned → Left who
+      lefts sid0 call q a = (entry_ c, contains_from_in wf.log (entry_ c) in_end, refl, ap (λ z. Some z) (call ∙ ap (λ z. Abandon z) q), ap (λ z. Answered z) a)
+
+    pub out_of : (c : Call) → IsCallInRange c → Suffix (k + 1) (called sha w k who c past).log wf.log → Outs c
     out_of (Start c) h after = start_out its s Left st who n here.ok c (record { version = h.version; graph = h.fields.graph.0; nonce = h.fields.nonce.0 }) (hashes (Start c) h after)
     out_of (Act sid0 label values confs) h after = act_any sid0 label values confs h
-    out_of (Abandon sid0) h after = abandon_out its s Left st who n here.ok sid0 (λ q a. tt)
+    out_of (Abandon sid0) h after = abandon_out its s Left st who n here.ok sid0 (lefts (Abandon sid0) h after sid0 refl)
     out_of (Deliver bs) h after = deliver_out its s Left st who n here.ok here.honest bs h (founds (Deliver bs) h after) (hashes (Deliver bs) h after)
 
-    progress_called : (c : Call) → IsCallInRange c → Suffix (k + 1) (called sha w k who c past).log wf.log → Outs c → Progress (called sha w k who c past)
+    pub progress_called : (c : Call) → IsCallInRange c → Suffix (k + 1) (called sha w k who c past).log wf.log → Outs c → Progress (called sha w k who c past)
     progress_called c range after out = record {
       moves = p.moves ++ out.moves;
       may = may-append (shape g) honest commit (V.at_first (shape g)) p.moves out.moves p.may out.may;
@@ -285,6 +289,10 @@ module _ {sha : Hash} {s : Schedule} {sid : List ℕ} {cast : Cast} {g : Graph} 
           where
             no_clash : (b : Bool) → b ≡ true → b ≡ false → ⊥
             no_clash b t f = absurd (cc)
+
+    pub progress_moves : (c : Call) (range : IsCallInRange c) (after : Suffix (k + 1) (called sha w k who c past).log wf.log) (out : Outs c) → (progress_called c range after out).moves ≡ p.moves ++ out.moves
+    unfolding progress_called
+    progress_moves c range after out = refl
 
   by_past : (w : World) (k : ℕ) → Progress w → (c : CallAt) → IsCallInRange c.call → (o : Option Past) → past_of w c.who ≡ o → Suffix (k + 1) (option_map_or (called sha w k c.who c.call) o w).log wf.log → Progress (option_map_or (called sha w k c.who c.call) o w)
   by_past w k p c range None q after = p

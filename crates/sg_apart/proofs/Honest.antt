@@ -20,7 +20,7 @@ use Rattle.sg_apart.specs.Apart.{Begins, CallAt, names_of, honest_are, run_apart
 use Rattle.sg_apart.specs.Laws.{AnsweredAt, IsHonest, HonestPastsFollowWalks, as_begun, asked, own_calls}
 use Rattle.sg_apart.proofs.Whole.{sessions_follow_walks_apart}
 
-abbrev Ranged : AnsweredCall → Type 0
+abbrev pub Ranged : AnsweredCall → Type 0
 Ranged c = IsCallInRange c.call
 
 -- as they begin, the same principals are honest, with the same graphs
@@ -32,12 +32,12 @@ same_graphs : (ps : List Past) → (honest_are (map as_begun ps)).graphs ≡ (ho
 same_graphs [] = refl
 same_graphs (p ∷ ps) = ap (λ l. map (λ (q : Program). q.graph) p.programs ++ l) (same_graphs ps)
 
-same_honest : (ps : List Past) → honest_are (map as_begun ps) ≡ honest_are ps
+pub same_honest : (ps : List Past) → honest_are (map as_begun ps) ≡ honest_are ps
 same_honest ps =
     ap (λ (gs : List Graph). record { graphs = gs; honest = names_of (map as_begun ps); keys = []; sessions = []; steps = [] }) (same_graphs ps)
     ∙ ap (λ (ns : List Name). record { graphs = (honest_are ps).graphs; honest = ns; keys = []; sessions = []; steps = [] }) (same_names ps)
 
-all_begin : (sha : Hash) (ps : List Past) → AllByRecursion (IsHonest sha) ps → AllByRecursion (Begins sha) (map as_begun ps)
+pub all_begin : (sha : Hash) (ps : List Past) → AllByRecursion (IsHonest sha) ps → AllByRecursion (Begins sha) (map as_begun ps)
 all_begin sha [] h = tt
 all_begin sha (p ∷ ps) h = (record { calls = refl; programs = (h.0).programs; first = (h.0).first }, all_begin sha ps h.1)
 
@@ -65,7 +65,7 @@ module _ (sha : Hash) (ps : List Past) (calls : List AnsweredAt) (honest : AllBy
       let its = rec_in (λ (p : Past). own_calls p.keys.me calls ≡ p.calls) ps w.0 own w.1 in
       rec_in Ranged (w.0).calls a.answered (recursion_from_All Ranged (w.0).calls (rec_in (IsHonest sha) ps w.0 honest w.1).calls) (subst (λ l. In l a.answered) its (own_call calls a (w.0).keys.me i w.2))
 
-  all_ranged : (xs : List AnsweredAt) → ((a : AnsweredAt) → In xs a → In calls a) → AllByRecursion (λ (a : AnsweredAt). IsTrue (has_text a.who (names_of ps))) xs → AllByRecursion (λ (c : CallAt). IsCallInRange c.call) (map asked xs)
+  pub all_ranged : (xs : List AnsweredAt) → ((a : AnsweredAt) → In xs a → In calls a) → AllByRecursion (λ (a : AnsweredAt). IsTrue (has_text a.who (names_of ps))) xs → AllByRecursion (λ (c : CallAt). IsCallInRange c.call) (map asked xs)
   all_ranged [] there h = tt
   all_ranged (a ∷ xs) there h = (one_ranged a (there a (inl refl)) h.0, all_ranged xs (λ b i. there b (inr i)) h.1)
 

@@ -66,7 +66,7 @@ none_joins_twice_apart sha ps calls b = all_once sha (run_apart sha ps calls).pa
 -- ---- pasts
 
 -- a principal of this name is there
-there : (qs : List Past) (who : Name) → has_text who (names_of qs) ≡ true → (q : Past) × (find (λ (p : Past). bytes_eq p.keys.me who) qs ≡ Some q)
+pub there : (qs : List Past) (who : Name) → has_text who (names_of qs) ≡ true → (q : Past) × (find (λ (p : Past). bytes_eq p.keys.me who) qs ≡ Some q)
 there [] who h = absurd (cc)
 there (q ∷ qs) who h = elim (cases_Bool (bytes_eq q.keys.me who)) [
   | inl e ↦ (q, rw e refl)

@@ -45,7 +45,7 @@ in_filter q (y ∷ ys) x i = elim (cases_Bool (q y)) [
   | inr h ↦ (let j : In (filter q ys) x = rw h at i in inr (in_filter q ys x j))
 ]
 
-filter_in : {A : Type 0} (q : A → Bool) (xs : List A) (x : A) → In xs x → q x ≡ true → In (filter q xs) x
+pub filter_in : {A : Type 0} (q : A → Bool) (xs : List A) (x : A) → In xs x → q x ≡ true → In (filter q xs) x
 filter_in q [] x i h = i
 filter_in q (y ∷ ys) x (inl e) h = (let k : q y ≡ true = ap q (sym e) ∙ h in rw k (inl e))
 filter_in q (y ∷ ys) x (inr i) h = elim (cases_Bool (q y)) [

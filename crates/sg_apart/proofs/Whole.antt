@@ -1,5 +1,5 @@
 -- One walk explains each session of principals that run apart.
-use Rattle.std.specs.Prelude.{◌≡◌, ◌≢◌, ℕ, ◌+◌, ◌==◌, ◌||◌, ◌&&◌, ◌⊎◌, Bool, true, false, All, List, [], ◌∷◌, ◌++◌, map, filter, flat_map, length, find, bytes_eq, refl, Option, Some, None, option_map, option_and_then, ⊤}
+use Rattle.std.specs.Prelude.{◌≡◌, ◌≢◌, ℕ, ◌+◌, ◌==◌, ◌||◌, ◌&&◌, ◌⊎◌, Bool, true, false, All, List, [], ◌∷◌, ◌++◌, map, filter, flat_map, length, find, bytes_eq, refl, Option, Some, None, option_map, option_and_then}
 use Rattle.std.specs.List.{AllByRecursion, list_any}
 use Rattle.std.specs.Option.{option_map_or}
 use Rattle.std.proofs.Common.{sym, ◌∙◌, ap, subst, inl, inr, append_assoc, append-nil}
@@ -48,14 +48,14 @@ use Rattle.sg_protocol.proofs.Whole.{found_in, find_some}
 use Rattle.sg_apart.specs.Apart.{Begins, CallAt, AreCallsInRange, names_of, honest_are, world_called, world_after_calls, run_apart}
 use Rattle.sg_apart.specs.Laws.{SessionsFollowWalksApart}
 use Rattle.sg_apart.proofs.Begun.{BegunBy, Either, call_first}
-use Rattle.sg_apart.proofs.Going.{SessionApart, Progress, all_calls, suffix_calls}
+use Rattle.sg_apart.proofs.Going.{SessionApart, Progress, Left, all_calls, suffix_calls}
 
 none_any : {A : Type 0} (q : A → Bool) (xs : List A) → filter q xs ≡ [] → list_any q xs ≡ false
 none_any q [] e = refl
 none_any q (x ∷ xs) e = elim (cases_Bool (q x)) [ inl h ↦ (let f = rw h at e in absurd (cc)) | inr h ↦ rw h (none_any q xs (rw h at e)) ]
 
 -- a principal that is found is one of the honest
-named : (xs : List Past) (who : Name) (p : Past) → find (λ (p : Past). bytes_eq p.keys.me who) xs ≡ Some p → has_text who (names_of xs) ≡ true
+pub named : (xs : List Past) (who : Name) (p : Past) → find (λ (p : Past). bytes_eq p.keys.me who) xs ≡ Some p → has_text who (names_of xs) ≡ true
 named [] who p e = absurd (cc)
 named (x ∷ xs) who p e = elim (cases_Bool (bytes_eq x.keys.me who)) [
   | inl h ↦ rw ((bytes_eq-Decides who x.keys.me).1 (sym (same_bytes x.keys.me who h))) refl
@@ -67,20 +67,20 @@ named (x ∷ xs) who p e = elim (cases_Bool (bytes_eq x.keys.me who)) [
     or_more false k = k
 
 module _ (sha : Hash) (hash : IsHash sha) (ps : List Past) (are : All (Begins sha) ps) (calls : List CallAt) (range : AreCallsInRange calls) where
-  abbrev s : Schedule
+  abbrev pub s : Schedule
   s = honest_are ps
 
-  abbrev w0 : World
+  abbrev pub w0 : World
   w0 = record { pasts = ps; log = [] }
 
-  abbrev wf : World
+  abbrev pub wf : World
   wf = run_apart sha ps calls
 
   -- programs whose graphs are among the hashed ones
-  abbrev Own : List Program → Type 0
+  abbrev pub Own : List Program → Type 0
   Own xs = AllByRecursion (λ (q : Program). IsProgram sha q × In s.graphs q.graph) xs
 
-  own_of : (p : Past) → In ps p → Own p.programs
+  pub own_of : (p : Past) → In ps p → Own p.programs
   own_of p i = go p.programs (λ q j. j) (recursion_from_All (IsProgram sha) p.programs (all_in (Begins sha) ps p are i).programs)
     where
       go : (xs : List Program) → ((q : Program) → In xs q → In p.programs q) → AllByRecursion (IsProgram sha) xs → Own xs
@@ -99,7 +99,7 @@ module _ (sha : Hash) (hash : IsHash sha) (ps : List Past) (are : All (Begins sh
       go (p ∷ xs) a = all-append IsGraph (map (λ (q : Program). q.graph) p.programs) _ (of_programs p.programs (recursion_from_All (IsProgram sha) p.programs (a.0).programs)) (go xs a.1)
 
   -- the node of a principal that begins
-  node_begins : (p : Past) → In ps p → node_of p ≡ new_node p.keys p.programs p.first
+  pub node_begins : (p : Past) → In ps p → node_of p ≡ new_node p.keys p.programs p.first
   node_begins p i = ap (node_after_all (new_node p.keys p.programs p.first)) (all_in (Begins sha) ps p are i).calls
 
   module _ (sid : List ℕ) where
@@ -201,16 +201,17 @@ module _ (sha : Hash) (hash : IsHash sha) (ps : List Past) (are : All (Begins sh
     }
 
     -- what the first event of the session says
-    record FirstCast : Type 0 where
-      cast : Cast
-      is_cast : cast_of_session sid wf.log ≡ Some cast
-      sid_is : session_id sha cast ≡ sid
-      fits : CastFits cast
-      is_hashed : In (hashed s wf) (session_text_of cast)
-      program : Program
-      own : IsProgram sha program × In s.graphs program.graph
-      digest : program.digest ≡ cast.graph
-      differ : all_differ cast.names ≡ true
+    pub record FirstCast : Type 0 where
+      pub cast : Cast
+      pub is_cast : cast_of_session sid wf.log ≡ Some cast
+      pub sid_is : session_id sha cast ≡ sid
+      pub fits : CastFits cast
+      pub is_hashed : In (hashed s wf) (session_text_of cast)
+      pub program : Program
+      pub own : IsProgram sha program × In s.graphs program.graph
+      pub digest : program.digest ≡ cast.graph
+      pub differ : all_differ cast.names ≡ true
+      pub lengths : length cast.names ≡ length program.graph.roles
 
     from_begun : BegunIn wf → FirstCast
     from_begun b = record {
@@ -223,9 +224,10 @@ module _ (sha : Hash) (hash : IsHash sha) (ps : List Past) (are : All (Begins sh
       own = rec_in (λ (q : Program). IsProgram sha q × In s.graphs q.graph) (b.node).programs (b.begun).program b.own (b.begun).there;
       digest = (b.begun).digest;
       differ = (b.begun).differ;
+      lengths = (b.begun).lengths;
     }
 
-    first_cast : events_of sid wf.log ≢ [] → FirstCast
+    pub first_cast : events_of sid wf.log ≢ [] → FirstCast
     first_cast some = elim (all_first w0 1 quiet_new calls (recursion_from_All (λ (c : CallAt). IsCallInRange c.call) calls range)) [
       | inl q ↦ absurd (some q.none)
       | inr b ↦ from_begun b
@@ -234,20 +236,20 @@ module _ (sha : Hash) (hash : IsHash sha) (ps : List Past) (are : All (Begins sh
     -- ---- the session
 
     module _ (premises : Premises sha s wf) (first : FirstCast) where
-      abbrev g : Graph
+      abbrev pub g : Graph
       g = (first.program).graph
 
-      the_program : IsProgram sha first.program
+      pub the_program : IsProgram sha first.program
       the_program = (first.own).0
 
       same_text_same : (a b : List ℕ) → In (hashed s wf) a → In (hashed s wf) b → sha a ≡ sha b → a ≡ b
       same_text_same a b i j e = premises.collision_free a b (contains_from_in (hashed s wf) a i) (contains_from_in (hashed s wf) b j) e
 
-      same_digest : (a b : Graph) → In s.graphs a → In s.graphs b → graph_digest sha a ≡ graph_digest sha b → a ≡ b
+      pub same_digest : (a b : Graph) → In s.graphs a → In s.graphs b → graph_digest sha a ≡ graph_digest sha b → a ≡ b
       same_digest a b i j e = one_graph a b (rec_in IsGraph s.graphs a are_graphs i) (rec_in IsGraph s.graphs b are_graphs j)
           (same_text_same (graph_text_of a) (graph_text_of b) (in_left (map graph_text_of s.graphs) _ (graph_text_of a) (in_map graph_text_of s.graphs a i)) (in_left (map graph_text_of s.graphs) _ (graph_text_of b) (in_map graph_text_of s.graphs b j)) e)
 
-      prog : (xs : List Program) → Own xs → (r : ℕ) (q : Program) → program_for xs first.cast.graph r ≡ Some q → (q.graph ≡ g) × IsViewTable q.graph r q.views
+      pub prog : (xs : List Program) → Own xs → (r : ℕ) (q : Program) → program_for xs first.cast.graph r ≡ Some q → (q.graph ≡ g) × IsViewTable q.graph r q.views
       prog xs own r q e =
           let both = find_all (λ (q : Program). bytes_eq q.digest first.cast.graph && (q.role == r)) (λ (q : Program). IsProgram sha q × In s.graphs q.graph) xs q own e in
           let t = and_parts (bytes_eq q.digest first.cast.graph) (q.role == r) (find_passes (λ (q : Program). bytes_eq q.digest first.cast.graph && (q.role == r)) xs q e) in (
@@ -261,16 +263,16 @@ module _ (sha : Hash) (hash : IsHash sha) (ps : List Past) (are : All (Begins sh
       long : length sid ≡ 32
       long = subst (λ z. length z ≡ 32) first.sid_is (hash (session_text_of first.cast)).0
 
-      abbrev commit : Commit
+      abbrev pub commit : Commit
       commit o = commitment sha sid o
 
-      binding : (ms : List Move) → AllByRecursion (λ (o : Opening). In (hashed s wf) (commitment_text_of sid o) × OpeningFits o) (all_openings ms) → Binding (λ o. commitment sha sid o) (all_openings ms)
+      pub binding : (ms : List Move) → AllByRecursion (λ (o : Opening). In (hashed s wf) (commitment_text_of sid o) × OpeningFits o) (all_openings ms) → Binding (λ o. commitment sha sid o) (all_openings ms)
       binding ms used o p i j v e =
           let a = rec_in _ (all_openings ms) o used (in_from_Contains (all_openings ms) o i) in
           let b = rec_in _ (all_openings ms) p used (in_from_Contains (all_openings ms) p j) in
           ap (λ (z : Opening). z.value) (one_opening sid sid o p long long a.1 b.1 (same_text_same (commitment_text_of sid o) (commitment_text_of sid p) a.0 b.0 e)).1
 
-      known : SessionApart sha s sid first.cast g wf Own
+      pub known : SessionApart sha s sid first.cast g wf Own
       known = record {
         is_hash = hash;
         of_cast = λ xs own. record {
@@ -291,13 +293,13 @@ module _ (sha : Hash) (hash : IsHash sha) (ps : List Past) (are : All (Begins sh
           only_programs [] a = tt
           only_programs (q ∷ xs) a = (a.0.0, only_programs xs a.1)
 
-      begins : Progress known w0
+      pub begins : Progress known w0
       begins = record {
         moves = [];
         may = tt;
         nodes = λ who p e. let i = found_in (λ (p : Past). bytes_eq p.keys.me who) ps p e in record {
           own = own_of p i;
-          ok = subst (NodeOk (known.of_cast p.programs (own_of p i)) s (λ who. ⊤) (V.at_first (shape g)) who) (sym (node_begins p i)) (fresh who p i (same_bytes p.keys.me who (find_passes (λ (p : Past). bytes_eq p.keys.me who) ps p e)));
+          ok = subst (NodeOk (known.of_cast p.programs (own_of p i)) s (Left known) (V.at_first (shape g)) who) (sym (node_begins p i)) (fresh who p i (same_bytes p.keys.me who (find_passes (λ (p : Past). bytes_eq p.keys.me who) ps p e)));
           honest = named ps who p e;
           live = subst (λ (n : Node). AllByRecursion IsSession n.live) (sym (node_begins p i)) tt;
         };
@@ -307,13 +309,17 @@ module _ (sha : Hash) (hash : IsHash sha) (ps : List Past) (are : All (Begins sh
         used = tt;
       }
         where
-          fresh : (who : Name) (p : Past) (i : In ps p) → p.keys.me ≡ who → NodeOk (known.of_cast p.programs (own_of p i)) s (λ who. ⊤) (V.at_first (shape g)) who (new_node p.keys p.programs p.first)
+          fresh : (who : Name) (p : Past) (i : In ps p) → p.keys.me ≡ who → NodeOk (known.of_cast p.programs (own_of p i)) s (Left known) (V.at_first (shape g)) who (new_node p.keys p.programs p.first)
           fresh who p i e = record { me = e; has_programs = refl; lengths = tt; status = inl record { alone = refl; all = λ h q l. record { none = refl; start = refl } } }
+
+      pub first_moves : begins.moves ≡ []
+      unfolding begins
+      first_moves = refl
 
       found_graph : (y : Graph) × (graph_with sha s.graphs first.cast.graph ≡ Some y)
       found_graph = find_some (λ z. bytes_eq (graph_digest sha z) first.cast.graph) s.graphs g (first.own).1 ((bytes_eq-Decides (graph_digest sha g) first.cast.graph).1 (sym the_program.digest ∙ first.digest))
 
-      graph_is : graph_with sha s.graphs first.cast.graph ≡ Some g
+      pub graph_is : graph_with sha s.graphs first.cast.graph ≡ Some g
       graph_is = found_graph.1 ∙ ap (λ z. Some z) (same_digest found_graph.0 g (found_in _ s.graphs found_graph.0 found_graph.1) (first.own).1
           (same_bytes (graph_digest sha found_graph.0) first.cast.graph (find_passes (λ z. bytes_eq (graph_digest sha z) first.cast.graph) s.graphs found_graph.0 found_graph.1) ∙ sym first.digest ∙ the_program.digest))
 

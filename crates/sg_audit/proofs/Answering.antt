@@ -20,13 +20,13 @@ pub same_honest : (g : Graph) (a b : List ℕ) (es : List Event) (ss : List Stor
 same_honest g a b es ss h p = subst (λ f. OnePath g f es ss) (λ i. λ r. h r i) p
 
 -- the walk that is asked for first
-pub asked : (told : Option (List StoredStep)) (steps sent : List StoredStep) → steps ≡ unwrap_or told sent → IsAsked told steps
+pub asked : (reported : Option (List StoredStep)) (steps sent : List StoredStep) → steps ≡ unwrap_or reported sent → IsAsked reported steps
 asked None steps sent h = tt
 asked (Some w) steps sent h = h
 
-pub agrees : (g : Graph) (logs : List Log) (told : Option (List StoredStep)) (merged : List Event) (steps : List StoredStep) → AreLogs g logs told → IsMerged logs merged → NoneClashes logs
+pub agrees : (g : Graph) (logs : List Log) (reported : Option (List StoredStep)) (merged : List Event) (steps : List StoredStep) → AreLogs g logs reported → IsMerged logs merged → NoneClashes logs
     → AllByRecursion (λ (l : Log). AscendFrom 0 l.1) logs → OnePath g (λ r. is_in r (roles_of logs)) merged steps → Agree g logs steps
-agrees g logs told merged steps a m apart asc p = record {
+agrees g logs reported merged steps a m apart asc p = record {
   merged = merged;
   is_merged = m;
   apart = apart;
@@ -35,9 +35,9 @@ agrees g logs told merged steps a m apart asc p = record {
 }
 
 -- if that walk doesn't explain the merged events, the logs agree with none that is asked for
-pub disagrees : (g : Graph) (logs : List Log) (told : Option (List StoredStep)) (merged : List Event) (first : List StoredStep) → IsGraph g → AreLogs g logs told → IsMerged logs merged
-    → first ≡ unwrap_or told (sent_steps merged) → (OnePath g (λ r. is_in r (roles_of logs)) merged first → ⊥)
-    → (steps : List StoredStep) → IsAsked told steps → Agree g logs steps → ⊥
+pub disagrees : (g : Graph) (logs : List Log) (reported : Option (List StoredStep)) (merged : List Event) (first : List StoredStep) → IsGraph g → AreLogs g logs reported → IsMerged logs merged
+    → first ≡ unwrap_or reported (sent_steps merged) → (OnePath g (λ r. is_in r (roles_of logs)) merged first → ⊥)
+    → (steps : List StoredStep) → IsAsked reported steps → Agree g logs steps → ⊥
 disagrees g logs None merged first is a m e unlike steps q w =
     let p = agree_path g logs merged steps m w in
     let s : steps ≡ first = sends_alone g (λ r. is_in r (roles_of logs)) merged steps is (a.untold refl) p ∙ sym e in

@@ -8,7 +8,7 @@ use Rattle.sg_protocol.specs.Graph.{Graph, IsGraph, role_name, variable_name}
 use Rattle.sg_graph.specs.Parts.{variable_names, edge_names, edge_name}
 use Rattle.sg_parse.specs.Reading.{index_of}
 use Rattle.sg_parse.proofs.Names.{role_index, variable_index, label_index}
-use Rattle.sg_audit.specs.Said.{numbered}
+use Rattle.sg_audit.specs.LineContents.{numbered}
 
 -- ---- numbers of names
 

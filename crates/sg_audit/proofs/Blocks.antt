@@ -9,7 +9,7 @@ use Rattle.sg_model.proofs.Small.{contradicts}
 use Rattle.sg_parse.specs.Reading.{read as parsed}
 use Rattle.sg_sched.specs.Text.{content, words}
 use Rattle.sg_sched.specs.Format.Forms.{is_skipped}
-use Rattle.sg_sched.specs.Format.Said.{Word, SaidBlock}
+use Rattle.sg_sched.specs.Format.LineContents.{Word, BlockLine}
 use Rattle.sg_sched.specs.Format.Spells.{Line, closes}
 use Rattle.sg_sched.proofs.FormatOnce.{not_skipped}
 use Rattle.sg_audit.specs.Sessions.{Logs}
@@ -69,7 +69,7 @@ opens_yes l h = ap are_opening h ∙ open_words
 
 opening_shown : (l : Line) → words (content l) ≡ opening_words → is_skipped l ≡ false
 opening_shown l h = elim (cases_Bool (is_skipped l)) [
-  | inl y ↦ absurd (not_skipped l SaidBlock (record { spelled = h; form = refl }) y)
+  | inl y ↦ absurd (not_skipped l BlockLine (record { spelled = h; form = refl }) y)
   | inr z ↦ z
 ]
 

@@ -14,7 +14,7 @@ use Rattle.sg_protocol.proofs.Spelled.{range_all}
 use Rattle.sg_parse.specs.Reading.{index_of}
 use Rattle.sg_sched.specs.Text.{content, words}
 use Rattle.sg_sched.specs.Format.Forms.{is_skipped}
-use Rattle.sg_sched.specs.Format.Said.{Word}
+use Rattle.sg_sched.specs.Format.LineContents.{Word}
 use Rattle.sg_sched.specs.Format.Spells.{Line}
 use Rattle.sg_sched.specs.Format.Reading.{word, after, ended}
 use Rattle.sg_audit.specs.Merged.{Log, roles_of}
@@ -23,7 +23,7 @@ use Rattle.sg_audit.specs.declared.fault.Mistake.{Mistake}
 use Rattle.sg_audit.specs.declared.fault.Mistake.TheVariants.{Form, TooManyEvents, Unknown, Twice}
 use Rattle.sg_model.specs.Values.{Value}
 use Rattle.sg_model.proofs.Small.{some_same}
-use Rattle.sg_audit.specs.Said.{Assignments, LogContent, StepContent, SaidSession, SaidLog, SaidEvent, SaidWalk, numbered, falls, rise}
+use Rattle.sg_audit.specs.LineContents.{Assignments, LogContent, StepContent, SessionLine, LogHeadLine, EventLine, WalkLine, numbered, falls, rise}
 use Rattle.sg_graph.specs.Parts.{edge_names, variable_names}
 use Rattle.sg_sched.specs.Format.Values.{spelled_value}
 use Rattle.sg_audit.specs.Reading.{all_assigned, time, form, session_form, log_form, event_form, walk_form}
@@ -33,8 +33,8 @@ use Rattle.sg_audit.specs.Read.{add_line, unless_wrong, read_sessions}
 use Rattle.std.proofs.lemmas.List.Elements.{All-from_recursion}
 use Rattle.std.proofs.lemmas.Bool.{cases_Bool, not-false}
 use Rattle.sg_audit.specs.Spells.{Fault}
-use Rattle.sg_audit.specs.Model.{logs_of, told_of}
-use Rattle.sg_audit.specs.Taken.{session_of}
+use Rattle.sg_audit.specs.Model.{logs_of, reported_of}
+use Rattle.sg_audit.specs.TakingLines.{session_of}
 use Rattle.sg_audit.specs.declared.fault.LogFault.{LogFault}
 use Rattle.sg_audit.specs.declared.session.SessionLog.{SessionLog}
 use Rattle.sg_audit.proofs.Honest.{with_role}
@@ -201,9 +201,9 @@ adds_walk g d e ss f h =
 -- ---- what words say
 
 -- the role of a log is one of the graph's
-abbrev pub FitsSaid : Graph → LogContent → Type 0
-FitsSaid g (SaidLog role) = IfSome role (λ r. r < length g.roles)
-FitsSaid g other = ⊤
+abbrev pub FitsLine : Graph → LogContent → Type 0
+FitsLine g (LogHeadLine role) = IfSome role (λ r. r < length g.roles)
+FitsLine g other = ⊤
 
 index_small : (n : Name) (names : List Name) → has_text n names ≡ true → index_of n names < length names
 index_small n [] h = absurd (cc)
@@ -237,34 +237,34 @@ after_fits {A} {B} P take next ws s h q = by (take ws) q
     by None q = absurd (none_some s q)
     by (Some p) q = h p.0 p.1 q
 
-session_fits : (g : Graph) (ws : List Word) (s : LogContent) → session_form ws ≡ Some s → FitsSaid g s
+session_fits : (g : Graph) (ws : List Word) (s : LogContent) → session_form ws ≡ Some s → FitsLine g s
 unfolding session_form
-session_fits g ws s h = after_fits (FitsSaid g) (word name) _ ws s (λ n rest q. subst (FitsSaid g) (some_same (ended_fits _ rest s q)) tt) h
+session_fits g ws s h = after_fits (FitsLine g) (word name) _ ws s (λ n rest q. subst (FitsLine g) (some_same (ended_fits _ rest s q)) tt) h
 
-log_fits : (g : Graph) (ws : List Word) (s : LogContent) → log_form g ws ≡ Some s → FitsSaid g s
+log_fits : (g : Graph) (ws : List Word) (s : LogContent) → log_form g ws ≡ Some s → FitsLine g s
 unfolding log_form
-log_fits g ws s h = after_fits (FitsSaid g) (word name) _ ws s (λ n rest q. subst (FitsSaid g) (some_same (ended_fits _ rest s q)) (numbered_small g.roles n)) h
+log_fits g ws s h = after_fits (FitsLine g) (word name) _ ws s (λ n rest q. subst (FitsLine g) (some_same (ended_fits _ rest s q)) (numbered_small g.roles n)) h
 
-event_fits : (g : Graph) (sent : Bool) (ws : List Word) (s : LogContent) → event_form g sent ws ≡ Some s → FitsSaid g s
+event_fits : (g : Graph) (sent : Bool) (ws : List Word) (s : LogContent) → event_form g sent ws ≡ Some s → FitsLine g s
 unfolding event_form
 event_fits g sent ws s h =
-    after_fits (FitsSaid g) (word name) _ ws s (λ n rest q.
-    after_fits {A = ℕ} (FitsSaid g) (word time) (λ at left. option_map (SaidEvent sent (numbered (edge_names g) n) at) (all_assigned (variable_names g) spelled_value left)) rest s (λ t left r.
-    mapped_fits {A = Assignments Value} (FitsSaid g) (SaidEvent sent (numbered (edge_names g) n) t) (all_assigned (variable_names g) spelled_value left) s (λ a. tt) r) q) h
+    after_fits (FitsLine g) (word name) _ ws s (λ n rest q.
+    after_fits {A = ℕ} (FitsLine g) (word time) (λ at left. option_map (EventLine sent (numbered (edge_names g) n) at) (all_assigned (variable_names g) spelled_value left)) rest s (λ t left r.
+    mapped_fits {A = Assignments Value} (FitsLine g) (EventLine sent (numbered (edge_names g) n) t) (all_assigned (variable_names g) spelled_value left) s (λ a. tt) r) q) h
 
-walk_fits : (g : Graph) (ws : List Word) (s : LogContent) → walk_form g ws ≡ Some s → FitsSaid g s
+walk_fits : (g : Graph) (ws : List Word) (s : LogContent) → walk_form g ws ≡ Some s → FitsLine g s
 unfolding walk_form
-walk_fits g ws s h = mapped_fits (FitsSaid g) SaidWalk _ s (λ a. tt) h
+walk_fits g ws s h = mapped_fits (FitsLine g) WalkLine _ s (λ a. tt) h
 
-pub form_fits : (g : Graph) (ws : List Word) (s : LogContent) → form g ws ≡ Some s → FitsSaid g s
+pub form_fits : (g : Graph) (ws : List Word) (s : LogContent) → form g ws ≡ Some s → FitsLine g s
 unfolding form
 form_fits g [] s h = absurd (none_some s h)
 form_fits g (w ∷ ws) s h =
-    if_either (bytes_eq w (codes "session")) (session_form ws) not_session (Some s) (FitsSaid g s) h (session_fits g ws s) (λ h.
-    if_either (bytes_eq w (codes "log")) (log_form g ws) not_log (Some s) (FitsSaid g s) h (log_fits g ws s) (λ h.
-    if_either (bytes_eq w (codes "sent")) (event_form g true ws) not_sent (Some s) (FitsSaid g s) h (event_fits g true ws s) (λ h.
-    if_either (bytes_eq w (codes "received")) (event_form g false ws) not_received (Some s) (FitsSaid g s) h (event_fits g false ws s) (λ h.
-    if_either (bytes_eq w (codes "walk")) (walk_form g ws) None (Some s) (FitsSaid g s) h (walk_fits g ws s) (λ h. absurd (none_some s h))))))
+    if_either (bytes_eq w (codes "session")) (session_form ws) not_session (Some s) (FitsLine g s) h (session_fits g ws s) (λ h.
+    if_either (bytes_eq w (codes "log")) (log_form g ws) not_log (Some s) (FitsLine g s) h (log_fits g ws s) (λ h.
+    if_either (bytes_eq w (codes "sent")) (event_form g true ws) not_sent (Some s) (FitsLine g s) h (event_fits g true ws s) (λ h.
+    if_either (bytes_eq w (codes "received")) (event_form g false ws) not_received (Some s) (FitsLine g s) h (event_fits g false ws s) (λ h.
+    if_either (bytes_eq w (codes "walk")) (walk_form g ws) None (Some s) (FitsLine g s) h (walk_fits g ws s) (λ h. absurd (none_some s h))))))
   where
     not_received : Option LogContent
     not_received = if bytes_eq w (codes "walk") then walk_form g ws else None
@@ -278,19 +278,19 @@ form_fits g (w ∷ ws) s h =
     not_session : Option LogContent
     not_session = if bytes_eq w (codes "log") then log_form g ws else not_log
 
-pub adds : (g : Graph) (d e : SoFar) (s : LogContent) → IsGraph g → FitsSaid g s → Fine g d → add g d s ≡ Ok e → Fine g e
+pub adds : (g : Graph) (d e : SoFar) (s : LogContent) → IsGraph g → FitsLine g s → Fine g d → add g d s ≡ Ok e → Fine g e
 unfolding add
-adds g d e (SaidSession n) is small f h = adds_session g d e n f h
-adds g d e (SaidLog role) is small f h = adds_log g d e role is small f h
-adds g d e (SaidEvent sent label time v) is small f h = adds_event g d e sent label time v f h
-adds g d e (SaidWalk ss) is small f h = adds_walk g d e ss f h
+adds g d e (SessionLine n) is small f h = adds_session g d e n f h
+adds g d e (LogHeadLine role) is small f h = adds_log g d e role is small f h
+adds g d e (EventLine sent label time v) is small f h = adds_event g d e sent label time v f h
+adds g d e (WalkLine ss) is small f h = adds_walk g d e ss f h
 
 adds_line : (g : Graph) (d e : SoFar) (l : Line) → IsGraph g → Fine g d → add_line g d l ≡ Ok e → Fine g e
 unfolding add_line
 adds_line g d e l is f h =
     if_either (is_skipped l) (Ok d) (option_map_or (add g d) (form g (words (content l))) (Err Form)) (Ok e) (Fine g e) h (λ q. subst (Fine g) (ok_is d e q) f) (λ q. by (form g (words (content l))) (form_fits g (words (content l))) q)
   where
-    by : (o : Option LogContent) → ((s : LogContent) → o ≡ Some s → FitsSaid g s) → option_map_or (add g d) o (Err Form) ≡ Ok e → Fine g e
+    by : (o : Option LogContent) → ((s : LogContent) → o ≡ Some s → FitsLine g s) → option_map_or (add g d) o (Err Form) ≡ Ok e → Fine g e
     by None k q = absurd (err_ok _ _ q)
     by (Some s) k q = adds g d e s is (k s refl) f q
 
@@ -314,13 +314,13 @@ nothing_fine g = record { done = tt; roles = λ r. refl; each = tt; differ = tt 
 
 -- ---- what is held
 
-held_fit : (g : Graph) (ss : List SessionLog) → AllByRecursion (Fit g) (map session_of ss) → AllByRecursion (λ (s : SessionLog). AreLogs g (logs_of s) (told_of s)) ss
+held_fit : (g : Graph) (ss : List SessionLog) → AllByRecursion (Fit g) (map session_of ss) → AllByRecursion (λ (s : SessionLog). AreLogs g (logs_of s) (reported_of s)) ss
 held_fit g [] h = tt
 held_fit g (s ∷ ss) h = (h.0, held_fit g ss h.1)
 
 pub result_fits : (g : Graph) (n : ℕ) (ls : List Line) (r : Result (List SessionLog) LogFault) (Q : LogFault → Type 0) → IsGraph g
     → MatchResult r (λ ss. read_sessions g n nothing ls ≡ Ok (record { graph = g; sessions = map session_of ss })) Q
-    → IfOk r (All (λ (s : SessionLog). AreLogs g (logs_of s) (told_of s)))
+    → IfOk r (All (λ (s : SessionLog). AreLogs g (logs_of s) (reported_of s)))
 result_fits g n ls (Ok ss) Q is h =
-    All-from_recursion (λ (s : SessionLog). AreLogs g (logs_of s) (told_of s)) ss (held_fit g ss (reads_sessions g n nothing ls (record { graph = g; sessions = map session_of ss }) is (nothing_fine g) h))
+    All-from_recursion (λ (s : SessionLog). AreLogs g (logs_of s) (reported_of s)) ss (held_fit g ss (reads_sessions g n nothing ls (record { graph = g; sessions = map session_of ss }) is (nothing_fine g) h))
 result_fits g n ls (Err e) Q is h = tt

@@ -10,13 +10,13 @@ use Rattle.sg_protocol.specs.Calls.{Event}
 use Rattle.sg_protocol.specs.Graph.{Graph}
 use Rattle.sg_protocol.specs.Walk.{StoredStep}
 use Rattle.sg_audit.specs.Merged.{Log, events_of}
-use Rattle.sg_audit.specs.Said.{Assignments, LogContent, SaidSession, SaidLog, SaidEvent, SaidWalk, falls}
+use Rattle.sg_audit.specs.LineContents.{Assignments, LogContent, SessionLine, LogHeadLine, EventLine, WalkLine, falls}
 use Rattle.sg_audit.specs.Sessions.{Session, change_last, event, stored_step, with_event as with_one, added}
 use Rattle.sg_audit.specs.Faults.{where', fault, is_too_many, is_unknown, is_repeated}
 use Rattle.sg_audit.specs.SoFar.{SoFar, all_logs, all_sessions}
 use Rattle.sg_audit.specs.declared.fault.Mistake.{Mistake}
 use Rattle.sg_audit.specs.declared.fault.Mistake.TheVariants.{Form, TooManyEvents, Unknown, Twice}
-use Rattle.sg_audit.proofs.OneLine.{session_by, told_by, Kept, sessions_told, next}
+use Rattle.sg_audit.proofs.OneLine.{session_by, so_far_by, Kept, sessions_so_far, next}
 
 -- ---- what the lines so far say
 
@@ -47,18 +47,18 @@ maps : (f : Session → Session) (g h : Name → Session) (o : Option Name) → 
 maps f g h None e = refl
 maps f g h (Some n) e = ap Some (e n)
 
-pub moved : (d : SoFar) (s : LogContent) → Kept d → told_by (next d s) ≡ added (told_by d) s
-moved d (SaidSession n) k = λ i. record { over = sym (sessions_told d) i; last = Some (record { name = n; logs = []; walk = None }) }
-moved d (SaidLog role) k = λ i. record {
+pub moved : (d : SoFar) (s : LogContent) → Kept d → so_far_by (next d s) ≡ added (so_far_by d) s
+moved d (SessionLine n) k = λ i. record { over = sym (sessions_so_far d) i; last = Some (record { name = n; logs = []; walk = None }) }
+moved d (LogHeadLine role) k = λ i. record {
   over = d.done;
   last = sym (maps (λ s. record { name = s.name; logs = s.logs ++ (unwrap_or role 0, []) ∷ []; walk = s.walk }) (session_by d) (with_last d (all_logs d ++ (unwrap_or role 0, []) ∷ []) d.walk) d.name (λ n. refl)) i;
 }
-moved d (SaidEvent sent label time v) k = let e : ℕ → Event = λ r. event sent r (unwrap_or label 0) time v.pairs in λ i. record {
+moved d (EventLine sent label time v) k = let e : ℕ → Event = λ r. event sent r (unwrap_or label 0) time v.pairs in λ i. record {
   over = d.done;
   last = sym (maps (λ s. record { name = s.name; logs = with_one e s.logs; walk = s.walk }) (session_by d) (with_last d (option_map_or (λ r. d.logs ++ (r, d.events ++ e (unwrap_or d.role 0) ∷ []) ∷ []) d.role d.logs) d.walk) d.name
       (λ n. λ j. record { name = n; logs = event_moved d k e j; walk = d.walk })) i;
 }
-moved d (SaidWalk ss) k = λ i. record {
+moved d (WalkLine ss) k = λ i. record {
   over = d.done;
   last = sym (maps (λ s. record { name = s.name; logs = s.logs; walk = Some (map stored_step ss) }) (session_by d) (with_last d (all_logs d) (Some (map stored_step ss))) d.name (λ n. refl)) i;
 }
@@ -90,25 +90,25 @@ count_stays d logs walk None h = refl
 count_stays d logs walk (Some n) h = counted d.done (with_last d logs walk n) ∙ ap (λ m. length (events_in d.done) + m) h ∙ sym (counted d.done (session_by d n))
 
 -- an event stands in a session and in a log
-in_session : (g : Graph) (d : SoFar) (sent : Bool) (label : Option ℕ) (time : ℕ) (v : Assignments Value) → d.name ≡ None → fault g (told_by d) (SaidEvent sent label time v) ≡ None → ⊥
+in_session : (g : Graph) (d : SoFar) (sent : Bool) (label : Option ℕ) (time : ℕ) (v : Assignments Value) → d.name ≡ None → fault g (so_far_by d) (EventLine sent label time v) ≡ None → ⊥
 in_session g d sent label time v e h = let bad : ◌≡◌ {A = Option Mistake} (Some Form) None = rw e at h in absurd (cc)
 
-in_log : (g : Graph) (d : SoFar) (sent : Bool) (label : Option ℕ) (time : ℕ) (v : Assignments Value) → Kept d → d.role ≡ None → fault g (told_by d) (SaidEvent sent label time v) ≡ None → ⊥
+in_log : (g : Graph) (d : SoFar) (sent : Bool) (label : Option ℕ) (time : ℕ) (v : Assignments Value) → Kept d → d.role ≡ None → fault g (so_far_by d) (EventLine sent label time v) ≡ None → ⊥
 in_log g d sent label time v k q h = by d.name refl
   where
     none : all_logs d ≡ []
     none = ap (λ p. option_map_or (λ r. d.logs ++ (r, d.events) ∷ []) p d.logs) q ∙ k.first q
 
-    closed : (w : Option (List StoredStep)) (o : Option Mistake) → first_some (where' (not (is_none w) || true || falls v) Form ∷ o ∷ where' (is_unknown (SaidEvent sent label time v)) Unknown ∷ where' (is_repeated (told_by d) (SaidEvent sent label time v)) Twice ∷ []) ≡ None → ⊥
+    closed : (w : Option (List StoredStep)) (o : Option Mistake) → first_some (where' (not (is_none w) || true || falls v) Form ∷ o ∷ where' (is_unknown (EventLine sent label time v)) Unknown ∷ where' (is_repeated (so_far_by d) (EventLine sent label time v)) Twice ∷ []) ≡ None → ⊥
     closed None o p = cc
     closed (Some w) o p = cc
 
     by : (o : Option Name) → d.name ≡ o → ⊥
     by None e = in_session g d sent label time v e h
     by (Some n) e =
-        closed d.walk (where' (is_too_many (told_by d) (SaidEvent sent label time v)) TooManyEvents)
+        closed d.walk (where' (is_too_many (so_far_by d) (EventLine sent label time v)) TooManyEvents)
         (sym (λ i. first_some (where' (not (option_map_or (λ (s : Session). is_none s.walk) (option_map (session_by d) (e i)) false) || length ((ap (λ o. option_map_or (λ (s : Session). s.logs) (option_map (session_by d) o) []) e ∙ none) i) == 0 || falls v) Form
-        ∷ where' (is_too_many (told_by d) (SaidEvent sent label time v)) TooManyEvents ∷ where' (is_unknown (SaidEvent sent label time v)) Unknown ∷ where' (is_repeated (told_by d) (SaidEvent sent label time v)) Twice ∷ [])) ∙ h)
+        ∷ where' (is_too_many (so_far_by d) (EventLine sent label time v)) TooManyEvents ∷ where' (is_unknown (EventLine sent label time v)) Unknown ∷ where' (is_repeated (so_far_by d) (EventLine sent label time v)) Twice ∷ [])) ∙ h)
 
 event_counted : (d : SoFar) (n : Name) (r : ℕ) (e : Event) → d.name ≡ Some n → d.role ≡ Some r
     → length (events_in (option_map_or (λ n. d.done ++ with_last d (option_map_or (λ r. d.logs ++ (r, d.events ++ e ∷ []) ∷ []) d.role d.logs) d.walk n ∷ []) d.name d.done)) ≡ length (events_in (all_sessions d)) + 1
@@ -124,13 +124,13 @@ event_counted d n r e p q =
     let z = length-append d.events (e ∷ []) in
     omega (arith, a, b, c, f, x, y, z)
 
-pub kept : (g : Graph) (d : SoFar) (s : LogContent) → Kept d → fault g (told_by d) s ≡ None → Kept (next d s)
-kept g d (SaidSession n) k h = record {
+pub kept : (g : Graph) (d : SoFar) (s : LogContent) → Kept d → fault g (so_far_by d) s ≡ None → Kept (next d s)
+kept g d (SessionLine n) k h = record {
   names = names_last (all_sessions d) (record { name = n; logs = []; walk = None }) ∙ ap (λ ns. ns ++ n ∷ []) k.names;
   count = let c = counted (all_sessions d) (record { name = n; logs = []; walk = None }) in let m = k.count in omega (arith, c, m);
   first = λ q. refl;
 }
-kept g d (SaidLog role) k h = record {
+kept g d (LogHeadLine role) k h = record {
   names = names_stay d (all_logs d ++ (unwrap_or role 0, []) ∷ []) d.walk d.name ∙ k.names;
   count = count_stays d (all_logs d ++ (unwrap_or role 0, []) ∷ []) d.walk d.name (let l = logged (all_logs d) (unwrap_or role 0, []) in omega (arith, l)) ∙ k.count;
   first = λ q. absurd (none q);
@@ -138,12 +138,12 @@ kept g d (SaidLog role) k h = record {
   where
     none : {r : ℕ} → Some r ≡ None → ⊥
     none q = cc
-kept g d (SaidEvent sent label time v) k h = by d.name refl d.role refl
+kept g d (EventLine sent label time v) k h = by d.name refl d.role refl
   where
     made : Event
     made = event sent (unwrap_or d.role 0) (unwrap_or label 0) time v.pairs
 
-    by : (o : Option Name) → d.name ≡ o → (p : Option ℕ) → d.role ≡ p → Kept (next d (SaidEvent sent label time v))
+    by : (o : Option Name) → d.name ≡ o → (p : Option ℕ) → d.role ≡ p → Kept (next d (EventLine sent label time v))
     by None e p q = absurd (in_session g d sent label time v e h)
     by (Some n) e None q = absurd (in_log g d sent label time v k q h)
     by (Some n) e (Some r) q = record {
@@ -151,7 +151,7 @@ kept g d (SaidEvent sent label time v) k h = by d.name refl d.role refl
       count = event_counted d n r made e q ∙ ap (λ m. m + 1) k.count;
       first = k.first;
     }
-kept g d (SaidWalk ss) k h = record {
+kept g d (WalkLine ss) k h = record {
   names = names_stay d (all_logs d) (Some (map stored_step ss)) d.name ∙ k.names;
   count = count_stays d (all_logs d) (Some (map stored_step ss)) d.name refl ∙ k.count;
   first = k.first;

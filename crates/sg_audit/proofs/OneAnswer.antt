@@ -3,7 +3,7 @@ use Rattle.std.proofs.Common.{◌≡◌, ℕ, List, Result, Ok, Err, sym, ap, �
 use Rattle.sg_audit.specs.Laws.{FaultsAreOne, LogsAreOne, WrongIsNoLogs}
 use Rattle.sg_audit.specs.Read.{read}
 use Rattle.sg_audit.specs.Sessions.{Logs}
-use Rattle.sg_audit.specs.Spells.{Fault, told_as}
+use Rattle.sg_audit.specs.Spells.{Fault, reported_as}
 use Rattle.sg_audit.proofs.Spelled.{spelled_read, fault_found}
 
 one_ok : (r : Result Logs Fault) (l m : Logs) → r ≡ Ok l → r ≡ Ok m → l ≡ m
@@ -19,7 +19,7 @@ pub logs_one : LogsAreOne
 logs_one bytes l m s t = one_ok (read bytes) l m (spelled_read bytes l s) (spelled_read bytes m t)
 
 pub fault_one : FaultsAreOne
-fault_one bytes e f a b = a.told ∙ ap told_as (one_err (read bytes) a.fault b.fault (fault_found bytes a.fault a.first) (fault_found bytes b.fault b.first)) ∙ sym b.told
+fault_one bytes e f a b = a.reported ∙ ap reported_as (one_err (read bytes) a.fault b.fault (fault_found bytes a.fault a.first) (fault_found bytes b.fault b.first)) ∙ sym b.reported
 
 pub no_logs : WrongIsNoLogs
 no_logs bytes e l a s = never_both (read bytes) l a.fault (spelled_read bytes l s) (fault_found bytes a.fault a.first)

@@ -13,7 +13,7 @@ use Rattle.sg_protocol.specs.Graph.{Graph}
 use Rattle.sg_protocol.specs.Walk.{StoredStep}
 use Rattle.sg_parse.proofs.Sets.{rising-differ}
 use Rattle.sg_audit.specs.Merged.{Log, roles_of, events_of}
-use Rattle.sg_audit.specs.Said.{Assignments, StepContent, LogContent, SaidSession, SaidLog, SaidEvent, SaidWalk, differ, falls, rise}
+use Rattle.sg_audit.specs.LineContents.{Assignments, StepContent, LogContent, SessionLine, LogHeadLine, EventLine, WalkLine, differ, falls, rise}
 use Rattle.sg_audit.specs.Sessions.{Session, LogsSoFar, sessions_of, event, stored_step}
 use Rattle.sg_audit.specs.Faults.{last_logs, event_count, is_double, is_strange, where', fault, is_open as is_open_now, all_have_logs as all_have, is_whole as is_over}
 use Rattle.sg_audit.specs.SoFar.{SoFar, all_logs, all_sessions, all_have_logs, is_whole, is_open, add, add_session, add_log, open_log, add_event, count_event, with_event, add_walk, is_unknown}
@@ -28,8 +28,8 @@ abbrev pub session_by : SoFar → Name → Session
 session_by d n = record { name = n; logs = all_logs d; walk = d.walk }
 
 -- what the lines so far said
-abbrev pub told_by : SoFar → LogsSoFar
-told_by d = record { over = d.done; last = option_map (session_by d) d.name }
+abbrev pub so_far_by : SoFar → LogsSoFar
+so_far_by d = record { over = d.done; last = option_map (session_by d) d.name }
 
 -- what else the reader keeps
 pub record Kept (d : SoFar) : Type 0 where
@@ -37,8 +37,8 @@ pub record Kept (d : SoFar) : Type 0 where
   pub count : length (flat_map (λ (s : Session). events_of s.logs) (all_sessions d)) ≡ d.count
   pub first : d.role ≡ None → d.logs ≡ []
 
-pub sessions_told : (d : SoFar) → sessions_of (told_by d) ≡ all_sessions d
-sessions_told d = by d.name
+pub sessions_so_far : (d : SoFar) → sessions_of (so_far_by d) ≡ all_sessions d
+sessions_so_far d = by d.name
   where
     by : (o : Option Name) → option_map_or (λ (s : Session). d.done ++ s ∷ []) (option_map (session_by d) o) d.done ≡ option_map_or (λ n. d.done ++ session_by d n ∷ []) o d.done
     by None = refl
@@ -66,64 +66,64 @@ all_same p q (n ∷ ns) h = λ i. h n i && all_same p q ns h i
 
 -- ---- the tests of what the reader keeps, and of what the lines say
 
-pub same_open : (d : SoFar) → is_open_now (told_by d) ≡ is_open d
+pub same_open : (d : SoFar) → is_open_now (so_far_by d) ≡ is_open d
 same_open d = by d.name
   where
     by : (o : Option Name) → option_map_or (λ (s : Session). is_none s.walk) (option_map (session_by d) o) false ≡ (is_some o && is_none d.walk)
     by None = refl
     by (Some n) = refl
 
-same_logs : (d : SoFar) (n : Name) → d.name ≡ Some n → last_logs (told_by d) ≡ all_logs d
+same_logs : (d : SoFar) (n : Name) → d.name ≡ Some n → last_logs (so_far_by d) ≡ all_logs d
 same_logs d n e = ap (λ o. option_map_or (λ (s : Session). s.logs) (option_map (session_by d) o) []) e
 
-same_have : (g : Graph) (d : SoFar) (n : Name) → Fine g d → d.name ≡ Some n → all_have g (told_by d) ≡ all_have_logs g d
-same_have g d n f e = all_same (λ r. is_in r (roles_of (last_logs (told_by d)))) (λ r. is_in r d.roles) (below (length g.roles)) (λ r. ap (λ ls. is_in r (roles_of ls)) (same_logs d n e) ∙ sym (f.roles r))
+same_have : (g : Graph) (d : SoFar) (n : Name) → Fine g d → d.name ≡ Some n → all_have g (so_far_by d) ≡ all_have_logs g d
+same_have g d n f e = all_same (λ r. is_in r (roles_of (last_logs (so_far_by d)))) (λ r. is_in r d.roles) (below (length g.roles)) (λ r. ap (λ ls. is_in r (roles_of ls)) (same_logs d n e) ∙ sym (f.roles r))
 
-pub same_whole : (g : Graph) (d : SoFar) → Fine g d → is_over g (told_by d) ≡ is_whole g d
+pub same_whole : (g : Graph) (d : SoFar) → Fine g d → is_over g (so_far_by d) ≡ is_whole g d
 same_whole g d f = by d.name refl
   where
     some : (w : Option (List StoredStep)) (b : Bool) → (not (is_none w) || b) ≡ (is_some w || b)
     some None b = refl
     some (Some w) b = refl
 
-    by : (o : Option Name) → d.name ≡ o → is_over g (told_by d) ≡ is_whole g d
-    by None e = ap (λ b. not b || all_have g (told_by d)) (same_open d) ∙ ap (λ o. not (is_some o && is_none d.walk) || all_have g (told_by d)) e ∙ sym (ap (λ o. is_none o || is_some d.walk || all_have_logs g d) e)
+    by : (o : Option Name) → d.name ≡ o → is_over g (so_far_by d) ≡ is_whole g d
+    by None e = ap (λ b. not b || all_have g (so_far_by d)) (same_open d) ∙ ap (λ o. not (is_some o && is_none d.walk) || all_have g (so_far_by d)) e ∙ sym (ap (λ o. is_none o || is_some d.walk || all_have_logs g d) e)
     by (Some n) e =
-        ap (λ b. not b || all_have g (told_by d)) (same_open d) ∙ ap (λ o. not (is_some o && is_none d.walk) || all_have g (told_by d)) e
+        ap (λ b. not b || all_have g (so_far_by d)) (same_open d) ∙ ap (λ o. not (is_some o && is_none d.walk) || all_have g (so_far_by d)) e
         ∙ ap (λ b. not (is_none d.walk) || b) (same_have g d n f e) ∙ some d.walk (all_have_logs g d) ∙ sym (ap (λ o. is_none o || is_some d.walk || all_have_logs g d) e)
 
-same_names : (d : SoFar) → Kept d → map (λ (s : Session). s.name) (sessions_of (told_by d)) ≡ d.names
-same_names d k = ap (map (λ (s : Session). s.name)) (sessions_told d) ∙ k.names
+same_names : (d : SoFar) → Kept d → map (λ (s : Session). s.name) (sessions_of (so_far_by d)) ≡ d.names
+same_names d k = ap (map (λ (s : Session). s.name)) (sessions_so_far d) ∙ k.names
 
-same_count : (d : SoFar) → Kept d → event_count (told_by d) ≡ d.count
-same_count d k = ap (λ ss. length (flat_map (λ (s : Session). events_of s.logs) ss)) (sessions_told d) ∙ k.count
+same_count : (d : SoFar) → Kept d → event_count (so_far_by d) ≡ d.count
+same_count d k = ap (λ ss. length (flat_map (λ (s : Session). events_of s.logs) ss)) (sessions_so_far d) ∙ k.count
 
 -- ---- what the reader keeps after one more line
 
 abbrev pub next : SoFar → LogContent → SoFar
-next d (SaidSession n) = record { names = d.names ++ n ∷ []; count = d.count; done = all_sessions d; name = Some n; logs = []; roles = []; role = None; events = []; walk = None }
-next d (SaidLog role) = record { names = d.names; count = d.count; done = d.done; name = d.name; logs = all_logs d; roles = with_member 16 d.roles (unwrap_or role 0); role = Some (unwrap_or role 0); events = []; walk = d.walk }
-next d (SaidEvent sent label time v) = with_event d (event sent (unwrap_or d.role 0) (unwrap_or label 0) time v.pairs)
-next d (SaidWalk ss) = record { names = d.names; count = d.count; done = d.done; name = d.name; logs = d.logs; roles = d.roles; role = d.role; events = d.events; walk = Some (map stored_step ss) }
+next d (SessionLine n) = record { names = d.names ++ n ∷ []; count = d.count; done = all_sessions d; name = Some n; logs = []; roles = []; role = None; events = []; walk = None }
+next d (LogHeadLine role) = record { names = d.names; count = d.count; done = d.done; name = d.name; logs = all_logs d; roles = with_member 16 d.roles (unwrap_or role 0); role = Some (unwrap_or role 0); events = []; walk = d.walk }
+next d (EventLine sent label time v) = with_event d (event sent (unwrap_or d.role 0) (unwrap_or label 0) time v.pairs)
+next d (WalkLine ss) = record { names = d.names; count = d.count; done = d.done; name = d.name; logs = d.logs; roles = d.roles; role = d.role; events = d.events; walk = Some (map stored_step ss) }
 
 -- ---- sessions
 
-session_same : (g : Graph) (d : SoFar) (n : Name) → Fine g d → Kept d → add_session g d n ≡ judged (fault g (told_by d) (SaidSession n)) (next d (SaidSession n))
+session_same : (g : Graph) (d : SoFar) (n : Name) → Fine g d → Kept d → add_session g d n ≡ judged (fault g (so_far_by d) (SessionLine n)) (next d (SessionLine n))
 unfolding add_session
-session_same g d n f k = sym (in_turn (not (is_over g (told_by d))) false false (has_text n (map (λ (s : Session). s.name) (sessions_of (told_by d)))) (next d (SaidSession n))
-    ∙ (λ i. if not (same_whole g d f i) then Err Form else if has_text n (same_names d k i) then Err Twice else Ok (next d (SaidSession n))))
+session_same g d n f k = sym (in_turn (not (is_over g (so_far_by d))) false false (has_text n (map (λ (s : Session). s.name) (sessions_of (so_far_by d)))) (next d (SessionLine n))
+    ∙ (λ i. if not (same_whole g d f i) then Err Form else if has_text n (same_names d k i) then Err Twice else Ok (next d (SessionLine n))))
 
 -- ---- logs
 
-log_same : (g : Graph) (d : SoFar) (role : Option ℕ) → Fine g d → add_log d role ≡ judged (fault g (told_by d) (SaidLog role)) (next d (SaidLog role))
+log_same : (g : Graph) (d : SoFar) (role : Option ℕ) → Fine g d → add_log d role ≡ judged (fault g (so_far_by d) (LogHeadLine role)) (next d (LogHeadLine role))
 unfolding add_log
-log_same g d None f = sym (in_turn (not (is_open_now (told_by d))) false true false (next d (SaidLog None)) ∙ (λ i. if not (same_open d i) then Err Form else Err Unknown))
-log_same g d (Some r) f = sym (in_turn (not (is_open_now (told_by d))) false false (is_in r (roles_of (last_logs (told_by d)))) (next d (SaidLog (Some r))) ∙ by d.name refl)
+log_same g d None f = sym (in_turn (not (is_open_now (so_far_by d))) false true false (next d (LogHeadLine None)) ∙ (λ i. if not (same_open d i) then Err Form else Err Unknown))
+log_same g d (Some r) f = sym (in_turn (not (is_open_now (so_far_by d))) false false (is_in r (roles_of (last_logs (so_far_by d)))) (next d (LogHeadLine (Some r))) ∙ by d.name refl)
   where
     by : (o : Option Name) → d.name ≡ o
-        → (if not (is_open_now (told_by d)) then Err Form else if is_in r (roles_of (last_logs (told_by d))) then Err Twice else Ok (next d (SaidLog (Some r)))) ≡ (if not (is_open d) then Err Form else open_log d r)
+        → (if not (is_open_now (so_far_by d)) then Err Form else if is_in r (roles_of (last_logs (so_far_by d))) then Err Twice else Ok (next d (LogHeadLine (Some r)))) ≡ (if not (is_open d) then Err Form else open_log d r)
     by None e = rw (same_open d, e) refl
-    by (Some n) e = λ i. if not (same_open d i) then Err Form else if (ap (λ ls. is_in r (roles_of ls)) (same_logs d n e) ∙ sym (f.roles r)) i then Err Twice else Ok (next d (SaidLog (Some r)))
+    by (Some n) e = λ i. if not (same_open d i) then Err Form else if (ap (λ ls. is_in r (roles_of ls)) (same_logs d n e) ∙ sym (f.roles r)) i then Err Twice else Ok (next d (LogHeadLine (Some r)))
 
 -- ---- events
 
@@ -150,16 +150,16 @@ some_logs : (logs : List Log) (l : Log) → (length (logs ++ l ∷ []) == 0) ≡
 some_logs logs l = let n = length-append logs (l ∷ []) in grind (arith, nat_tests, n)
 
 event_same : (g : Graph) (d : SoFar) (sent : Bool) (label : Option ℕ) (time : ℕ) (v : Assignments Value) → Fine g d → Kept d
-    → add_event d sent label time v ≡ judged (fault g (told_by d) (SaidEvent sent label time v)) (next d (SaidEvent sent label time v))
+    → add_event d sent label time v ≡ judged (fault g (so_far_by d) (EventLine sent label time v)) (next d (EventLine sent label time v))
 unfolding add_event
 event_same g d sent label time v f k =
-    sym (in_turn (not (is_open_now (told_by d)) || length (last_logs (told_by d)) == 0 || falls v) (nat_le 100000 (event_count (told_by d))) (is_none label || not v.known) (is_double v) (next d (SaidEvent sent label time v))
-    ∙ (λ i. if not (same_open d i) || length (last_logs (told_by d)) == 0 || falls v then Err Form else if nat_le 100000 (same_count d k i) then Err TooManyEvents else if is_none label || not v.known then Err Unknown else if is_double v then Err Twice else Ok (next d (SaidEvent sent label time v)))
+    sym (in_turn (not (is_open_now (so_far_by d)) || length (last_logs (so_far_by d)) == 0 || falls v) (nat_le 100000 (event_count (so_far_by d))) (is_none label || not v.known) (is_double v) (next d (EventLine sent label time v))
+    ∙ (λ i. if not (same_open d i) || length (last_logs (so_far_by d)) == 0 || falls v then Err Form else if nat_le 100000 (same_count d k i) then Err TooManyEvents else if is_none label || not v.known then Err Unknown else if is_double v then Err Twice else Ok (next d (EventLine sent label time v)))
     ∙ by d.name refl d.role refl)
   where
     -- the answer of both, by the name and the role of what is kept
     Same : Type 0
-    Same = (if not (is_open d) || length (last_logs (told_by d)) == 0 || falls v then Err Form else if nat_le 100000 d.count then Err TooManyEvents else if is_none label || not v.known then Err Unknown else if is_double v then Err Twice else Ok (next d (SaidEvent sent label time v)))
+    Same = (if not (is_open d) || length (last_logs (so_far_by d)) == 0 || falls v then Err Form else if nat_le 100000 d.count then Err TooManyEvents else if is_none label || not v.known then Err Unknown else if is_double v then Err Twice else Ok (next d (EventLine sent label time v)))
         ≡ (if not (is_open d) then Err Form else option_map_or (count_event d sent label time v) d.role (Err Form))
 
     found : (r : ℕ) → d.role ≡ Some r → (label : Option ℕ)
@@ -172,17 +172,17 @@ event_same g d sent label time v f k =
 
     by : (o : Option Name) → d.name ≡ o → (p : Option ℕ) → d.role ≡ p → Same
     by None e p q = rw e refl
-    by (Some n) e None q = let none : last_logs (told_by d) ≡ [] = same_logs d n e ∙ ap (λ p. option_map_or (λ r. d.logs ++ (r, d.events) ∷ []) p d.logs) q ∙ k.first q in
-        (λ i. if not (is_open d) || length (none i) == 0 || falls v then Err Form else if nat_le 100000 d.count then Err TooManyEvents else if is_none label || not v.known then Err Unknown else if is_double v then Err Twice else Ok (next d (SaidEvent sent label time v)))
+    by (Some n) e None q = let none : last_logs (so_far_by d) ≡ [] = same_logs d n e ∙ ap (λ p. option_map_or (λ r. d.logs ++ (r, d.events) ∷ []) p d.logs) q ∙ k.first q in
+        (λ i. if not (is_open d) || length (none i) == 0 || falls v then Err Form else if nat_le 100000 d.count then Err TooManyEvents else if is_none label || not v.known then Err Unknown else if is_double v then Err Twice else Ok (next d (EventLine sent label time v)))
         ∙ both (is_open d) ∙ sym (ap (λ p. if not (is_open d) then Err Form else option_map_or (count_event d sent label time v) p (Err Form)) q)
       where
-        both : (w : Bool) → (if not w || true || falls v then Err Form else if nat_le 100000 d.count then Err TooManyEvents else if is_none label || not v.known then Err Unknown else if is_double v then Err Twice else Ok (next d (SaidEvent sent label time v))) ≡ (if not w then Err Form else Err Form)
+        both : (w : Bool) → (if not w || true || falls v then Err Form else if nat_le 100000 d.count then Err TooManyEvents else if is_none label || not v.known then Err Unknown else if is_double v then Err Twice else Ok (next d (EventLine sent label time v))) ≡ (if not w then Err Form else Err Form)
         both true = refl
         both false = refl
     by (Some n) e (Some r) q =
-        let logs : last_logs (told_by d) ≡ d.logs ++ (r, d.events) ∷ [] = same_logs d n e ∙ ap (λ p. option_map_or (λ r. d.logs ++ (r, d.events) ∷ []) p d.logs) q in
-        let some : (length (last_logs (told_by d)) == 0) ≡ false = ap (λ ls. length ls == 0) logs ∙ some_logs d.logs (r, d.events) in
-        (λ i. if not (is_open d) || some i || falls v then Err Form else if nat_le 100000 d.count then Err TooManyEvents else if is_none label || not v.known then Err Unknown else if is_double v then Err Twice else Ok (next d (SaidEvent sent label time v)))
+        let logs : last_logs (so_far_by d) ≡ d.logs ++ (r, d.events) ∷ [] = same_logs d n e ∙ ap (λ p. option_map_or (λ r. d.logs ++ (r, d.events) ∷ []) p d.logs) q in
+        let some : (length (last_logs (so_far_by d)) == 0) ≡ false = ap (λ ls. length ls == 0) logs ∙ some_logs d.logs (r, d.events) in
+        (λ i. if not (is_open d) || some i || falls v then Err Form else if nat_le 100000 d.count then Err TooManyEvents else if is_none label || not v.known then Err Unknown else if is_double v then Err Twice else Ok (next d (EventLine sent label time v)))
         ∙ found r q label ∙ sym (ap (λ p. if not (is_open d) then Err Form else option_map_or (count_event d sent label time v) p (Err Form)) q)
 
 -- ---- walks
@@ -204,13 +204,13 @@ same_double (s ∷ ss) h u = λ i. one s.writes.known (differ (keys_of s.writes.
     one true true false h p q = absurd (cc)
     one false true false h p q = absurd (cc)
 
-walk_same : (g : Graph) (d : SoFar) (ss : List StepContent) → Fine g d → add_walk g d ss ≡ judged (fault g (told_by d) (SaidWalk ss)) (next d (SaidWalk ss))
+walk_same : (g : Graph) (d : SoFar) (ss : List StepContent) → Fine g d → add_walk g d ss ≡ judged (fault g (so_far_by d) (WalkLine ss)) (next d (WalkLine ss))
 unfolding add_walk
-walk_same g d ss f = sym (in_turn (not (is_open_now (told_by d)) || all_have g (told_by d) || list_any (λ s. falls s.writes) ss) false (list_any is_strange ss) (list_any (λ s. is_double s.writes) ss) (next d (SaidWalk ss))
+walk_same g d ss f = sym (in_turn (not (is_open_now (so_far_by d)) || all_have g (so_far_by d) || list_any (λ s. falls s.writes) ss) false (list_any is_strange ss) (list_any (λ s. is_double s.writes) ss) (next d (WalkLine ss))
     ∙ by d.name refl)
   where
     rest : Bool → Result SoFar Mistake
-    rest twice = if twice then Err Twice else Ok (next d (SaidWalk ss))
+    rest twice = if twice then Err Twice else Ok (next d (WalkLine ss))
 
     -- the order of both, if the tests of a walk that may stand here are these
     order : (begun have falling strange rising double : Bool) → (falling ≡ false → strange ≡ false → rising ≡ double)
@@ -222,7 +222,7 @@ walk_same g d ss f = sym (in_turn (not (is_open_now (told_by d)) || all_have g (
     order true false false false rising double h = ap rest (sym (h refl refl))
 
     by : (o : Option Name) → d.name ≡ o
-        → (if not (is_open_now (told_by d)) || all_have g (told_by d) || list_any (λ s. falls s.writes) ss then Err Form else if list_any is_strange ss then Err Unknown else rest (list_any (λ s. is_double s.writes) ss))
+        → (if not (is_open_now (so_far_by d)) || all_have g (so_far_by d) || list_any (λ s. falls s.writes) ss then Err Form else if list_any is_strange ss then Err Unknown else rest (list_any (λ s. is_double s.writes) ss))
         ≡ (if not (is_open d) || all_have_logs g d then Err Form else if list_any (λ s. falls s.writes) ss then Err Form else if list_any is_unknown ss then Err Unknown else rest (list_any (λ s. not (rise s.writes)) ss))
     by None e = rw (same_open d, e) refl
     by (Some n) e =
@@ -232,9 +232,9 @@ walk_same g d ss f = sym (in_turn (not (is_open_now (told_by d)) || all_have g (
 -- ---- all forms
 
 -- the reader refuses what is wrong, and else goes on
-pub add_same : (g : Graph) (d : SoFar) (s : LogContent) → Fine g d → Kept d → add g d s ≡ judged (fault g (told_by d) s) (next d s)
+pub add_same : (g : Graph) (d : SoFar) (s : LogContent) → Fine g d → Kept d → add g d s ≡ judged (fault g (so_far_by d) s) (next d s)
 unfolding add
-add_same g d (SaidSession n) f k = session_same g d n f k
-add_same g d (SaidLog role) f k = log_same g d role f
-add_same g d (SaidEvent sent label time v) f k = event_same g d sent label time v f k
-add_same g d (SaidWalk ss) f k = walk_same g d ss f
+add_same g d (SessionLine n) f k = session_same g d n f k
+add_same g d (LogHeadLine role) f k = log_same g d role f
+add_same g d (EventLine sent label time v) f k = event_same g d sent label time v f k
+add_same g d (WalkLine ss) f k = walk_same g d ss f

@@ -7,7 +7,7 @@ use Rattle.sg_base.specs.declared.value.Value.{Value as Held}
 use Rattle.sg_model.specs.Lists.{is_in, keys_of, rises_from}
 use Rattle.sg_model.proofs.Small.{same_or_not, drop_from, and_false}
 use Rattle.sg_walk.specs.Model.{values_of, writes_of}
-use Rattle.sg_audit.specs.Said.{differ}
+use Rattle.sg_audit.specs.LineContents.{differ}
 
 -- the variables of pairs
 abbrev pub vars : {A : Type 0} → List (ℕ × A) → List ℕ

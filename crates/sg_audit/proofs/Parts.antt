@@ -4,7 +4,7 @@ use Rattle.std.specs.Prelude.{if◌then◌else◌}
 use Rattle.std.specs.List.{onto_first}
 use Rattle.std.proofs.lemmas.List.{take_all}
 use Rattle.std.proofs.lemmas.Bool.{cases_Bool}
-use Rattle.sg_sched.specs.Format.Said.{Word}
+use Rattle.sg_sched.specs.Format.LineContents.{Word}
 use Rattle.sg_audit.specs.Reading.{parts, part_end}
 
 -- the parts behind a comma

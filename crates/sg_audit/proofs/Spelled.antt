@@ -9,21 +9,21 @@ use Rattle.sg_parse.proofs.TookGraph.{read-spells}
 use Rattle.sg_parse.proofs.GivesGraph.{spells-read}
 use Rattle.sg_sched.specs.Text.{lines, content, words}
 use Rattle.sg_sched.specs.Format.Spells.{Line}
-use Rattle.sg_audit.specs.Said.{LogContent}
+use Rattle.sg_audit.specs.LineContents.{LogContent}
 use Rattle.sg_audit.specs.Reading.{form}
 use Rattle.sg_audit.specs.Sessions.{Logs, LogsSoFar, sessions_of}
 use Rattle.sg_audit.specs.Faults.{fault, is_whole as is_over}
-use Rattle.sg_audit.specs.Spells.{IsBlock, TellAfter, Nothing, SpellsLogs, Fault, WrongLine, NoGraph, IsFirstFault, NoLine, NoBlock, NotClosed, OfGraph, OfNoForm, OfAForm, TooFew, IsFault, told_as}
+use Rattle.sg_audit.specs.Spells.{IsBlock, TellAfter, Nothing, SpellsLogs, Fault, WrongLine, NoGraph, IsFirstFault, NoLine, NoBlock, NotClosed, OfGraph, OfNoForm, OfAForm, TooFew, IsFault, reported_as}
 use Rattle.sg_audit.specs.SoFar.{nothing, is_whole, all_sessions}
 use Rattle.sg_audit.specs.Read.{unless_wrong, read, read_lines, read_sessions, with_graph}
-use Rattle.sg_audit.specs.Taken.{Refuses, logs_held}
+use Rattle.sg_audit.specs.TakingLines.{Refuses, logs_held}
 use Rattle.sg_audit.specs.declared.session.Logs.{Logs as Held}
 use Rattle.sg_audit.specs.declared.fault.Mistake.TheVariants.{Form as FormKind, Unknown as UnknownKind, Twice as TwiceKind, TooManyEvents as TooManyKind}
 use Rattle.sg_audit.specs.declared.fault.LogFault.{LogFault}
 use Rattle.sg_audit.specs.declared.fault.LogFault.TheVariants.{Form, Unknown, Twice, Graph as InGraph, TooManyEvents, OutOfMemory}
 use Rattle.sg_audit.proofs.Fitting.{nothing_fine}
 use Rattle.sg_audit.proofs.WrittenLines.{form_is, form_ok}
-use Rattle.sg_audit.proofs.OneLine.{sessions_told, same_whole}
+use Rattle.sg_audit.proofs.OneLine.{sessions_so_far, same_whole}
 use Rattle.sg_audit.proofs.Telling.{nothing_kept, no_line, wrong_line, Reached, reached, Ends, Well, Few, Formless, Faulty, ends}
 use Rattle.sg_audit.proofs.Blocks.{Begins, BlankAll, Other, Open, Whole, begins, block_read, opened_read, none_read, other_read}
 
@@ -39,7 +39,7 @@ Outcome bytes r = MatchResult r (SpellsLogs bytes) (IsFirstFault (lines bytes))
 -- after the block of a graph
 behind : (bytes : List ℕ) (g : Graph) (block rest : List Line) (text : List ℕ) (r : Result Logs Fault) → lines bytes ≡ block ++ rest → IsBlock block text → SpellsGraph text g → Ends g (1 + length block) rest r → Outcome bytes r
 behind bytes g block rest text _ all b s (Well t tell whole) = record {
-  told = t;
+  so_far = t;
   tell = record { block = block; text = text; behind = rest; all = all; is_block = b; spelled = s; tell = tell };
   whole = whole;
   sessions = refl;
@@ -93,8 +93,8 @@ state_of : (g : Graph) (ls : List Line) (t : LogsSoFar) (a : TellAfter g ls t) �
 state_of g ls t a = let s = a.spelled in reached g a.behind t s.is_graph a.tell
 
 -- after lines that say this, the others are read on
-after_told : (g : Graph) (ls : List Line) (t : LogsSoFar) (a : TellAfter g ls t) (rest : List Line) → let r = state_of g ls t a in read_lines 1 (ls ++ rest) ≡ read_sessions g (1 + length ls) r.state rest
-after_told g ls t a rest =
+after_so_far : (g : Graph) (ls : List Line) (t : LogsSoFar) (a : TellAfter g ls t) (rest : List Line) → let r = state_of g ls t a in read_lines 1 (ls ++ rest) ≡ read_sessions g (1 + length ls) r.state rest
+after_so_far g ls t a rest =
     let r = state_of g ls t a in
     let laid : ls ++ rest ≡ a.block ++ (a.behind ++ rest) = ap (λ xs. xs ++ rest) a.all ∙ append_assoc a.block a.behind rest in
     let long = ap length a.all in
@@ -107,11 +107,11 @@ after_told g ls t a rest =
 pub spelled_read : (bytes : List ℕ) (l : Logs) → SpellsLogs bytes l → read bytes ≡ Ok l
 unfolding read
 spelled_read bytes l p =
-    let r = state_of l.graph (lines bytes) p.told p.tell in
-    let whole : is_whole l.graph r.state ≡ true = sym (same_whole l.graph r.state r.fine) ∙ ap (is_over l.graph) r.told ∙ p.whole in
+    let r = state_of l.graph (lines bytes) p.so_far p.tell in
+    let whole : is_whole l.graph r.state ≡ true = sym (same_whole l.graph r.state r.fine) ∙ ap (is_over l.graph) r.so_far ∙ p.whole in
     let last : read_sessions l.graph (1 + length (lines bytes)) r.state [] ≡ Ok (record { graph = l.graph; sessions = all_sessions r.state }) = rw whole refl in
-    let all : all_sessions r.state ≡ l.sessions = sym (sessions_told r.state) ∙ ap sessions_of r.told ∙ sym p.sessions in
-    ap (read_lines 1) (sym (append-nil (lines bytes))) ∙ after_told l.graph (lines bytes) p.told p.tell [] ∙ last ∙ (λ i. Ok (record { graph = l.graph; sessions = all i }))
+    let all : all_sessions r.state ≡ l.sessions = sym (sessions_so_far r.state) ∙ ap sessions_of r.so_far ∙ sym p.sessions in
+    ap (read_lines 1) (sym (append-nil (lines bytes))) ∙ after_so_far l.graph (lines bytes) p.so_far p.tell [] ∙ last ∙ (λ i. Ok (record { graph = l.graph; sessions = all i }))
 
 -- the first fault of lines is found
 first_found : (ls : List Line) (f : Fault) → IsFirstFault ls f → read_lines 1 ls ≡ Err f
@@ -122,7 +122,7 @@ first_found ls _ (OfGraph block rest text {e = e} at b q) = ap (read_lines 1) at
 first_found ls _ (OfNoForm g t right rest l at a z unsaid) =
     let r = state_of g right t a in
     let number : 1 + length right ≡ length right + 1 = omega arith in
-    ap (read_lines 1) at ∙ after_told g right t a (l ∷ rest)
+    ap (read_lines 1) at ∙ after_so_far g right t a (l ∷ rest)
     ∙ ap (λ x. unless_wrong (1 + length right) x (λ d. read_sessions g (1 + length right + 1) d rest)) (no_line g r.state l z (formless (form g (words (content l))) refl))
     ∙ ap (λ n. Err (WrongLine n FormKind)) number
   where
@@ -132,15 +132,15 @@ first_found ls _ (OfNoForm g t right rest l at a z unsaid) =
 first_found ls _ (OfAForm g t right rest l s {kind = kind} at a z says wrong) =
     let r = state_of g right t a in
     let number : 1 + length right ≡ length right + 1 = omega arith in
-    ap (read_lines 1) at ∙ after_told g right t a (l ∷ rest)
-    ∙ ap (λ x. unless_wrong (1 + length right) x (λ d. read_sessions g (1 + length right + 1) d rest)) (wrong_line g r.state l s kind r.fine r.keeps z (form_ok g (words (content l)) s says) (ap (λ x. fault g x s) r.told ∙ wrong))
+    ap (read_lines 1) at ∙ after_so_far g right t a (l ∷ rest)
+    ∙ ap (λ x. unless_wrong (1 + length right) x (λ d. read_sessions g (1 + length right + 1) d rest)) (wrong_line g r.state l s kind r.fine r.keeps z (form_ok g (words (content l)) s says) (ap (λ x. fault g x s) r.so_far ∙ wrong))
     ∙ ap (λ n. Err (WrongLine n kind)) number
 first_found ls _ (TooFew g t a few) =
     let r = state_of g ls t a in
-    let few' : is_whole g r.state ≡ false = sym (same_whole g r.state r.fine) ∙ ap (is_over g) r.told ∙ few in
+    let few' : is_whole g r.state ≡ false = sym (same_whole g r.state r.fine) ∙ ap (is_over g) r.so_far ∙ few in
     let number : 1 + length ls ≡ length ls + 1 = omega arith in
     let last : read_sessions g (1 + length ls) r.state [] ≡ Err (WrongLine (1 + length ls) FormKind) = rw few' refl in
-    ap (read_lines 1) (sym (append-nil ls)) ∙ after_told g ls t a [] ∙ last ∙ ap (λ n. Err (WrongLine n FormKind)) number
+    ap (read_lines 1) (sym (append-nil ls)) ∙ after_so_far g ls t a [] ∙ last ∙ ap (λ n. Err (WrongLine n FormKind)) number
 
 pub fault_found : (bytes : List ℕ) (f : Fault) → IsFirstFault (lines bytes) f → read bytes ≡ Err f
 unfolding read
@@ -157,7 +157,7 @@ spelled bytes (Ok l) h = read_spelled bytes (logs_held l) h
 spelled bytes (Err e) h = tt
 
 -- what a refusal says: memory ran out, or the reader found this fault
-refusal : (bytes : List ℕ) (e : LogFault) → Refuses (read bytes) e → (e ≡ OutOfMemory) ⊎ ((f : Fault) × (read bytes ≡ Err f) × (e ≡ told_as f))
+refusal : (bytes : List ℕ) (e : LogFault) → Refuses (read bytes) e → (e ≡ OutOfMemory) ⊎ ((f : Fault) × (read bytes ≡ Err f) × (e ≡ reported_as f))
 refusal bytes (Form n) h = inr (WrongLine n FormKind, h, refl)
 refusal bytes (Unknown n) h = inr (WrongLine n UnknownKind, h, refl)
 refusal bytes (Twice n) h = inr (WrongLine n TwiceKind, h, refl)
@@ -169,7 +169,7 @@ pub wrong : (bytes : List ℕ) (result : Result Held LogFault) → Reads bytes r
 wrong bytes (Ok l) h = tt
 wrong bytes (Err e) h = elim (refusal bytes e h) [
   | inl m ↦ inl m
-  | inr f ↦ inr (record { fault = f.0; first = fault_first bytes f.0 f.1; told = f.2 })
+  | inr f ↦ inr (record { fault = f.0; first = fault_first bytes f.0 f.1; reported = f.2 })
 ]
 
 ok_err : {l : Logs} {f : Fault} {r : Result Logs Fault} → r ≡ Ok l → r ≡ Err f → ⊥
@@ -192,5 +192,5 @@ pub refuses : (bytes : List ℕ) (result : Result Held LogFault) → Reads bytes
 refuses bytes (Ok held) h e p = ok_err h (fault_found bytes p.fault p.first)
 refuses bytes (Err f) h e p = elim (refusal bytes f h) [
   | inl m ↦ inl m
-  | inr x ↦ inr (x.2 ∙ ap told_as (err_same (sym x.1 ∙ fault_found bytes p.fault p.first)) ∙ sym p.told)
+  | inr x ↦ inr (x.2 ∙ ap reported_as (err_same (sym x.1 ∙ fault_found bytes p.fault p.first)) ∙ sym p.reported)
 ]

@@ -6,7 +6,7 @@ use Rattle.sg_protocol.specs.Graph.{Graph, IsGraph}
 use Rattle.sg_sched.specs.Text.{content, words}
 use Rattle.sg_sched.specs.Format.Forms.{is_skipped}
 use Rattle.sg_sched.specs.Format.Spells.{Line}
-use Rattle.sg_audit.specs.Said.{LogContent}
+use Rattle.sg_audit.specs.LineContents.{LogContent}
 use Rattle.sg_audit.specs.Reading.{form}
 use Rattle.sg_audit.specs.Sessions.{Logs, LogsSoFar, sessions_of, added}
 use Rattle.sg_audit.specs.Faults.{fault, is_whole as is_over}
@@ -16,7 +16,7 @@ use Rattle.sg_audit.specs.Read.{add_line, unless_wrong, read_sessions}
 use Rattle.sg_audit.specs.declared.fault.Mistake.{Mistake}
 use Rattle.sg_audit.specs.declared.fault.Mistake.TheVariants.{Form}
 use Rattle.sg_audit.proofs.Fitting.{Fine, form_fits, adds, nothing_fine}
-use Rattle.sg_audit.proofs.OneLine.{told_by, Kept, sessions_told, next, judged, add_same, same_whole}
+use Rattle.sg_audit.proofs.OneLine.{so_far_by, Kept, sessions_so_far, next, judged, add_same, same_whole}
 use Rattle.sg_audit.proofs.NextLine.{moved, kept}
 use Rattle.sg_audit.proofs.WrittenLines.{form_is, form_ok}
 
@@ -35,13 +35,13 @@ unfolding add_line
 said_line g d l s k h = rw (k, h) refl
 
 -- what the reader makes of a line of a form
-pub right_line : (g : Graph) (d : SoFar) (l : Line) (s : LogContent) → Fine g d → Kept d → is_skipped l ≡ false → form g (words (content l)) ≡ Some s → fault g (told_by d) s ≡ None → add_line g d l ≡ Ok (next d s)
+pub right_line : (g : Graph) (d : SoFar) (l : Line) (s : LogContent) → Fine g d → Kept d → is_skipped l ≡ false → form g (words (content l)) ≡ Some s → fault g (so_far_by d) s ≡ None → add_line g d l ≡ Ok (next d s)
 right_line g d l s f k n h e = said_line g d l s n h ∙ add_same g d s f k ∙ ap (λ o. judged o (next d s)) e
 
-pub wrong_line : (g : Graph) (d : SoFar) (l : Line) (s : LogContent) (kind : Mistake) → Fine g d → Kept d → is_skipped l ≡ false → form g (words (content l)) ≡ Some s → fault g (told_by d) s ≡ Some kind → add_line g d l ≡ Err kind
+pub wrong_line : (g : Graph) (d : SoFar) (l : Line) (s : LogContent) (kind : Mistake) → Fine g d → Kept d → is_skipped l ≡ false → form g (words (content l)) ≡ Some s → fault g (so_far_by d) s ≡ Some kind → add_line g d l ≡ Err kind
 wrong_line g d l s kind f k n h e = said_line g d l s n h ∙ add_same g d s f k ∙ ap (λ o. judged o (next d s)) e
 
-pub fine_next : (g : Graph) (d : SoFar) (l : Line) (s : LogContent) → IsGraph g → Fine g d → Kept d → form g (words (content l)) ≡ Some s → fault g (told_by d) s ≡ None → Fine g (next d s)
+pub fine_next : (g : Graph) (d : SoFar) (l : Line) (s : LogContent) → IsGraph g → Fine g d → Kept d → form g (words (content l)) ≡ Some s → fault g (so_far_by d) s ≡ None → Fine g (next d s)
 fine_next g d l s is f k h e = adds g d (next d s) s is (form_fits g (words (content l)) s h) f (add_same g d s f k ∙ ap (λ o. judged o (next d s)) e)
 
 -- ---- from what lines say to what is read
@@ -54,7 +54,7 @@ pub record Reached (g : Graph) (ls : List Line) (t : LogsSoFar) : Type 0 where
   pub state : SoFar
   pub fine : Fine g state
   pub keeps : Kept state
-  pub told : told_by state ≡ t
+  pub so_far : so_far_by state ≡ t
   pub reads : (n : ℕ) (rest : List Line) → read_sessions g n nothing (ls ++ rest) ≡ read_sessions g (n + length ls) state rest
 
 -- one more line
@@ -70,25 +70,25 @@ reached g _ _ is Nothing = record {
   state = nothing;
   fine = nothing_fine g;
   keeps = nothing_kept;
-  told = refl;
+  so_far = refl;
   reads = λ n rest. ap (λ m. read_sessions g m nothing rest) (let z : n ≡ n + 0 = omega arith in z);
 }
 reached g _ _ is (Skip {ls = ls} {t = t} l tell s) = let r = reached g ls t is tell in record {
   state = r.state;
   fine = r.fine;
   keeps = r.keeps;
-  told = r.told;
+  so_far = r.so_far;
   reads = goes_on g ls l r.state r.state r.reads (skip_line g r.state l s);
 }
 reached g _ _ is (Say {ls = ls} {t = t} l s tell n says right) =
     let r = reached g ls t is tell in
     let said = form_ok g (words (content l)) s says in
-    let none : fault g (told_by r.state) s ≡ None = ap (λ x. fault g x s) r.told ∙ right in
+    let none : fault g (so_far_by r.state) s ≡ None = ap (λ x. fault g x s) r.so_far ∙ right in
     record {
       state = next r.state s;
       fine = fine_next g r.state l s is r.fine r.keeps said none;
       keeps = kept g r.state s r.keeps none;
-      told = moved r.state s r.keeps ∙ ap (λ x. added x s) r.told;
+      so_far = moved r.state s r.keeps ∙ ap (λ x. added x s) r.so_far;
       reads = goes_on g ls l r.state (next r.state s) r.reads (right_line g r.state l s r.fine r.keeps n said none);
     }
 
@@ -102,14 +102,14 @@ pub data Ends (g : Graph) (n : ℕ) (ls : List Line) : Result Logs Fault → Typ
   Faulty : (t : LogsSoFar) (right rest : List Line) (line : Line) (said : LogContent) {kind : Mistake} → ls ≡ right ++ line ∷ rest → Tell g right t → is_skipped line ≡ false → form g (words (content line)) ≡ Some said
       → fault g t said ≡ Some kind → Ends g n ls (Err (WrongLine (n + length right) kind))
 
-pub ends : (g : Graph) (n : ℕ) (prefix : List Line) (d : SoFar) (ls : List Line) → IsGraph g → Fine g d → Kept d → Tell g prefix (told_by d) → Ends g n (prefix ++ ls) (read_sessions g (n + length prefix) d ls)
+pub ends : (g : Graph) (n : ℕ) (prefix : List Line) (d : SoFar) (ls : List Line) → IsGraph g → Fine g d → Kept d → Tell g prefix (so_far_by d) → Ends g n (prefix ++ ls) (read_sessions g (n + length prefix) d ls)
 ends g n prefix d [] is f k tell = elim (cases_Bool (is_whole g d)) [
-  | inl y ↦ subst (Ends g n (prefix ++ [])) (sym (rw (sessions_told d, y) refl)) (Well (told_by d) whole (same_whole g d f ∙ y))
-  | inr z ↦ subst (Ends g n (prefix ++ [])) (sym (rw (append-nil prefix, z) refl)) (Few (told_by d) whole (same_whole g d f ∙ z))
+  | inl y ↦ subst (Ends g n (prefix ++ [])) (sym (rw (sessions_so_far d, y) refl)) (Well (so_far_by d) whole (same_whole g d f ∙ y))
+  | inr z ↦ subst (Ends g n (prefix ++ [])) (sym (rw (append-nil prefix, z) refl)) (Few (so_far_by d) whole (same_whole g d f ∙ z))
 ]
   where
-    whole : Tell g (prefix ++ []) (told_by d)
-    whole = subst (λ ls. Tell g ls (told_by d)) (sym (append-nil prefix)) tell
+    whole : Tell g (prefix ++ []) (so_far_by d)
+    whole = subst (λ ls. Tell g ls (so_far_by d)) (sym (append-nil prefix)) tell
 ends g n prefix d (l ∷ ls) is f k tell = elim (cases_Bool (is_skipped l)) [
   | inl y ↦ on (λ e f' k' t. ends g n (prefix ++ l ∷ []) e ls is f' k' t) d f k (Skip l tell y) (skip_line g d l y)
   | inr z ↦ by (λ e f' k' t. ends g n (prefix ++ l ∷ []) e ls is f' k' t) z (form g (words (content l))) refl
@@ -120,10 +120,10 @@ ends g n prefix d (l ∷ ls) is f k tell = elim (cases_Bool (is_skipped l)) [
 
     -- how the lines behind this one end
     Rest : Type 0
-    Rest = (e : SoFar) → Fine g e → Kept e → Tell g (prefix ++ l ∷ []) (told_by e) → Ends g n ((prefix ++ l ∷ []) ++ ls) (read_sessions g (n + length (prefix ++ l ∷ [])) e ls)
+    Rest = (e : SoFar) → Fine g e → Kept e → Tell g (prefix ++ l ∷ []) (so_far_by e) → Ends g n ((prefix ++ l ∷ []) ++ ls) (read_sessions g (n + length (prefix ++ l ∷ [])) e ls)
 
     -- the line is taken
-    on : Rest → (e : SoFar) → Fine g e → Kept e → Tell g (prefix ++ l ∷ []) (told_by e) → add_line g d l ≡ Ok e → Goal
+    on : Rest → (e : SoFar) → Fine g e → Kept e → Tell g (prefix ++ l ∷ []) (so_far_by e) → add_line g d l ≡ Ok e → Goal
     on more e f' k' tell' a =
         let long = length-append prefix (l ∷ []) in
         let number : n + length (prefix ++ l ∷ []) ≡ n + length prefix + 1 = omega (arith, long) in
@@ -135,10 +135,10 @@ ends g n prefix d (l ∷ ls) is f k tell = elim (cases_Bool (is_skipped l)) [
     off : (kind : Mistake) → Ends g n (prefix ++ l ∷ ls) (Err (WrongLine (n + length prefix) kind)) → add_line g d l ≡ Err kind → Goal
     off kind e a = subst (Ends g n (prefix ++ l ∷ ls)) (sym (ap (λ r. unless_wrong (n + length prefix) r (λ d'. read_sessions g (n + length prefix + 1) d' ls)) a)) e
 
-    of : Rest → (s : LogContent) → is_skipped l ≡ false → form g (words (content l)) ≡ Some s → (o : Option Mistake) → fault g (told_by d) s ≡ o → Goal
+    of : Rest → (s : LogContent) → is_skipped l ≡ false → form g (words (content l)) ≡ Some s → (o : Option Mistake) → fault g (so_far_by d) s ≡ o → Goal
     of more s z h None e = on more (next d s) (fine_next g d l s is f k h e) (kept g d s k e) (subst (Tell g (prefix ++ l ∷ [])) (sym (moved d s k)) (Say l s tell z (form_is g (words (content l)) s h) e)) (right_line g d l s f k z h e)
-    of more s z h (Some kind) e = off kind (Faulty (told_by d) prefix ls l s refl tell z h e) (wrong_line g d l s kind f k z h e)
+    of more s z h (Some kind) e = off kind (Faulty (so_far_by d) prefix ls l s refl tell z h e) (wrong_line g d l s kind f k z h e)
 
     by : Rest → is_skipped l ≡ false → (o : Option LogContent) → form g (words (content l)) ≡ o → Goal
-    by more z None h = off Form (Formless (told_by d) prefix ls l refl tell z h) (no_line g d l z h)
-    by more z (Some s) h = of more s z h (fault g (told_by d) s) refl
+    by more z None h = off Form (Formless (so_far_by d) prefix ls l refl tell z h) (no_line g d l z h)
+    by more z (Some s) h = of more s z h (fault g (so_far_by d) s) refl

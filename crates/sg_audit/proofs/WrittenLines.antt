@@ -11,15 +11,15 @@ use Rattle.sg_model.specs.Values.{Value}
 use Rattle.sg_model.proofs.Small.{and_left, and_right, some_same}
 use Rattle.sg_protocol.specs.Graph.{Graph}
 use Rattle.sg_graph.specs.Parts.{variable_names, edge_names}
-use Rattle.sg_sched.specs.Format.Said.{Word}
+use Rattle.sg_sched.specs.Format.LineContents.{Word}
 use Rattle.sg_sched.specs.Format.Values.{spelled_value, is_value, value_of}
 use Rattle.sg_sched.specs.Format.Reading.{word, after, ended}
 use Rattle.sg_sched.proofs.FormLaws.{none_some, step, ended_is, line_up, name_ok}
 use Rattle.sg_sched.proofs.FormatWords.{both}
 use Rattle.sg_sched.proofs.NumberLaws.{number_is, number_ok}
-use Rattle.sg_audit.specs.Said.{Assignments, StepContent, LogContent, SaidSession, SaidLog, SaidEvent, SaidWalk, numbered}
+use Rattle.sg_audit.specs.LineContents.{Assignments, StepContent, LogContent, SessionLine, LogHeadLine, EventLine, WalkLine, numbered}
 use Rattle.sg_audit.specs.Reading.{all_assigned, steps, time, session_form, log_form, event_form, walk_form, form}
-use Rattle.sg_audit.specs.Written.{Written, ASession, ALog, AnEvent, AWalk, line_words, is_given, is_form, said_in, Says}
+use Rattle.sg_audit.specs.Written.{Written, ASession, ALog, AnEvent, AWalk, line_words, is_assignment, is_form, said_in, Says}
 use Rattle.sg_audit.proofs.WrittenAssignments.{of_values, pairs_are, pairs_ok}
 use Rattle.sg_audit.proofs.WrittenWalks.{steps_are, steps_ok}
 
@@ -63,16 +63,16 @@ time_ok t h =
 session_is : (g : Graph) (ws : List Word) (s : LogContent) → session_form ws ≡ Some s → Says g (codes "session" ∷ ws) s
 unfolding session_form
 session_is g ws s h =
-    let a = step name (λ n. ended (Some (SaidSession n))) ws s h in
-    let e = ended_is (Some (SaidSession a.value)) a.rest s a.more in
+    let a = step name (λ n. ended (Some (SessionLine n))) ws s h in
+    let e = ended_is (Some (SessionLine a.value)) a.rest s a.more in
     let n = name_is a.first a.value a.was in
     record { written = ASession a.value; spelled = ap (λ r. codes "session" ∷ r) (line_up a.all n.0 e.0); form = n.1; says = some_same e.1 }
 
 log_is : (g : Graph) (ws : List Word) (s : LogContent) → log_form g ws ≡ Some s → Says g (codes "log" ∷ ws) s
 unfolding log_form
 log_is g ws s h =
-    let a = step name (λ n. ended (Some (SaidLog (numbered g.roles n)))) ws s h in
-    let e = ended_is (Some (SaidLog (numbered g.roles a.value))) a.rest s a.more in
+    let a = step name (λ n. ended (Some (LogHeadLine (numbered g.roles n)))) ws s h in
+    let e = ended_is (Some (LogHeadLine (numbered g.roles a.value))) a.rest s a.more in
     let n = name_is a.first a.value a.was in
     record { written = ALog a.value; spelled = ap (λ r. codes "log" ∷ r) (line_up a.all n.0 e.0); form = n.1; says = some_same e.1 }
 
@@ -83,14 +83,14 @@ event_word sent = if sent then codes "sent" else codes "received"
 event_is : (g : Graph) (sent : Bool) (ws : List Word) (s : LogContent) → event_form g sent ws ≡ Some s → Says g (event_word sent ∷ ws) s
 unfolding event_form
 event_is g sent ws s h =
-    let a = step name (λ label. after (word time) λ at. λ ws. option_map (SaidEvent sent (numbered (edge_names g) label) at) (all_assigned (variable_names g) spelled_value ws)) ws s h in
-    let b = step time (λ at ws. option_map (SaidEvent sent (numbered (edge_names g) a.value) at) (all_assigned (variable_names g) spelled_value ws)) a.rest s a.more in
+    let a = step name (λ label. after (word time) λ at. λ ws. option_map (EventLine sent (numbered (edge_names g) label) at) (all_assigned (variable_names g) spelled_value ws)) ws s h in
+    let b = step time (λ at ws. option_map (EventLine sent (numbered (edge_names g) a.value) at) (all_assigned (variable_names g) spelled_value ws)) a.rest s a.more in
     let n = name_is a.first a.value a.was in
     let t = time_is b.first b.value b.was in
     valued a.value b.value b.rest (line_up a.all n.0 (line_up b.all t.0 refl)) n.1 t.1 (all_assigned (variable_names g) spelled_value b.rest) refl b.more
   where
     valued : (label : Name) (at : ℕ) (rest : List Word) → ws ≡ label ∷ decimal at ∷ rest → is_name label ≡ true → is_time at ≡ true → (o : Option (Assignments Value)) → all_assigned (variable_names g) spelled_value rest ≡ o
-        → option_map (SaidEvent sent (numbered (edge_names g) label) at) o ≡ Some s → Says g (event_word sent ∷ ws) s
+        → option_map (EventLine sent (numbered (edge_names g) label) at) o ≡ Some s → Says g (event_word sent ∷ ws) s
     valued label at rest e n t None f h = none_some h
     valued label at rest e n t (Some v) f h =
         let a = pairs_are (variable_names g) spelled_value is_value value_of of_values rest v f in
@@ -98,18 +98,18 @@ event_is g sent ws s h =
           written = AnEvent sent label at a.list;
           spelled = ap (λ r. event_word sent ∷ r) (e ∙ ap (λ r. label ∷ decimal at ∷ r) a.spelled);
           form = both (both n t) a.form;
-          says = ap (SaidEvent sent (numbered (edge_names g) label) at) (sym a.gives) ∙ some_same h;
+          says = ap (EventLine sent (numbered (edge_names g) label) at) (sym a.gives) ∙ some_same h;
         }
 
 walk_is : (g : Graph) (ws : List Word) (s : LogContent) → walk_form g ws ≡ Some s → Says g (codes "walk" ∷ ws) s
 unfolding walk_form
 walk_is g ws s h = found (steps g ws) refl h
   where
-    found : (o : Option (List StepContent)) → steps g ws ≡ o → option_map SaidWalk o ≡ Some s → Says g (codes "walk" ∷ ws) s
+    found : (o : Option (List StepContent)) → steps g ws ≡ o → option_map WalkLine o ≡ Some s → Says g (codes "walk" ∷ ws) s
     found None e h = none_some h
     found (Some ss) e h =
         let a = steps_are g ws ss e in
-        record { written = AWalk a.list; spelled = ap (λ r. codes "walk" ∷ r) a.spelled; form = a.form; says = ap SaidWalk a.says ∙ some_same h }
+        record { written = AWalk a.list; spelled = ap (λ r. codes "walk" ∷ r) a.spelled; form = a.form; says = ap WalkLine a.says ∙ some_same h }
 
 -- a form's words behind its first word
 first_is : {g : Graph} {first w : Word} {ws : List Word} {s : LogContent} → bytes_eq w first ≡ true → Says g (first ∷ ws) s → Says g (w ∷ ws) s
@@ -137,11 +137,11 @@ unfolding form session_form log_form event_form walk_form word
 written_ok g (ASession n) h = rw (name_ok n h) refl
 written_ok g (ALog role) h = rw (name_ok role h) refl
 written_ok g (AnEvent true label at ps) h =
-    let prefix = and_left (is_name label && is_time at) (list_all is_given ps) h in
-    rw (name_ok label (and_left (is_name label) (is_time at) prefix), time_ok at (and_right (is_name label) (is_time at) prefix), pairs_ok (variable_names g) spelled_value is_value value_of of_values ps (and_right (is_name label && is_time at) (list_all is_given ps) h)) refl
+    let prefix = and_left (is_name label && is_time at) (list_all is_assignment ps) h in
+    rw (name_ok label (and_left (is_name label) (is_time at) prefix), time_ok at (and_right (is_name label) (is_time at) prefix), pairs_ok (variable_names g) spelled_value is_value value_of of_values ps (and_right (is_name label && is_time at) (list_all is_assignment ps) h)) refl
 written_ok g (AnEvent false label at ps) h =
-    let prefix = and_left (is_name label && is_time at) (list_all is_given ps) h in
-    rw (name_ok label (and_left (is_name label) (is_time at) prefix), time_ok at (and_right (is_name label) (is_time at) prefix), pairs_ok (variable_names g) spelled_value is_value value_of of_values ps (and_right (is_name label && is_time at) (list_all is_given ps) h)) refl
+    let prefix = and_left (is_name label && is_time at) (list_all is_assignment ps) h in
+    rw (name_ok label (and_left (is_name label) (is_time at) prefix), time_ok at (and_right (is_name label) (is_time at) prefix), pairs_ok (variable_names g) spelled_value is_value value_of of_values ps (and_right (is_name label && is_time at) (list_all is_assignment ps) h)) refl
 written_ok g (AWalk ss) h = rw (steps_ok g ss h) refl
 
 pub form_ok : (g : Graph) (ws : List Word) (s : LogContent) → Says g ws s → form g ws ≡ Some s

@@ -7,7 +7,7 @@ use Rattle.std.proofs.lemmas.Slice.Eq.{bytes_eq-Decides}
 use Rattle.sg_model.specs.Names.{is_name}
 use Rattle.sg_model.specs.Values.{Value, IntValue}
 use Rattle.sg_model.proofs.Small.{and_left, and_right, some_same}
-use Rattle.sg_sched.specs.Format.Said.{Word, Assignment as Pair, given_word, joined_names}
+use Rattle.sg_sched.specs.Format.LineContents.{Word, Assignment as Pair, assignment_word, joined_names}
 use Rattle.sg_sched.specs.Format.Values.{is_value, int_value, text_value, text_bytes, as_text, put_before, hex_byte, is_plain}
 use Rattle.sg_base.specs.Words.{number, from_one, is_digit, has_needless_zero, up_to, value}
 use Rattle.sg_sched.proofs.FormLaws.{none_some}
@@ -263,12 +263,12 @@ closed_shown w h = by (bytes_eq w (codes "?")) refl h
     by true e h = ap (open_after false) ((bytes_eq-Decides w (codes "?")).0 e)
     by false e h = closed_value w h
 
-closed_write : (p : Pair) → is_write p ≡ true → open_after false (given_word p) ≡ Some false
+closed_write : (p : Pair) → is_write p ≡ true → open_after false (assignment_word p) ≡ Some false
 closed_write p h =
     let n = and_left (is_name p.variable) (is_shown p.value) h in
     let v = and_right (is_name p.variable) (is_shown p.value) h in
     open_more false p.variable (61 ∷ p.value) false (closed_plain p.variable (name_lacks 34 p.variable refl n) (name_lacks 44 p.variable refl n)) ∙ closed_shown p.value v
 
-pub closed_writes : (ps : List Pair) → list_all is_write ps ≡ true → are_closed (map given_word ps)
+pub closed_writes : (ps : List Pair) → list_all is_write ps ≡ true → are_closed (map assignment_word ps)
 closed_writes [] h = tt
 closed_writes (p ∷ ps) h = (closed_write p (and_left (is_write p) (list_all is_write ps) h), closed_writes ps (and_right (is_write p) (list_all is_write ps) h))

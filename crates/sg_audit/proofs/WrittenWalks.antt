@@ -10,14 +10,14 @@ use Rattle.sg_model.specs.Values.{Value}
 use Rattle.sg_model.proofs.Small.{and_left, and_right, some_same}
 use Rattle.sg_protocol.specs.Graph.{Graph}
 use Rattle.sg_graph.specs.Parts.{variable_names, edge_names}
-use Rattle.sg_sched.specs.Format.Said.{Word, Assignment as Pair, given_word, joined_names}
+use Rattle.sg_sched.specs.Format.LineContents.{Word, Assignment as Pair, assignment_word, joined_names}
 use Rattle.sg_sched.specs.Format.Reading.{split_at}
 use Rattle.sg_sched.proofs.FormLaws.{none_some}
 use Rattle.sg_sched.proofs.PartLaws.{split_is, split_ok}
 use Rattle.sg_sched.proofs.FormatWords.{both, lacks, name_lacks}
-use Rattle.sg_audit.specs.Said.{Assignments, StepContent, numbered}
+use Rattle.sg_audit.specs.LineContents.{Assignments, StepContent, numbered}
 use Rattle.sg_audit.specs.Reading.{all_assigned, shown_or_hidden, parts, unclosed, written, labelled, unstarred, step, steps}
-use Rattle.sg_audit.specs.Written.{WrittenStep, writes_word, step_word, is_write, is_step, shown_value, given_in, step_in}
+use Rattle.sg_audit.specs.Written.{WrittenStep, writes_word, step_word, is_write, is_step, shown_value, assigned_in, step_in}
 use Rattle.sg_audit.proofs.WrittenAssignments.{of_writes, is_shown, pairs_are, pairs_ok}
 use Rattle.sg_audit.proofs.WrittenSteps.{Split, split_of, parts_joined, closed_writes}
 
@@ -54,9 +54,9 @@ are_some ps = nat_lt 0 (length ps) && list_all is_write ps
 
 pub record Writes (names : List Name) (w : Word) (v : Assignments (Option Value)) : Type 0 where
   pub list : List Pair
-  pub spelled : w ≡ joined_names (map given_word list) ++ 41 ∷ []
+  pub spelled : w ≡ joined_names (map assignment_word list) ++ 41 ∷ []
   pub form : are_some list ≡ true
-  pub gives : v ≡ given_in names shown_value list
+  pub gives : v ≡ assigned_in names shown_value list
 
 some_length : (p : Pair) (ps : List Pair) → nat_lt 0 (length (p ∷ ps)) ≡ true
 some_length p ps = grind (arith, common_steps)
@@ -64,7 +64,7 @@ some_length p ps = grind (arith, common_steps)
 writes_are : (names : List Name) (w : Word) (v : Assignments (Option Value)) → written names w ≡ Some v → Writes names w v
 writes_are names w v h = found (unclosed w) refl h
   where
-    listed : (inner : Word) → w ≡ inner ++ 41 ∷ [] → (s : Split false inner) → (ps : List Pair) → parts false inner ≡ map given_word ps → list_all is_write ps ≡ true → v ≡ given_in names shown_value ps → Writes names w v
+    listed : (inner : Word) → w ≡ inner ++ 41 ∷ [] → (s : Split false inner) → (ps : List Pair) → parts false inner ≡ map assignment_word ps → list_all is_write ps ≡ true → v ≡ assigned_in names shown_value ps → Writes names w v
     listed inner e s [] f g k = let bad : s.first ∷ s.more ≡ [] = sym s.all ∙ f in absurd (cc)
     listed inner e s (p ∷ ps) f g k = record {
       list = p ∷ ps;
@@ -79,12 +79,12 @@ writes_are names w v h = found (unclosed w) refl h
         let a = pairs_are names shown_or_hidden is_shown shown_value of_writes (parts false inner) v h in
         listed inner (unclosed_is w inner e) (split_of false inner) a.list a.spelled a.form a.gives
 
-writes_ok : (names : List Name) (ps : List Pair) → are_some ps ≡ true → written names (joined_names (map given_word ps) ++ 41 ∷ []) ≡ Some (given_in names shown_value ps)
+writes_ok : (names : List Name) (ps : List Pair) → are_some ps ≡ true → written names (joined_names (map assignment_word ps) ++ 41 ∷ []) ≡ Some (assigned_in names shown_value ps)
 writes_ok names [] h = absurd (true≢false (sym h))
 writes_ok names (p ∷ ps) h =
     let all : list_all is_write (p ∷ ps) ≡ true = and_right (nat_lt 0 (length (p ∷ ps))) (list_all is_write (p ∷ ps)) h in
-    ap (option_and_then (λ inner. all_assigned names shown_or_hidden (parts false inner))) (unclosed_ok (joined_names (map given_word (p ∷ ps))))
-    ∙ ap (all_assigned names shown_or_hidden) (parts_joined (given_word p) (map given_word ps) (closed_writes (p ∷ ps) all))
+    ap (option_and_then (λ inner. all_assigned names shown_or_hidden (parts false inner))) (unclosed_ok (joined_names (map assignment_word (p ∷ ps))))
+    ∙ ap (all_assigned names shown_or_hidden) (parts_joined (assignment_word p) (map assignment_word ps) (closed_writes (p ∷ ps) all))
     ∙ pairs_ok names shown_or_hidden is_shown shown_value of_writes (p ∷ ps) all
 
 -- ---- steps
@@ -178,19 +178,19 @@ step_ok g s h =
     ap (λ u. labelled g u (split_at 40 u)) (unstar_ok s n) ∙ by s.writes refl n (and_right (is_name s.label) (option_map_or are_some s.writes true) h)
   where
     by : (o : Option (List Pair)) → s.writes ≡ o → is_name s.label ≡ true → option_map_or are_some o true ≡ true
-        → labelled g (s.label ++ writes_word s.writes) (split_at 40 (s.label ++ writes_word s.writes)) ≡ Some (record { label = numbered (edge_names g) s.label; writes = given_in (variable_names g) shown_value (option_map_or (λ ps. ps) s.writes []) })
+        → labelled g (s.label ++ writes_word s.writes) (split_at 40 (s.label ++ writes_word s.writes)) ≡ Some (record { label = numbered (edge_names g) s.label; writes = assigned_in (variable_names g) shown_value (option_map_or (λ ps. ps) s.writes []) })
     by None e n f =
         let plain : s.label ++ writes_word s.writes ≡ s.label = ap (λ o. s.label ++ writes_word o) e ∙ append-nil s.label in
         ap (λ u. labelled g u (split_at 40 u)) plain ∙ ap (labelled g s.label) (split_lacks 40 s.label (name_lacks 40 s.label refl n))
         ∙ ap (λ b. if b then Some (record { label = numbered (edge_names g) s.label; writes = record { pairs = []; known = true } }) else None) n
-        ∙ ap (λ o. Some (record { label = numbered (edge_names g) s.label; writes = given_in (variable_names g) shown_value (option_map_or (λ ps. ps) o []) })) (sym e)
+        ∙ ap (λ o. Some (record { label = numbered (edge_names g) s.label; writes = assigned_in (variable_names g) shown_value (option_map_or (λ ps. ps) o []) })) (sym e)
     by (Some ps) e n f =
-        let rest : Word = joined_names (map given_word ps) ++ 41 ∷ [] in
+        let rest : Word = joined_names (map assignment_word ps) ++ 41 ∷ [] in
         ap (λ o. labelled g (s.label ++ writes_word o) (split_at 40 (s.label ++ writes_word o))) e
         ∙ ap (labelled g (s.label ++ 40 ∷ rest)) (split_ok 40 s.label rest (name_lacks 40 s.label refl n))
         ∙ ap (λ b. if b then option_map (λ writes. record { label = numbered (edge_names g) s.label; writes = writes }) (written (variable_names g) rest) else None) n
         ∙ ap (option_map (λ writes. record { label = numbered (edge_names g) s.label; writes = writes })) (writes_ok (variable_names g) ps f)
-        ∙ ap (λ o. Some (record { label = numbered (edge_names g) s.label; writes = given_in (variable_names g) shown_value (option_map_or (λ ps. ps) o []) })) (sym e)
+        ∙ ap (λ o. Some (record { label = numbered (edge_names g) s.label; writes = assigned_in (variable_names g) shown_value (option_map_or (λ ps. ps) o []) })) (sym e)
 
 pub record AllSteps (g : Graph) (ws : List Word) (ss : List StepContent) : Type 0 where
   pub list : List WrittenStep

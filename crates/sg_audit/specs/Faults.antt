@@ -6,7 +6,7 @@ use Rattle.sg_model.specs.Lists.{has_text, is_in, below, keys_of, first_some}
 use Rattle.sg_model.specs.Limits.{most_events}
 use Rattle.sg_protocol.specs.Graph.{Graph}
 use Rattle.sg_audit.specs.Merged.{Log, roles_of, events_of}
-use Rattle.sg_audit.specs.Said.{Assignments, StepContent, LogContent, SaidSession, SaidLog, SaidEvent, SaidWalk, differ, falls}
+use Rattle.sg_audit.specs.LineContents.{Assignments, StepContent, LogContent, SessionLine, LogHeadLine, EventLine, WalkLine, differ, falls}
 use Rattle.sg_audit.specs.Sessions.{LogsSoFar, sessions_of}
 use Rattle.sg_audit.specs.declared.fault.Mistake.{Mistake}
 use Rattle.sg_audit.specs.declared.fault.Mistake.TheVariants.{Form, TooManyEvents, Unknown, Twice}
@@ -46,29 +46,29 @@ is_strange s = is_none s.label || not s.writes.known
 -- out of place: a session before the last one may end; a log or a walk in no session that is open, or a walk if each role has a log; an event in no log.
 -- Or variables, all the graph's and none named twice, that don't rise
 abbrev pub is_wrong : Graph → LogsSoFar → LogContent → Bool
-is_wrong g t (SaidSession n) = not (is_whole g t)
-is_wrong g t (SaidLog role) = not (is_open t)
-is_wrong g t (SaidEvent sent label time v) = not (is_open t) || length (last_logs t) == 0 || falls v
-is_wrong g t (SaidWalk steps) = not (is_open t) || all_have_logs g t || list_any (λ s. falls s.writes) steps
+is_wrong g t (SessionLine n) = not (is_whole g t)
+is_wrong g t (LogHeadLine role) = not (is_open t)
+is_wrong g t (EventLine sent label time v) = not (is_open t) || length (last_logs t) == 0 || falls v
+is_wrong g t (WalkLine steps) = not (is_open t) || all_have_logs g t || list_any (λ s. falls s.writes) steps
 
 -- the event 100,001
 abbrev pub is_too_many : LogsSoFar → LogContent → Bool
-is_too_many t (SaidEvent sent label time v) = nat_le most_events (event_count t)
+is_too_many t (EventLine sent label time v) = nat_le most_events (event_count t)
 is_too_many t other = false
 
 -- a role, a label or a variable isn't the graph's
 abbrev pub is_unknown : LogContent → Bool
-is_unknown (SaidSession n) = false
-is_unknown (SaidLog role) = is_none role
-is_unknown (SaidEvent sent label time v) = is_none label || not v.known
-is_unknown (SaidWalk steps) = list_any is_strange steps
+is_unknown (SessionLine n) = false
+is_unknown (LogHeadLine role) = is_none role
+is_unknown (EventLine sent label time v) = is_none label || not v.known
+is_unknown (WalkLine steps) = list_any is_strange steps
 
 -- a session of this name or a log of this role is there, or a variable is named twice
 abbrev pub is_repeated : LogsSoFar → LogContent → Bool
-is_repeated t (SaidSession n) = has_text n (map (λ s. s.name) (sessions_of t))
-is_repeated t (SaidLog role) = option_map_or (λ r. is_in r (roles_of (last_logs t))) role false
-is_repeated t (SaidEvent sent label time v) = is_double v
-is_repeated t (SaidWalk steps) = list_any (λ s. is_double s.writes) steps
+is_repeated t (SessionLine n) = has_text n (map (λ s. s.name) (sessions_of t))
+is_repeated t (LogHeadLine role) = option_map_or (λ r. is_in r (roles_of (last_logs t))) role false
+is_repeated t (EventLine sent label time v) = is_double v
+is_repeated t (WalkLine steps) = list_any (λ s. is_double s.writes) steps
 
 -- the kind, if the test says so
 abbrev pub where' : Bool → Mistake → Option Mistake

@@ -4,7 +4,7 @@ pub mod Agree
 pub mod Laws
 pub mod Model
 pub mod Answers
-pub mod Said
+pub mod LineContents
 pub mod Reading
 pub mod Written
 pub mod Sessions
@@ -12,4 +12,4 @@ pub mod Faults
 pub mod Spells
 pub mod SoFar
 pub mod Read
-pub mod Taken
+pub mod TakingLines

@@ -15,5 +15,5 @@ abbrev pub logs_of : SessionLog → List Log
 logs_of s = map log_of s.logs
 
 -- the steps of the walk that is given, if one is
-abbrev pub told_of : SessionLog → Option (List StoredStep)
-told_of s = option_map steps_of s.walk
+abbrev pub reported_of : SessionLog → Option (List StoredStep)
+reported_of s = option_map steps_of s.walk

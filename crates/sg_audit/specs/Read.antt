@@ -6,7 +6,7 @@ use Rattle.sg_parse.specs.Reading.{read as parsed}
 use Rattle.sg_parse.specs.declared.fault.ParseFault.{ParseFault}
 use Rattle.sg_sched.specs.Text.{lines, content, words}
 use Rattle.sg_sched.specs.Format.Forms.{is_skipped}
-use Rattle.sg_sched.specs.Format.Said.{Word}
+use Rattle.sg_sched.specs.Format.LineContents.{Word}
 use Rattle.sg_sched.specs.Format.Spells.{Line, closes}
 use Rattle.sg_audit.specs.Reading.{form}
 use Rattle.sg_audit.specs.SoFar.{SoFar, Added, nothing, add, all_sessions, is_whole}

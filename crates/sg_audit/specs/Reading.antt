@@ -7,16 +7,16 @@ use Rattle.sg_model.specs.Limits.{most_time}
 use Rattle.sg_base.specs.Words.{number, from_one, name}
 use Rattle.sg_protocol.specs.Graph.{Graph}
 use Rattle.sg_graph.specs.Parts.{variable_names, edge_names}
-use Rattle.sg_sched.specs.Format.Said.{Word}
+use Rattle.sg_sched.specs.Format.LineContents.{Word}
 use Rattle.sg_sched.specs.Format.Values.{spelled_value}
 use Rattle.sg_sched.specs.Format.Reading.{WordsLeft, word, after, ended, split_at}
-use Rattle.sg_audit.specs.Said.{Assignments, StepContent, LogContent, SaidSession, SaidLog, SaidEvent, SaidWalk, numbered, nothing_given, one_given, both_given}
+use Rattle.sg_audit.specs.LineContents.{Assignments, StepContent, LogContent, SessionLine, LogHeadLine, EventLine, WalkLine, numbered, nothing_assigned, one_assigned, both_assigned}
 
 -- ---- variables with values
 
 -- a name, and what stands after it
 abbrev pub as_named : {A : Type 0} → List Name → (Word → Option A) → Word × Word → Option (Assignments A)
-as_named names read p = if is_name p.0 then option_map (one_given names p.0) (read p.1) else None
+as_named names read p = if is_name p.0 then option_map (one_assigned names p.0) (read p.1) else None
 
 -- VAR=VALUE, by a reader of the value
 unfoldable pub assigned : {A : Type 0} → List Name → (Word → Option A) → Word → Option (Assignments A)
@@ -24,8 +24,8 @@ assigned names read w = option_and_then (as_named names read) (split_at 61 w)
 
 -- each word is VAR=VALUE
 abbrev pub all_assigned : {A : Type 0} → List Name → (Word → Option A) → List Word → Option (Assignments A)
-all_assigned names read [] = Some nothing_given
-all_assigned names read (w ∷ ws) = option_and_then (λ v. option_map (both_given v) (all_assigned names read ws)) (assigned names read w)
+all_assigned names read [] = Some nothing_assigned
+all_assigned names read (w ∷ ws) = option_and_then (λ v. option_map (both_assigned v) (all_assigned names read ws)) (assigned names read w)
 
 -- a value, or ? for a hidden one
 unfoldable pub shown_or_hidden : Word → Option (Option Value)
@@ -61,7 +61,7 @@ written names w = option_and_then (λ inner. all_assigned names shown_or_hidden 
 
 -- a label alone, or LABEL(VAR=VALUE,..)
 abbrev pub labelled : Graph → Word → Option (Word × Word) → Option StepContent
-labelled g w None = if is_name w then Some (record { label = numbered (edge_names g) w; writes = nothing_given }) else None
+labelled g w None = if is_name w then Some (record { label = numbered (edge_names g) w; writes = nothing_assigned }) else None
 labelled g w (Some p) = if is_name p.0 then option_map (λ writes. record { label = numbered (edge_names g) p.0; writes = writes }) (written (variable_names g) p.1) else None
 
 -- the word without a * in front
@@ -84,13 +84,13 @@ steps g (w ∷ ws) = option_and_then (λ s. option_map (λ ss. s ∷ ss) (steps 
 unfoldable pub session_form : WordsLeft → Option LogContent
 session_form =
     after (word name) λ n.
-    ended (Some (SaidSession n))
+    ended (Some (SessionLine n))
 
 -- log ROLE
 unfoldable pub log_form : Graph → WordsLeft → Option LogContent
 log_form g =
     after (word name) λ n.
-    ended (Some (SaidLog (numbered g.roles n)))
+    ended (Some (LogHeadLine (numbered g.roles n)))
 
 -- a time, from 1 to 1,000,000
 unfoldable pub time : Word → Option ℕ
@@ -101,11 +101,11 @@ unfoldable pub event_form : Graph → Bool → WordsLeft → Option LogContent
 event_form g sent =
     after (word name) λ label.
     after (word time) λ at.
-    λ ws. option_map (SaidEvent sent (numbered (edge_names g) label) at) (all_assigned (variable_names g) spelled_value ws)
+    λ ws. option_map (EventLine sent (numbered (edge_names g) label) at) (all_assigned (variable_names g) spelled_value ws)
 
 -- walk STEP ..
 unfoldable pub walk_form : Graph → WordsLeft → Option LogContent
-walk_form g ws = option_map SaidWalk (steps g ws)
+walk_form g ws = option_map WalkLine (steps g ws)
 
 -- a line by its first word
 unfoldable pub form : Graph → WordsLeft → Option LogContent

@@ -8,7 +8,7 @@ use Rattle.sg_protocol.specs.Graph.{Graph}
 use Rattle.sg_protocol.specs.Calls.{Event, Sent, Received}
 use Rattle.sg_protocol.specs.Walk.{StoredStep}
 use Rattle.sg_audit.specs.Merged.{Log}
-use Rattle.sg_audit.specs.Said.{StepContent, LogContent, SaidSession, SaidLog, SaidEvent, SaidWalk}
+use Rattle.sg_audit.specs.LineContents.{StepContent, LogContent, SessionLine, LogHeadLine, EventLine, WalkLine}
 
 -- a session with its logs, and its walk, if one is given
 pub record Session : Type 0 where
@@ -57,7 +57,7 @@ with_logs f t = record { over = t.over; last = option_map (λ s. record { name =
 
 -- a session begins; the last one gets a log, the last log an event, the last session its walk
 abbrev pub added : LogsSoFar → LogContent → LogsSoFar
-added t (SaidSession n) = record { over = sessions_of t; last = Some (record { name = n; logs = []; walk = None }) }
-added t (SaidLog role) = with_logs (λ logs. logs ++ (unwrap_or role 0, []) ∷ []) t
-added t (SaidEvent sent label time v) = with_logs (with_event (λ r. event sent r (unwrap_or label 0) time v.pairs)) t
-added t (SaidWalk steps) = record { over = t.over; last = option_map (λ s. record { name = s.name; logs = s.logs; walk = Some (map stored_step steps) }) t.last }
+added t (SessionLine n) = record { over = sessions_of t; last = Some (record { name = n; logs = []; walk = None }) }
+added t (LogHeadLine role) = with_logs (λ logs. logs ++ (unwrap_or role 0, []) ∷ []) t
+added t (EventLine sent label time v) = with_logs (with_event (λ r. event sent r (unwrap_or label 0) time v.pairs)) t
+added t (WalkLine steps) = record { over = t.over; last = option_map (λ s. record { name = s.name; logs = s.logs; walk = Some (map stored_step steps) }) t.last }

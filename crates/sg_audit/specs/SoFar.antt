@@ -11,7 +11,7 @@ use Rattle.sg_protocol.specs.Graph.{Graph}
 use Rattle.sg_protocol.specs.Calls.{Event}
 use Rattle.sg_protocol.specs.Walk.{StoredStep}
 use Rattle.sg_audit.specs.Merged.{Log}
-use Rattle.sg_audit.specs.Said.{Assignments, StepContent, LogContent, SaidSession, SaidLog, SaidEvent, SaidWalk, falls, rise}
+use Rattle.sg_audit.specs.LineContents.{Assignments, StepContent, LogContent, SessionLine, LogHeadLine, EventLine, WalkLine, falls, rise}
 use Rattle.sg_audit.specs.Sessions.{Session, event, stored_step}
 use Rattle.sg_audit.specs.declared.fault.Mistake.{Mistake}
 use Rattle.sg_audit.specs.declared.fault.Mistake.TheVariants.{Form, TooManyEvents, Unknown, Twice}
@@ -113,7 +113,7 @@ add_walk g d ss =
 
 -- what a line of a form adds
 unfoldable pub add : Graph → SoFar → LogContent → Added
-add g d (SaidSession n) = add_session g d n
-add g d (SaidLog role) = add_log d role
-add g d (SaidEvent sent label time values) = add_event d sent label time values
-add g d (SaidWalk ss) = add_walk g d ss
+add g d (SessionLine n) = add_session g d n
+add g d (LogHeadLine role) = add_log d role
+add g d (EventLine sent label time values) = add_event d sent label time values
+add g d (WalkLine ss) = add_walk g d ss

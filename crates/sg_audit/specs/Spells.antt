@@ -8,7 +8,7 @@ use Rattle.sg_parse.specs.declared.fault.ParseFault.{ParseFault}
 use Rattle.sg_sched.specs.Text.{lines, content, words}
 use Rattle.sg_sched.specs.Format.Forms.{is_skipped}
 use Rattle.sg_sched.specs.Format.Spells.{Line, closes}
-use Rattle.sg_audit.specs.Said.{LogContent}
+use Rattle.sg_audit.specs.LineContents.{LogContent}
 use Rattle.sg_audit.specs.Written.{Says}
 use Rattle.sg_audit.specs.Sessions.{Logs, LogsSoFar, sessions_of, added}
 use Rattle.sg_audit.specs.Faults.{fault, is_whole}
@@ -62,10 +62,10 @@ pub record TellAfter (g : AGraph) (ls : List Line) (t : LogsSoFar) : Type 0 wher
 
 -- the bytes are the logs: they give the sessions, and the last one may end
 pub record SpellsLogs (bytes : List ℕ) (l : Logs) : Type 0 where
-  pub told : LogsSoFar
-  pub tell : TellAfter l.graph (lines bytes) told
-  pub whole : IsTrue (is_whole l.graph told)
-  pub sessions : l.sessions ≡ sessions_of told
+  pub so_far : LogsSoFar
+  pub tell : TellAfter l.graph (lines bytes) so_far
+  pub whole : IsTrue (is_whole l.graph so_far)
+  pub sessions : l.sessions ≡ sessions_of so_far
 
 -- ---- wrong lines
 
@@ -88,15 +88,15 @@ pub data IsFirstFault (ls : List Line) : Fault → Type 0 where
   TooFew : (g : AGraph) (t : LogsSoFar) → TellAfter g ls t → IsFalse (is_whole g t) → IsFirstFault ls (WrongLine (length ls + 1) Form)
 
 -- a fault as the program reports it: the event 100,001 without its line
-abbrev pub told_as : Fault → LogFault
-told_as (WrongLine n Form) = FormAt n
-told_as (WrongLine n Unknown) = UnknownAt n
-told_as (WrongLine n Twice) = TwiceAt n
-told_as (WrongLine n TooManyEvents) = TooMany
-told_as (NoGraph fault) = InGraph fault
+abbrev pub reported_as : Fault → LogFault
+reported_as (WrongLine n Form) = FormAt n
+reported_as (WrongLine n Unknown) = UnknownAt n
+reported_as (WrongLine n Twice) = TwiceAt n
+reported_as (WrongLine n TooManyEvents) = TooMany
+reported_as (NoGraph fault) = InGraph fault
 
 -- the program reports the first fault of the bytes
 pub record IsFault (bytes : List ℕ) (e : LogFault) : Type 0 where
   pub fault : Fault
   pub first : IsFirstFault (lines bytes) fault
-  pub told : e ≡ told_as fault
+  pub reported : e ≡ reported_as fault

@@ -9,9 +9,9 @@ use Rattle.sg_model.specs.Values.{Value}
 use Rattle.sg_model.specs.Limits.{most_time}
 use Rattle.sg_protocol.specs.Graph.{Graph}
 use Rattle.sg_graph.specs.Parts.{variable_names, edge_names}
-use Rattle.sg_sched.specs.Format.Said.{Word, Assignment as Pair, given_word, joined_names}
+use Rattle.sg_sched.specs.Format.LineContents.{Word, Assignment as Pair, assignment_word, joined_names}
 use Rattle.sg_sched.specs.Format.Values.{is_value, value_of}
-use Rattle.sg_audit.specs.Said.{Assignments, StepContent, LogContent, SaidSession, SaidLog, SaidEvent, SaidWalk, numbered}
+use Rattle.sg_audit.specs.LineContents.{Assignments, StepContent, LogContent, SessionLine, LogHeadLine, EventLine, WalkLine, numbered}
 
 -- a step of a walk: whether * stands in front, the label, and what stands between ( and ) if they stand
 pub record WrittenStep : Type 0 where
@@ -31,7 +31,7 @@ pub data Written : Type 0 where
 -- (VAR=VALUE,..), or nothing
 abbrev pub writes_word : Option (List Pair) → Word
 writes_word None = []
-writes_word (Some ps) = 40 ∷ (joined_names (map given_word ps) ++ 41 ∷ [])
+writes_word (Some ps) = 40 ∷ (joined_names (map assignment_word ps) ++ 41 ∷ [])
 
 -- [*]LABEL[(VAR=VALUE,..)]
 abbrev pub step_word : WrittenStep → Word
@@ -41,14 +41,14 @@ step_word s = (if s.starred then codes "*" else []) ++ (s.label ++ writes_word s
 abbrev pub line_words : Written → List Word
 line_words (ASession n) = codes "session" ∷ n ∷ []
 line_words (ALog role) = codes "log" ∷ role ∷ []
-line_words (AnEvent sent label time values) = (if sent then codes "sent" else codes "received") ∷ label ∷ decimal time ∷ map given_word values
+line_words (AnEvent sent label time values) = (if sent then codes "sent" else codes "received") ∷ label ∷ decimal time ∷ map assignment_word values
 line_words (AWalk steps) = codes "walk" ∷ map step_word steps
 
 -- ---- what each field may hold
 
 -- VAR=VALUE
-abbrev pub is_given : Pair → Bool
-is_given p = is_name p.variable && is_value p.value
+abbrev pub is_assignment : Pair → Bool
+is_assignment p = is_name p.variable && is_value p.value
 
 -- VAR=VALUE, or VAR=? for a hidden value
 abbrev pub is_write : Pair → Bool
@@ -62,7 +62,7 @@ is_step s = is_name s.label && option_map_or (λ ps. nat_lt 0 (length ps) && lis
 abbrev pub is_form : Written → Bool
 is_form (ASession n) = is_name n
 is_form (ALog role) = is_name role
-is_form (AnEvent sent label time values) = is_name label && (nat_le 1 time && nat_le time most_time) && list_all is_given values
+is_form (AnEvent sent label time values) = is_name label && (nat_le 1 time && nat_le time most_time) && list_all is_assignment values
 is_form (AWalk steps) = list_all is_step steps
 
 -- ---- what is said
@@ -72,19 +72,19 @@ abbrev pub shown_value : Word → Option Value
 shown_value w = if bytes_eq w (codes "?") then None else Some (value_of w)
 
 -- the variables that the graph declares with their values, and whether it declares all
-abbrev pub given_in : {A : Type 0} → List Name → (Word → A) → List Pair → Assignments A
-given_in names value ps = record { pairs = filter_map (λ p. option_map (λ x. (x, value p.value)) (numbered names p.variable)) ps; known = list_all (λ p. has_text p.variable names) ps }
+abbrev pub assigned_in : {A : Type 0} → List Name → (Word → A) → List Pair → Assignments A
+assigned_in names value ps = record { pairs = filter_map (λ p. option_map (λ x. (x, value p.value)) (numbered names p.variable)) ps; known = list_all (λ p. has_text p.variable names) ps }
 
 -- a step
 abbrev pub step_in : Graph → WrittenStep → StepContent
-step_in g s = record { label = numbered (edge_names g) s.label; writes = given_in (variable_names g) shown_value (option_map_or (λ ps. ps) s.writes []) }
+step_in g s = record { label = numbered (edge_names g) s.label; writes = assigned_in (variable_names g) shown_value (option_map_or (λ ps. ps) s.writes []) }
 
 -- what a line says, with the numbers of its names
 abbrev pub said_in : Graph → Written → LogContent
-said_in g (ASession n) = SaidSession n
-said_in g (ALog role) = SaidLog (numbered g.roles role)
-said_in g (AnEvent sent label time values) = SaidEvent sent (numbered (edge_names g) label) time (given_in (variable_names g) value_of values)
-said_in g (AWalk steps) = SaidWalk (map (step_in g) steps)
+said_in g (ASession n) = SessionLine n
+said_in g (ALog role) = LogHeadLine (numbered g.roles role)
+said_in g (AnEvent sent label time values) = EventLine sent (numbered (edge_names g) label) time (assigned_in (variable_names g) value_of values)
+said_in g (AWalk steps) = WalkLine (map (step_in g) steps)
 
 -- the words are those of a line, each field of which holds what it may hold, and they say this of the graph
 pub record Says (g : Graph) (ws : List Word) (said : LogContent) : Type 0 where

@@ -4,9 +4,9 @@ ghost use Rattle.sg_graph.specs.Parts.{variable_names, edge_names};
 ghost use Rattle.sg_sched.specs.Format.Values.{spelled_value};
 ghost use Rattle.sg_walk.specs.Model.{writes_of};
 ghost use Rattle.sg_base.specs.Model.{value_of};
-ghost use Rattle.sg_audit.specs.Said.{numbered, both_given, nothing_given};
+ghost use Rattle.sg_audit.specs.LineContents.{numbered, both_assigned, nothing_assigned};
 ghost use Rattle.sg_audit.specs.Reading.{assigned, all_assigned, shown_or_hidden, parts};
-ghost use Rattle.sg_audit.specs.Taken.{given_values, given_writes};
+ghost use Rattle.sg_audit.specs.TakingLines.{assigned_values, assigned_writes};
 
 use sg_base::{Label, Name, OutOfMemory, Role, Seq, Value, Var};
 use sg_graph::Graph;
@@ -52,7 +52,7 @@ pub(crate) fn read_values(
     graph: &Graph,
     words: &mut Words<'_>,
 ) -> Result<Option<Assignments<Value>>, OutOfMemory>
-    ensures { IfOk result (λ o. option_map given_values o ≡ all_assigned (variable_names graph.now) spelled_value words.old) }
+    ensures { IfOk result (λ o. option_map assigned_values o ≡ all_assigned (variable_names graph.now) spelled_value words.old) }
 {
     let mut given = Assignments {
         pairs: Seq::new(alloc),
@@ -74,7 +74,7 @@ fn put_value(
     given: &mut Assignments<Value>,
     word: &[u8],
 ) -> Result<bool, OutOfMemory>
-    ensures { IfOk result (λ b. (if b then Some (given_values given.new) else None) ≡ option_map (both_given (given_values given.old)) (assigned (variable_names graph.now) spelled_value word.now)) }
+    ensures { IfOk result (λ b. (if b then Some (assigned_values given.new) else None) ≡ option_map (both_assigned (assigned_values given.old)) (assigned (variable_names graph.now) spelled_value word.now)) }
 {
     let Some((name, text)) = split_at(b'=', word) else {
         return Ok(false);
@@ -100,7 +100,7 @@ pub(crate) fn put_write(
     given: &mut Assignments<Option<Value>>,
     word: &[u8],
 ) -> Result<bool, OutOfMemory>
-    ensures { IfOk result (λ b. (if b then Some (given_writes given.new) else None) ≡ option_map (both_given (given_writes given.old)) (assigned (variable_names graph.now) shown_or_hidden word.now)) }
+    ensures { IfOk result (λ b. (if b then Some (assigned_writes given.new) else None) ≡ option_map (both_assigned (assigned_writes given.old)) (assigned (variable_names graph.now) shown_or_hidden word.now)) }
 {
     let Some((name, text)) = split_at(b'=', word) else {
         return Ok(false);

@@ -6,7 +6,7 @@ ghost use Rattle.sg_audit.specs.Agree.{AreLogs, NoneClashes};
 ghost use Rattle.sg_audit.specs.Merged.{AscendFrom, IsMerged};
 ghost use Rattle.sg_audit.specs.Sent.{sent_steps};
 ghost use Rattle.sg_audit.specs.Answers.{IsAnswer};
-ghost use Rattle.sg_audit.specs.Model.{logs_of, told_of};
+ghost use Rattle.sg_audit.specs.Model.{logs_of, reported_of};
 
 use crate::answer::Audit;
 use crate::merge::{all_ascend, first_clash, merge};
@@ -20,8 +20,8 @@ use std::alloc::Global;
 
 /// Whether the logs of a session agree with the walk that is given, or, if each role has a log, with any walk.
 pub fn audit(alloc: Global, graph: &Graph, session: &SessionLog) -> Result<Audit, OutOfMemory>
-    requires { AreLogs graph.now (logs_of session.now) (told_of session.now) }
-    ensures { IfOk result (IsAnswer graph.now (logs_of session.now) (told_of session.now)) }
+    requires { AreLogs graph.now (logs_of session.now) (reported_of session.now) }
+    ensures { IfOk result (IsAnswer graph.now (logs_of session.now) (reported_of session.now)) }
 {
     let merged = merge(alloc, session.logs.as_slice())?;
     if let Some(time) = first_clash(merged.as_slice()) {
@@ -40,11 +40,11 @@ fn explain(
     session: &SessionLog,
     merged: &[Event],
 ) -> Result<Audit, OutOfMemory>
-    requires logs { AreLogs graph.now (logs_of session.now) (told_of session.now) }
+    requires logs { AreLogs graph.now (logs_of session.now) (reported_of session.now) }
     requires merged { IsMerged (logs_of session.now) (map event_of merged.now) }
     requires apart { NoneClashes (logs_of session.now) }
     requires ascend { AllByRecursion (λ l. AscendFrom 0 l.1) (logs_of session.now) }
-    ensures { IfOk result (IsAnswer graph.now (logs_of session.now) (told_of session.now)) }
+    ensures { IfOk result (IsAnswer graph.now (logs_of session.now) (reported_of session.now)) }
 {
     let _roles = graph.roles();
     let honest = roles_of(session.logs.as_slice());
@@ -62,7 +62,7 @@ fn asked_walk(
     session: &SessionLog,
     merged: &[Event],
 ) -> Result<StoredWalk, OutOfMemory>
-    ensures { IfOk result (λ w. steps_of w ≡ unwrap_or (told_of session.now) (sent_steps (map event_of merged.now))) }
+    ensures { IfOk result (λ w. steps_of w ≡ unwrap_or (reported_of session.now) (sent_steps (map event_of merged.now))) }
 {
     match &session.walk {
         Some(walk) => Ok(walk.copy(alloc)?),

@@ -2,11 +2,11 @@
 ghost use Rattle.std.specs.Prelude.{◌≡◌, ◌≤◌, option_map, true, false, IfOk, IfSome};
 ghost use Rattle.sg_base.specs.Words.{name};
 ghost use Rattle.sg_audit.specs.Reading.{event_form, form, log_form, session_form, time, walk_form};
-ghost use Rattle.sg_audit.specs.Taken.{Fits, said};
+ghost use Rattle.sg_audit.specs.TakingLines.{Fits, said};
 ghost use Rattle.sg_sched.specs.Format.Reading.{word};
 
 use crate::assignments::{Assignments, label_named, read_values, role_named};
-use crate::step::{GivenStep, read_steps};
+use crate::step::{LogStep, read_steps};
 use sg_base::{Label, Name, OutOfMemory, Role, Seq, Time, Value, read_number};
 use sg_graph::Graph;
 use sg_sched::Words;
@@ -23,7 +23,7 @@ pub(crate) enum LogLine {
         time: Time,
         values: Assignments<Value>,
     },
-    Walk(Seq<GivenStep>),
+    Walk(Seq<LogStep>),
 }
 
 /// What the words of a line say, if they are of a form.

@@ -3,37 +3,37 @@ ghost use Rattle.std.specs.Prelude.{◌≡◌, ◌<◌, ◌≤◌, ◌+◌, ◌&
 ghost use Rattle.std.specs.List.{list_any};
 ghost use Rattle.std.specs.Option.{option_map_or};
 ghost use Rattle.sg_model.specs.Lists.{keys_of, rises_from};
-ghost use Rattle.sg_audit.specs.Said.{differ, falls, rise};
+ghost use Rattle.sg_audit.specs.LineContents.{differ, falls, rise};
 ghost use Rattle.sg_audit.specs.SoFar.{is_unknown};
-ghost use Rattle.sg_audit.specs.Taken.{given_values, given_writes, step_said};
+ghost use Rattle.sg_audit.specs.TakingLines.{assigned_values, assigned_writes, step_in_line};
 
 use crate::assignments::Assignments;
-use crate::step::GivenStep;
+use crate::step::LogStep;
 use sg_base::{Value, Var};
 
 /// Whether the variables of an event rise.
 pub(crate) fn values_rise(given: &Assignments<Value>) -> bool
-    ensures { result ≡ rise (given_values given.now) }
+    ensures { result ≡ rise (assigned_values given.now) }
 {
     rises(given.pairs.as_slice())
 }
 
 /// Whether all variables of an event are declared, none is named twice, and they don't rise.
 pub(crate) fn values_fall(given: &Assignments<Value>) -> bool
-    ensures { result ≡ falls (given_values given.now) }
+    ensures { result ≡ falls (assigned_values given.now) }
 {
     given.known && values_differ(given) && !values_rise(given)
 }
 
 fn values_differ(given: &Assignments<Value>) -> bool
-    ensures { result ≡ differ (keys_of (given_values given.now).pairs) }
+    ensures { result ≡ differ (keys_of (assigned_values given.now).pairs) }
 {
     differ(given.pairs.as_slice())
 }
 
 /// Whether the variables of some step are all declared, none is named twice, and they don't rise.
-pub(crate) fn some_fall(steps: &[GivenStep]) -> bool
-    ensures { result ≡ list_any (λ s. falls s.writes) (map step_said steps.now) }
+pub(crate) fn some_fall(steps: &[LogStep]) -> bool
+    ensures { result ≡ list_any (λ s. falls s.writes) (map step_in_line steps.now) }
 {
     for step in steps {
         if writes_fall(&step.writes) {
@@ -44,8 +44,8 @@ pub(crate) fn some_fall(steps: &[GivenStep]) -> bool
 }
 
 /// Whether the variables of some step don't rise.
-pub(crate) fn some_not_rise(steps: &[GivenStep]) -> bool
-    ensures { result ≡ list_any (λ s. not (rise s.writes)) (map step_said steps.now) }
+pub(crate) fn some_not_rise(steps: &[LogStep]) -> bool
+    ensures { result ≡ list_any (λ s. not (rise s.writes)) (map step_in_line steps.now) }
 {
     for step in steps {
         if !writes_rise(&step.writes) {
@@ -56,8 +56,8 @@ pub(crate) fn some_not_rise(steps: &[GivenStep]) -> bool
 }
 
 /// Whether the label or a variable of some step isn't declared.
-pub(crate) fn some_unknown(steps: &[GivenStep]) -> bool
-    ensures { result ≡ list_any is_unknown (map step_said steps.now) }
+pub(crate) fn some_unknown(steps: &[LogStep]) -> bool
+    ensures { result ≡ list_any is_unknown (map step_in_line steps.now) }
 {
     for step in steps {
         if is_unknown(step) {
@@ -67,26 +67,26 @@ pub(crate) fn some_unknown(steps: &[GivenStep]) -> bool
     false
 }
 
-fn is_unknown(step: &GivenStep) -> bool
-    ensures { result ≡ is_unknown (step_said step.now) }
+fn is_unknown(step: &LogStep) -> bool
+    ensures { result ≡ is_unknown (step_in_line step.now) }
 {
     step.label.is_none() || !step.writes.known
 }
 
 fn writes_rise(given: &Assignments<Option<Value>>) -> bool
-    ensures { result ≡ rise (given_writes given.now) }
+    ensures { result ≡ rise (assigned_writes given.now) }
 {
     rises(given.pairs.as_slice())
 }
 
 fn writes_fall(given: &Assignments<Option<Value>>) -> bool
-    ensures { result ≡ falls (given_writes given.now) }
+    ensures { result ≡ falls (assigned_writes given.now) }
 {
     given.known && writes_differ(given) && !writes_rise(given)
 }
 
 fn writes_differ(given: &Assignments<Option<Value>>) -> bool
-    ensures { result ≡ differ (keys_of (given_writes given.now).pairs) }
+    ensures { result ≡ differ (keys_of (assigned_writes given.now).pairs) }
 {
     differ(given.pairs.as_slice())
 }

@@ -5,9 +5,9 @@ ghost use Rattle.sg_audit.specs.Spells.{SpellsLogs, IsFault};
 ghost use Rattle.sg_parse.specs.Reading.{read as parsed};
 ghost use Rattle.sg_audit.specs.Read.{add_line, read, read_block, read_lines, read_sessions, with_graph};
 ghost use Rattle.sg_audit.specs.SoFar.{nothing};
-ghost use Rattle.sg_audit.specs.Taken.{Refuses, Takes, fault_at, logs_held, session_of};
+ghost use Rattle.sg_audit.specs.TakingLines.{Refuses, Takes, fault_at, logs_held, session_of};
 ghost use Rattle.sg_audit.specs.Agree.{AreLogs};
-ghost use Rattle.sg_audit.specs.Model.{logs_of, told_of};
+ghost use Rattle.sg_audit.specs.Model.{logs_of, reported_of};
 
 use crate::fault::{LogFault, Mistake, Stop};
 use crate::line::read_line;
@@ -33,7 +33,7 @@ pub fn read_logs(alloc: Global, bytes: &[u8]) -> Result<Logs, LogFault>
     // What has a fault is refused with the first one, unless memory runs out.
     ensures refused { (e : LogFault) → IsFault bytes.now e → MatchResult result (λ held. ⊥) (λ f. (f ≡ LogFault.OutOfMemory) ⊎ (f ≡ e)) }
     // Each session can be audited.
-    ensures fit { IfOk result (λ l. All (λ s. AreLogs l.graph (logs_of s) (told_of s)) l.sessions) }
+    ensures fit { IfOk result (λ l. All (λ s. AreLogs l.graph (logs_of s) (reported_of s)) l.sessions) }
 {
     read_text(alloc, bytes)
 }
@@ -43,7 +43,7 @@ pub fn read_logs(alloc: Global, bytes: &[u8]) -> Result<Logs, LogFault>
 fn read_text(alloc: Global, bytes: &[u8]) -> Result<Logs, LogFault>
     requires { length bytes.now + 1 < 2 ^ 32 }
     ensures exact { MatchResult result (λ l. read bytes.now ≡ Ok (logs_held l)) (Refuses (read bytes.now)) }
-    ensures fit { IfOk result (λ l. All (λ s. AreLogs l.graph (logs_of s) (told_of s)) l.sessions) }
+    ensures fit { IfOk result (λ l. All (λ s. AreLogs l.graph (logs_of s) (reported_of s)) l.sessions) }
 {
     let mut lines = Lines::new(bytes);
     skip_to_block(&mut lines)?;
@@ -111,7 +111,7 @@ fn read_sessions(
     lines: &mut Lines<'_>,
 ) -> Result<Seq<SessionLog>, LogFault>
     ensures exact { MatchResult result (λ s. read_sessions graph.now (lines.old.number + 1) nothing lines.old.lines ≡ Ok (record { graph = graph.now; sessions = map session_of s })) (Refuses (read_sessions graph.now (lines.old.number + 1) nothing lines.old.lines)) }
-    ensures fit { IfOk result (All (λ s. AreLogs graph.now (logs_of s) (told_of s))) }
+    ensures fit { IfOk result (All (λ s. AreLogs graph.now (logs_of s) (reported_of s))) }
 {
     let _count = graph.roles();
     take_sessions(alloc, graph, lines)

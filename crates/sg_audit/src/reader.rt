@@ -3,7 +3,7 @@ ghost use Rattle.std.specs.Prelude.{◌≡◌, ◌<◌, ◌≤◌, ◌^◌, ◌&
 ghost use Rattle.std.specs.List.{list_any, list_all};
 ghost use Rattle.sg_audit.specs.SoFar.{nothing, all_logs, all_sessions, all_have_logs, is_whole, is_open, add, add_session, add_log, add_event, add_walk, open_log, count_event, put_event};
 ghost use Rattle.sg_audit.specs.Sessions.{event, stored_step};
-ghost use Rattle.sg_audit.specs.Taken.{Fits, Takes, said, session_of, given_values, step_said};
+ghost use Rattle.sg_audit.specs.TakingLines.{Fits, Takes, said, session_of, assigned_values, step_in_line};
 ghost use Rattle.sg_model.specs.Lists.{is_in, below};
 ghost use Rattle.sg_walk.specs.Model.{event_of, step_of, steps_of};
 
@@ -12,7 +12,7 @@ use crate::fault::{Mistake, Stop};
 use crate::line::LogLine;
 use crate::order::{some_fall, some_not_rise, some_unknown, values_fall, values_rise};
 use crate::session::SessionLog;
-use crate::step::GivenStep;
+use crate::step::LogStep;
 use sg_base::{Label, Name, OutOfMemory, Role, RoleSet, Seq, Sid, Time, Value};
 use sg_graph::Graph;
 use sg_parse::NameSet;
@@ -43,7 +43,7 @@ impl Model for LogsReader {
     ghost use Rattle.std.specs.Prelude.{map, option_map};
     ghost use Rattle.sg_audit.specs.SoFar.{SoFar};
     ghost use Rattle.sg_audit.specs.Model.{log_of};
-    ghost use Rattle.sg_audit.specs.Taken.{session_of};
+    ghost use Rattle.sg_audit.specs.TakingLines.{session_of};
     ghost use Rattle.sg_walk.specs.Model.{event_of, steps_of};
 
     ghost Value = { SoFar };
@@ -193,7 +193,7 @@ impl LogsReader {
         time: Time,
         values: Assignments<Value>,
     ) -> Result<(), Stop>
-        ensures { Takes (add_event self.old sent label time (given_values values)) self.new result }
+        ensures { Takes (add_event self.old sent label time (assigned_values values)) self.new result }
     {
         if !self.is_open() {
             return Err(Stop::Wrong(Mistake::Form));
@@ -224,8 +224,8 @@ impl LogsReader {
     }
 
     #[tactic(auto, unfolding(crate::specs::SoFar::add_walk))]
-    fn add_walk(&mut self, graph: &Graph, steps: Seq<GivenStep>) -> Result<(), Stop>
-        ensures { Takes (add_walk graph.now self.old (map step_said steps)) self.new result }
+    fn add_walk(&mut self, graph: &Graph, steps: Seq<LogStep>) -> Result<(), Stop>
+        ensures { Takes (add_walk graph.now self.old (map step_in_line steps)) self.new result }
     {
         if !self.is_open() || self.all_have_logs(graph) {
             return Err(Stop::Wrong(Mistake::Form));
@@ -269,7 +269,7 @@ fn have_all(roles: RoleSet, count: u8) -> bool
 
 // An event of the role, with zeros for its session. No receipt joins.
 fn event(sent: bool, role: Role, label: Label, time: Time, values: Assignments<Value>) -> Event
-    ensures { event_of result ≡ event sent role label time (given_values values).pairs }
+    ensures { event_of result ≡ event sent role label time (assigned_values values).pairs }
 {
     let sid = Sid([0; 32]);
     if sent {
@@ -293,8 +293,8 @@ fn event(sent: bool, role: Role, label: Label, time: Time, values: Assignments<V
 }
 
 // The walk of the steps, whose labels are there.
-fn stored_walk(alloc: Global, steps: Seq<GivenStep>) -> Result<StoredWalk, OutOfMemory>
-    ensures { IfOk result (λ w. steps_of w ≡ map stored_step (map step_said steps)) }
+fn stored_walk(alloc: Global, steps: Seq<LogStep>) -> Result<StoredWalk, OutOfMemory>
+    ensures { IfOk result (λ w. steps_of w ≡ map stored_step (map step_in_line steps)) }
 {
     let mut stored = Vec::new(alloc);
     for step in steps.into_vec() {
@@ -305,8 +305,8 @@ fn stored_walk(alloc: Global, steps: Seq<GivenStep>) -> Result<StoredWalk, OutOf
     })
 }
 
-fn stored_step(step: GivenStep) -> StoredStep
-    ensures { step_of result ≡ stored_step (step_said step) }
+fn stored_step(step: LogStep) -> StoredStep
+    ensures { step_of result ≡ stored_step (step_in_line step) }
 {
     StoredStep {
         label: step.label.unwrap_or(Label(0)),

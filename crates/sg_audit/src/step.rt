@@ -2,7 +2,7 @@
 ghost use Rattle.std.specs.Prelude.{◌≡◌, ◌<◌, ◌≤◌, [], ◌∷◌, false, length, map, option_map, Some, None, IfOk, IfSome, MatchOption};
 ghost use Rattle.sg_graph.specs.Parts.{variable_names};
 ghost use Rattle.sg_audit.specs.Reading.{all_assigned, labelled, part_end, parts, shown_or_hidden, step, steps, unclosed, unstarred, written};
-ghost use Rattle.sg_audit.specs.Taken.{given_writes, step_said};
+ghost use Rattle.sg_audit.specs.TakingLines.{assigned_writes, step_in_line};
 
 use crate::assignments::{Assignments, label_named, put_write};
 use sg_base::{Label, Name, OutOfMemory, Seq, Value};
@@ -12,7 +12,7 @@ use std::alloc::Global;
 
 /// A step: its label, if the graph has it, and what it writes.
 #[derive(Debug, Drop)]
-pub(crate) struct GivenStep {
+pub(crate) struct LogStep {
     pub label: Option<Label>,
     pub writes: Assignments<Option<Value>>,
 }
@@ -22,8 +22,8 @@ pub(crate) fn read_steps(
     alloc: Global,
     graph: &Graph,
     words: &mut Words<'_>,
-) -> Result<Option<Seq<GivenStep>>, OutOfMemory>
-    ensures { IfOk result (λ o. option_map (map step_said) o ≡ steps graph.now words.old) }
+) -> Result<Option<Seq<LogStep>>, OutOfMemory>
+    ensures { IfOk result (λ o. option_map (map step_in_line) o ≡ steps graph.now words.old) }
 {
     let mut all = Seq::new(alloc);
     'words: while let Some(word) = words.next() {
@@ -37,8 +37,8 @@ pub(crate) fn read_steps(
 
 // A step, with or without `*`.
 #[tactic(auto, unfolding(crate::specs::Reading::step))]
-fn read_step(alloc: Global, graph: &Graph, word: &[u8]) -> Result<Option<GivenStep>, OutOfMemory>
-    ensures { IfOk result (λ o. option_map step_said o ≡ step graph.now word.now) }
+fn read_step(alloc: Global, graph: &Graph, word: &[u8]) -> Result<Option<LogStep>, OutOfMemory>
+    ensures { IfOk result (λ o. option_map step_in_line o ≡ step graph.now word.now) }
 {
     let word = unstarred(word);
     match split_at(b'(', word) {
@@ -57,11 +57,11 @@ fn unstarred(word: &[u8]) -> &[u8]
 }
 
 // A label alone.
-fn bare_step(alloc: Global, graph: &Graph, word: &[u8]) -> Option<GivenStep>
-    ensures { option_map step_said result ≡ labelled graph.now word.now None }
+fn bare_step(alloc: Global, graph: &Graph, word: &[u8]) -> Option<LogStep>
+    ensures { option_map step_in_line result ≡ labelled graph.now word.now None }
 {
     let name = Name::new(word)?;
-    Some(GivenStep {
+    Some(LogStep {
         label: label_named(graph, &name),
         writes: Assignments {
             pairs: Seq::new(alloc),
@@ -76,14 +76,14 @@ fn written_step(
     graph: &Graph,
     name: &[u8],
     rest: &[u8],
-) -> Result<Option<GivenStep>, OutOfMemory>
-    ensures { IfOk result (λ o. option_map step_said o ≡ labelled graph.now name.now (Some (name.now, rest.now))) }
+) -> Result<Option<LogStep>, OutOfMemory>
+    ensures { IfOk result (λ o. option_map step_in_line o ≡ labelled graph.now name.now (Some (name.now, rest.now))) }
 {
     let Some(name) = Name::new(name) else {
         return Ok(None);
     };
     match read_written(alloc, graph, rest)? {
-        Some(writes) => Ok(Some(GivenStep {
+        Some(writes) => Ok(Some(LogStep {
             label: label_named(graph, &name),
             writes,
         })),
@@ -97,7 +97,7 @@ fn read_written(
     graph: &Graph,
     word: &[u8],
 ) -> Result<Option<Assignments<Option<Value>>>, OutOfMemory>
-    ensures { IfOk result (λ o. option_map given_writes o ≡ written (variable_names graph.now) word.now) }
+    ensures { IfOk result (λ o. option_map assigned_writes o ≡ written (variable_names graph.now) word.now) }
 {
     match unclosed(word) {
         Some(inner) => read_writes(alloc, graph, inner),
@@ -120,7 +120,7 @@ fn read_writes(
     graph: &Graph,
     inner: &[u8],
 ) -> Result<Option<Assignments<Option<Value>>>, OutOfMemory>
-    ensures { IfOk result (λ o. option_map given_writes o ≡ all_assigned (variable_names graph.now) shown_or_hidden (parts false inner.now)) }
+    ensures { IfOk result (λ o. option_map assigned_writes o ≡ all_assigned (variable_names graph.now) shown_or_hidden (parts false inner.now)) }
 {
     let mut given = Assignments {
         pairs: Seq::new(alloc),

@@ -15,7 +15,7 @@ pub push_back : {A : Type 0} (prefix xs old new : List A) (x : A) → old ≡ pr
 push_back prefix xs old new x before more =
     more ∙ ap (λ l. l ++ x ∷ []) before ∙ append_assoc prefix (reverse xs) (x ∷ []) ∙ ap (λ l. prefix ++ l) (sym (reverse-append (x ∷ []) xs))
 
--- a list is reversed where it is seen
+-- to reverse a list and then map it is to map it and then reverse it
 pub map-reverse : {A B : Type 0} (f : A → B) (xs : List A) → map f (reverse xs) ≡ reverse (map f xs)
 map-reverse f [] = refl
 map-reverse f (x ∷ xs) =

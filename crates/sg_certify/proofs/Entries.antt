@@ -26,13 +26,13 @@ use Rattle.sg_protocol.specs.Schedule.{Schedule, graph_with}
 use Rattle.sg_protocol.specs.Premises.{hashed}
 use Rattle.sg_protocol.specs.Session.{Session, time}
 use Rattle.sg_protocol.specs.Texts.{real, graph_digest, graph_text_of, session_id}
-use Rattle.sg_protocol.specs.Told.{IsTold, IsAnswered, IsOfOneGraph, HasEvent, HasNamed, names_numbers}
+use Rattle.sg_protocol.specs.Told.{IsNamed, IsAnswered, IsOfOneGraph, HasEvent, HasNamed, names_numbers}
 use Rattle.sg_protocol.specs.Verdict.{receipt, decided, verdict_on, rows}
 use Rattle.sg_protocol.specs.World.{Logged, World, Answered}
 use Rattle.sg_protocol.proofs.Finding.{find_passes}
 use Rattle.sg_protocol.proofs.RealHash.{real_hash}
 use Rattle.sg_protocol.proofs.TextLaws as TL
-use Rattle.sg_protocol.proofs.ToldRuns.{steps_are_told}
+use Rattle.sg_protocol.proofs.ToldRuns.{steps_are_named}
 use Rattle.sg_protocol.proofs.Whole.{find_some, found_in, program_graph, same_name, same_named}
 use Rattle.sg_certify.specs.Runs.{IsUnbroken}
 
@@ -190,11 +190,11 @@ module _ (programs : List Program) (s : Schedule) (u : IsUnbroken programs s) wh
   -- an entry's event is of the one cast of its session
   pub entry : (l : Logged) (c : Call) (e : Event) → Contains w.log l → l.call ≡ Some c → events_of_outcome l.outcome ≡ e ∷ [] → IsEntry programs s e
   entry l c e there call one =
-      let told = steps_are_told real real_hash in
+      let told = steps_are_named real real_hash in
       let a : IsAnswered real programs s l c = told.answered programs s l c there call in
       let event : events_of_answer (answer real (node_of a.past) c) ≡ e ∷ [] = ap events_of_outcome (sym a.outcome) ∙ one in
       let named : names_numbers (answer real (node_of a.past) c) ≡ true = named_by (answer real (node_of a.past) c) e event in
-      let t : IsTold real (node_of a.past) c (answer real (node_of a.past) c) = told.told programs s u.compiled u.schedule l c there call a named in
+      let t : IsNamed real (node_of a.past) c (answer real (node_of a.past) c) = told.told programs s u.compiled u.schedule l c there call a named in
       let g : IsOfOneGraph real s w (node_of a.past) (answer real (node_of a.past) c) t.program t.session = told.one_graph programs s u.compiled u.schedule u.premises.collision_free l c there call a named t in
       let had : Contains (events_of_answer (answer real (node_of a.past) c)) e = subst (λ es. Contains es e) (sym event) (contains_from_in (e ∷ []) e (inl refl)) in
       let its = t.event e had in
@@ -217,28 +217,28 @@ module _ (programs : List Program) (s : Schedule) (u : IsUnbroken programs s) wh
   -- what the node answered
   pub start_is : (l : Logged) (c : Cast) (e : Event) → Contains w.log l → l.call ≡ Some (Start c) → events_of_outcome l.outcome ≡ e ∷ [] → is_receipt e ≡ false
   start_is l c e there call one =
-      let a = (steps_are_told real real_hash).answered programs s l (Start c) there call in
+      let a = (steps_are_named real real_hash).answered programs s l (Start c) there call in
       start_event (node_of a.past) e c (ap events_of_outcome (sym a.outcome) ∙ one)
 
   pub act_is : (l : Logged) (sid : List ℕ) (label : ℕ) (values : Map Value) (confounders : List (List ℕ)) (e : Event) → Contains w.log l → l.call ≡ Some (Act sid label values confounders) → events_of_outcome l.outcome ≡ e ∷ [] → is_receipt e ≡ false
   act_is l sid label values confounders e there call one =
-      let a = (steps_are_told real real_hash).answered programs s l (Act sid label values confounders) there call in
+      let a = (steps_are_named real real_hash).answered programs s l (Act sid label values confounders) there call in
       act_event (node_of a.past) e sid label values confounders (ap events_of_outcome (sym a.outcome) ∙ one)
 
   pub delivery_is : (l : Logged) (bs : List ℕ) (f : Frame) (e : Event) → Contains w.log l → l.call ≡ Some (Deliver bs) → read bs ≡ Ok f → events_of_outcome l.outcome ≡ e ∷ [] → (l.outcome ≡ Answered (Happened (receipt f))) × (receipt f ≡ e)
   delivery_is l bs f e there call reads one =
-      let a = (steps_are_told real real_hash).answered programs s l (Deliver bs) there call in
+      let a = (steps_are_named real real_hash).answered programs s l (Deliver bs) there call in
       let both = delivery_event (node_of a.past) e bs f reads (ap events_of_outcome (sym a.outcome) ∙ one) in
       (a.outcome ∙ ap Answered both.0, both.1)
 
   -- what leaves no event
   pub malformed_is : (l : Logged) (bs : List ℕ) (at : ℕ) (e : Event) → Contains w.log l → l.call ≡ Some (Deliver bs) → read bs ≡ Err at → events_of_outcome l.outcome ≡ e ∷ [] → ⊥
   malformed_is l bs at e there call reads one =
-      let a = (steps_are_told real real_hash).answered programs s l (Deliver bs) there call in
+      let a = (steps_are_named real real_hash).answered programs s l (Deliver bs) there call in
       let none : [] ≡ e ∷ [] = ap (λ r. events_of_answer (verdict_on real (node_of a.past) r)) (sym reads) ∙ ap events_of_outcome (sym a.outcome) ∙ one in
       cc
 
   pub abandon_is : (l : Logged) (sid : List ℕ) (e : Event) → Contains w.log l → l.call ≡ Some (Abandon sid) → events_of_outcome l.outcome ≡ e ∷ [] → ⊥
   abandon_is l sid e there call one =
-      let a = (steps_are_told real real_hash).answered programs s l (Abandon sid) there call in
+      let a = (steps_are_named real real_hash).answered programs s l (Abandon sid) there call in
       by_left (node_of a.past) e (session_with (node_of a.past).live sid) (ap events_of_outcome (sym a.outcome) ∙ one)

@@ -44,7 +44,7 @@ fn expand_all(alloc: Global, parts: &[Part]) -> Result<Graph, ComposeFault>
     }
     match graphs.into_vec().pop() {
         Some(graph) => Ok(graph),
-        None => Err(ComposeFault::OutOfMemory),
+        None => unreachable!(),
     }
 }
 

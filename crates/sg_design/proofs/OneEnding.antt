@@ -10,12 +10,12 @@ use Rattle.sg_parse.specs.PartsGrammar.{SpellsParts}
 use Rattle.sg_parse.specs.PartsReading.{read as parts_read}
 use Rattle.sg_parse.specs.declared.fault.ParseFault.{ParseFault}
 use Rattle.sg_parse.proofs.GivesParts.{spells-read as spells_parts-read}
-use Rattle.sg_program.specs.Compiled.{IsCompiled, IsRefused}
-use Rattle.sg_program.specs.declared.check.CompileFault.{CompileFault}
-use Rattle.sg_program.specs.declared.check.CompileFault.TheVariants.{OutOfMemory}
-use Rattle.sg_program.proofs.Behind.{role_there}
-use Rattle.sg_program.proofs.Once.{role_once}
-use Rattle.sg_program.proofs.Only.{accepted_not_refused, not_refused}
+use Rattle.sg_compile.specs.Compiled.{IsCompiled, IsRefused}
+use Rattle.sg_compile.specs.declared.check.CompileFault.{CompileFault}
+use Rattle.sg_compile.specs.declared.check.CompileFault.TheVariants.{OutOfMemory}
+use Rattle.sg_compile.proofs.Behind.{role_there}
+use Rattle.sg_compile.proofs.Once.{role_once}
+use Rattle.sg_compile.proofs.Only.{accepted_not_refused, not_refused}
 use Rattle.sg_protocol.specs.Accepted.{Accepted}
 use Rattle.sg_protocol.specs.Graph.{Graph}
 use Rattle.sg_protocol.specs.Keyring.{Program}

@@ -18,7 +18,7 @@ use Rattle.sg_protocol.specs.Graph.{Graph, shape}
 use Rattle.sg_protocol.specs.IsSchedule.{AreCompiled}
 use Rattle.sg_protocol.specs.Keyring.{Program}
 use Rattle.sg_protocol.specs.Texts.{real}
-use Rattle.sg_program.specs.Compiled.{IsWhole}
+use Rattle.sg_compile.specs.Compiled.{IsWhole}
 use Rattle.sg_ending.specs.Ending.{Ending, Written, NoGraph, GraphRefused, ClaimsRefused, ClaimFails, WriteFailed, NoMemory}
 use Rattle.sg_ending.specs.Files.{KnownFiles, IsUnread, Holds, EndsAt}
 use Rattle.sg_ending.specs.Graphs.{IsFirstRefused}

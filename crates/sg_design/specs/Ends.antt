@@ -13,11 +13,11 @@ use Rattle.sg_parse.specs.PartsReading.{read as parts_read}
 use Rattle.sg_parse.specs.Reading.{read as parsed}
 use Rattle.sg_compose.specs.Expansion.{expansion}
 use Rattle.sg_compose.specs.Laws.{IsComposed}
-use Rattle.sg_program.specs.Compiled.{IsCompiled, IsRefused, IsWhole}
-use Rattle.sg_program.specs.Refused.{IsRefusal}
-use Rattle.sg_program.specs.Text.{program_text}
-use Rattle.sg_program.specs.declared.check.CompileFault.{CompileFault}
-use Rattle.sg_program.specs.declared.check.CompileFault.TheVariants.{OutOfMemory}
+use Rattle.sg_compile.specs.Compiled.{IsCompiled, IsRefused, IsWhole}
+use Rattle.sg_compile.specs.Refused.{IsRefusal}
+use Rattle.sg_compile.specs.Text.{program_text}
+use Rattle.sg_compile.specs.declared.check.CompileFault.{CompileFault}
+use Rattle.sg_compile.specs.declared.check.CompileFault.TheVariants.{OutOfMemory}
 use Rattle.sg_ending.specs.Ending.{Ending, NoGraph, NoExpansion, GraphRefused, NoRole, NoMemory}
 use Rattle.sg_ending.specs.Graphs.{IsFirstRefused}
 use Rattle.sg_ending.specs.Output.{Output, Writes}

@@ -4,16 +4,17 @@ ghost use Rattle.sg_model.specs.Limits.{most_graph_file};
 ghost use Rattle.sg_protocol.specs.IsSchedule.{AreCompiled};
 ghost use Rattle.sg_protocol.specs.Texts.{real};
 ghost use Rattle.sg_parse.specs.Grammar.{SpellsGraph};
-ghost use Rattle.sg_program.specs.Compiled.{IsWhole};
+ghost use Rattle.sg_compile.specs.Compiled.{IsWhole};
 ghost use Rattle.sg_ending.specs.Files.{OnFile};
 ghost use Rattle.sg_ending.specs.Model.{ending_held};
 ghost use Rattle.sg_design.specs.Accepted.{accepted_line, check_text, views_line};
 ghost use Rattle.sg_design.specs.Ends.{Checks};
 
 use sg_base::{ByteOut, Files, OutOfMemory, Sink, write_all};
+use sg_compile::{AllFault, compile_all};
 use sg_ending::{Ending, MOST_GRAPH_BYTES, graph_of, read_file};
 use sg_graph::Graph;
-use sg_program::{AllFault, Program, Programs, compile_all};
+use sg_program::{Program, Programs};
 use std::alloc::Global;
 use std::slice;
 

@@ -10,10 +10,10 @@ ghost use Rattle.sg_design.specs.Claimed.{AreAnswered, Decides, DecidesClaims, I
 use sg_base::{ByteOut, Files, OutOfMemory, Sink, write_all};
 use sg_claims::{Answer, NamedClaim, decide};
 use sg_claims_text::{ClaimsFault, parse_claims};
+use sg_compile::{AllFault, compile_all};
 use sg_ending::{Ending, MOST_GRAPH_BYTES, graph_of, read_file};
 use sg_graph::{Graph, put_walk};
 use sg_parse::ParseFault;
-use sg_program::{AllFault, compile_all};
 use std::alloc::Global;
 use std::slice;
 

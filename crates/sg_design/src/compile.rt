@@ -4,15 +4,16 @@ ghost use Rattle.sg_model.specs.Limits.{most_graph_file};
 ghost use Rattle.sg_model.specs.Lists.{has_text};
 ghost use Rattle.sg_protocol.specs.Graph.{role_name};
 ghost use Rattle.sg_parse.specs.Grammar.{SpellsGraph};
-ghost use Rattle.sg_program.specs.Compiled.{IsCompiled};
+ghost use Rattle.sg_compile.specs.Compiled.{IsCompiled};
 ghost use Rattle.sg_ending.specs.Files.{OnFile};
 ghost use Rattle.sg_ending.specs.Model.{ending_held};
 ghost use Rattle.sg_design.specs.Ends.{Compiles, RefusesRole};
 
 use sg_base::{Files, Name, Role, Sink, write_all};
+use sg_compile::{CompileFault, check_graph, compile as program_of, encode};
 use sg_ending::{Ending, MOST_GRAPH_BYTES, graph_of, read_file};
 use sg_graph::Graph;
-use sg_program::{CompileFault, Program, check_graph, compile as program_of};
+use sg_program::Program;
 use std::alloc::Global;
 
 /// Compiles the graph of a file for the role of this name and writes the program, or says why not.
@@ -105,7 +106,7 @@ fn say_program<O: Sink>(
     requires compiled { IsCompiled graph.now role program.now }
     ensures { Compiles name.now bytes.now (record { bytes = O.written out.old; faults = O.faults out.old }) (record { bytes = O.written out.new; faults = O.faults out.new }) (ending_held result) }
 {
-    match program.encode(alloc) {
+    match encode(alloc, program) {
         Ok(text) => match write_all(out, text.as_slice()) {
             Ok(()) => Ending::Written,
             Err(_) => Ending::WriteFailed,

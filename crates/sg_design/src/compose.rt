@@ -3,7 +3,7 @@ ghost use Rattle.std.specs.Prelude.{◌≡◌, ◌≤◌, ◌∷◌, [], All, Ok
 ghost use Rattle.sg_model.specs.Limits.{most_graph_file};
 ghost use Rattle.sg_protocol.specs.IsSchedule.{AreCompiled};
 ghost use Rattle.sg_protocol.specs.Texts.{real};
-ghost use Rattle.sg_program.specs.Compiled.{IsWhole};
+ghost use Rattle.sg_compile.specs.Compiled.{IsWhole};
 ghost use Rattle.sg_parse.specs.PartsGrammar.{SpellsParts};
 ghost use Rattle.sg_compose.specs.Expansion.{expansion};
 ghost use Rattle.sg_compose.specs.Laws.{IsComposed};
@@ -12,11 +12,12 @@ ghost use Rattle.sg_ending.specs.Model.{ending_held};
 ghost use Rattle.sg_design.specs.Ends.{Composes};
 
 use sg_base::{Files, Sink, write_all};
+use sg_compile::{AllFault, compile_all};
 use sg_compose::{ComposeFault, expand};
 use sg_ending::{Ending, MOST_GRAPH_BYTES, read_file};
 use sg_graph::{Graph, canonical_text};
 use sg_parse::{ParseFault, Part, parse_parts};
-use sg_program::{AllFault, Programs, compile_all};
+use sg_program::Programs;
 use std::alloc::Global;
 use std::slice;
 

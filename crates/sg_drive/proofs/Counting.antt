@@ -92,33 +92,33 @@ all_taken n xs e = ap (λ k. take k xs) e ∙ whole xs
 
 -- one step more was counted
 pub counted_more : (g : Graph) (log : List Reported) (i : ℕ) (before after : Counts) (o : Option Reported) → i < length log → before ≡ counts g (take i log) → o ≡ slice_get log i → ((t : Reported) → o ≡ Some t → after ≡ with_reported g t before) → after ≡ counts g (take (i + 1) log)
-counted_more g log i before after o l e told q =
+counted_more g log i before after o l e reported q =
     let r = got log i l in
     let one : i + 1 ≡ suc i = omega arith in
-    q r.0 (told ∙ r.1) ∙ ap (with_reported g r.0) e ∙ sym (counts_more g (take i log) r.0) ∙ ap (counts g) (sym r.2) ∙ ap (λ k. counts g (take k log)) (sym one)
+    q r.0 (reported ∙ r.1) ∙ ap (with_reported g r.0) e ∙ sym (counts_more g (take i log) r.0) ∙ ap (counts g) (sym r.2) ∙ ap (λ k. counts g (take k log)) (sym one)
 
 -- ---- one outcome
 
-pub sends_told : {V E : Type 0} (g : Graph) (e : Event) (to : List ℕ) (n : ℕ) (c c2 : Counts) (r : Result V E) (told : Reported) → Some (Sends e to n) ≡ Some told → OnOk r (c2 ≡ with_sent g e c) → OnOk r (c2 ≡ with_reported g told c)
-sends_told g e to n c c2 r told q h = let same : Sends e to n ≡ told = cc in subst (λ (t : Reported). OnOk r (c2 ≡ with_reported g t c)) same h
+pub sends_reported : {V E : Type 0} (g : Graph) (e : Event) (to : List ℕ) (n : ℕ) (c c2 : Counts) (r : Result V E) (reported : Reported) → Some (Sends e to n) ≡ Some reported → OnOk r (c2 ≡ with_sent g e c) → OnOk r (c2 ≡ with_reported g reported c)
+sends_reported g e to n c c2 r reported q h = let same : Sends e to n ≡ reported = cc in subst (λ (t : Reported). OnOk r (c2 ≡ with_reported g t c)) same h
 
-pub event_reported : (g : Graph) (e : Event) (c c2 : Counts) (told : Reported) → Some (Happened e) ≡ Some told → c2 ≡ with_event e c → c2 ≡ with_reported g told c
-event_reported g e c c2 told q h = let same : Happened e ≡ told = cc in subst (λ (t : Reported). c2 ≡ with_reported g t c) same h
+pub event_reported : (g : Graph) (e : Event) (c c2 : Counts) (reported : Reported) → Some (Happened e) ≡ Some reported → c2 ≡ with_event e c → c2 ≡ with_reported g reported c
+event_reported g e c c2 reported q h = let same : Happened e ≡ reported = cc in subst (λ (t : Reported). c2 ≡ with_reported g t c) same h
 
-pub refused_told : (g : Graph) (o : Option Refusal) (c c2 : Counts) (told : Reported) → option_map NotDelivered o ≡ Some told → c2 ≡ record c { refused = c.refused + 1 } → c2 ≡ with_reported g told c
-refused_told g None c c2 told q h = absurd (cc)
-refused_told g (Some why) c c2 told q h = let same : NotDelivered why ≡ told = cc in subst (λ (t : Reported). c2 ≡ with_reported g t c) same h
+pub refused_reported : (g : Graph) (o : Option Refusal) (c c2 : Counts) (reported : Reported) → option_map NotDelivered o ≡ Some reported → c2 ≡ record c { refused = c.refused + 1 } → c2 ≡ with_reported g reported c
+refused_reported g None c c2 reported q h = absurd (cc)
+refused_reported g (Some why) c c2 reported q h = let same : NotDelivered why ≡ reported = cc in subst (λ (t : Reported). c2 ≡ with_reported g t c) same h
 
-pub abandoned_told : (g : Graph) (c c2 : Counts) (told : Reported) → Some Abandoned ≡ Some told → c2 ≡ record c { abandoned = c.abandoned + 1 } → c2 ≡ with_reported g told c
-abandoned_told g c c2 told q h = let same : Abandoned ≡ told = cc in subst (λ (t : Reported). c2 ≡ with_reported g t c) same h
+pub abandoned_reported : (g : Graph) (c c2 : Counts) (reported : Reported) → Some Abandoned ≡ Some reported → c2 ≡ record c { abandoned = c.abandoned + 1 } → c2 ≡ with_reported g reported c
+abandoned_reported g c c2 reported q h = let same : Abandoned ≡ reported = cc in subst (λ (t : Reported). c2 ≡ with_reported g t c) same h
 
 -- what counts for nothing
-pub same_told : (g : Graph) (t : Reported) (c : Counts) (told : Reported) → Some t ≡ Some told → c ≡ with_reported g t c → c ≡ with_reported g told c
-same_told g t c told q h = let same : t ≡ told = cc in subst (λ (t : Reported). c ≡ with_reported g t c) same h
+pub same_reported : (g : Graph) (t : Reported) (c : Counts) (reported : Reported) → Some t ≡ Some reported → c ≡ with_reported g t c → c ≡ with_reported g reported c
+same_reported g t c reported q h = let same : t ≡ reported = cc in subst (λ (t : Reported). c ≡ with_reported g t c) same h
 
-pub fault_told : {F : Type 0} (g : Graph) (f : F → Reported) (o : Option F) (c : Counts) (told : Reported) → ((x : F) → c ≡ with_reported g (f x) c) → option_map f o ≡ Some told → c ≡ with_reported g told c
-fault_told g f None c told h q = absurd (cc)
-fault_told g f (Some x) c told h q = same_told g (f x) c told q (h x)
+pub fault_reported : {F : Type 0} (g : Graph) (f : F → Reported) (o : Option F) (c : Counts) (reported : Reported) → ((x : F) → c ≡ with_reported g (f x) c) → option_map f o ≡ Some reported → c ≡ with_reported g reported c
+fault_reported g f None c reported h q = absurd (cc)
+fault_reported g f (Some x) c reported h q = same_reported g (f x) c reported q (h x)
 
 -- ---- a set of sessions
 

@@ -27,7 +27,7 @@ use Rattle.sg_drive.proofs.DrawnValues.{confounded, drawn_are_values, written_fe
 use Rattle.sg_drive.proofs.Left.{add, at, budget_of, few_roles, graph_is, spend_step}
 use Rattle.sg_drive.proofs.Own.{IsOwnSent, own_sent}
 use Rattle.sg_drive.proofs.OwnRuns.{act_is, next_recorded}
-use Rattle.sg_drive.proofs.Stepping.{own_next, role_there, run_is, told_next, ways_next}
+use Rattle.sg_drive.proofs.Stepping.{own_next, role_there, run_is, reported_next, ways_next}
 use Rattle.sg_drive.specs.Budget.{HasBudget, HasLeft, IsOnItsWay, OnItsWay, steps_after, steps_of}
 use Rattle.sg_drive.specs.Generated.{number_sent, play_along, player_at, values_drawn, with_frame}
 use Rattle.sg_drive.specs.Going.{Going, adding, drawing, taking}
@@ -51,13 +51,13 @@ accepted_is n bs f e rd a = by (first_some (rows real n f)) (sym (ap (verdict_on
     by (Some why) h = absurd (cc)
 
 -- the sessions at a node that have this identifier are at this time
-abbrev pub WereTold : Graph → Replay → (session node t : ℕ) → Type 0
-WereTold g r session node t = (p : Past) → past_of (run_of r) (player_at g node) ≡ Some p → (s : Session) → session_with (node_of p).live (sid_at real r.schedule session) ≡ Some s → t ≤ time s
+abbrev pub WereReported : Graph → Replay → (session node t : ℕ) → Type 0
+WereReported g r session node t = (p : Past) → past_of (run_of r) (player_at g node) ≡ Some p → (s : Session) → session_with (node_of p).live (sid_at real r.schedule session) ≡ Some s → t ≤ time s
 
 -- ---- to play along a label
 
 module _ (m : Machine) (begun left : ℕ) (x : Going) (ways : List OnItsWay) (h : HasLeft (suc left) begun (at m x) ways) (session node t : ℕ) (there : session < m.sessions)
-    (enough : sum_by steps_of ways + (4 + steps_after (t + 1)) ≤ left) (told : WereTold m.graph x.replay session node t) (label : ℕ) (there_label : label < length m.graph.edges) where
+    (enough : sum_by steps_of ways + (4 + steps_after (t + 1)) ≤ left) (reported : WereReported m.graph x.replay session node t) (label : ℕ) (there_label : label < length m.graph.edges) where
   is_graph : IsGraph m.graph
   is_graph = graph_is (suc left) begun (at m x) ways h
 
@@ -118,9 +118,9 @@ module _ (m : Machine) (begun left : ℕ) (x : Going) (ways : List OnItsWay) (h 
         taken = λ z. absurd (cc z);
       } in
       let late : last_time f.items ≡ time s.x + 1 = s.later in
-      let before : t ≤ time s.x = told past (h.run.nodes role has_role).1 s.x s.found in
+      let before : t ≤ time s.x = reported past (h.run.nodes role has_role).1 s.x s.found in
       budget_of left left begun (at m (adding (o.pending ∷ []) acted)) (ways ++ o ∷ []) (omega arith) (add left begun (at m acted) ways after o on (record { label = there_label; session = there; count = omega arith }) (omega (arith, enough, late, before)))
   sent other q = budget_of left left begun (at m acted) ways (omega arith) after
 
   pub along_keeps : HasBudget left begun (at m (play_along m.seed m.graph session node label (drawing 1 x)))
-  along_keeps = subst (λ z. HasBudget left begun (at m (with_frame session label (number_sent z) acted))) (sym (told_next m.graph few x.replay h.run role has_role step act good is)) (sent (answer real (node_of past) act) refl)
+  along_keeps = subst (λ z. HasBudget left begun (at m (with_frame session label (number_sent z) acted))) (sym (reported_next m.graph few x.replay h.run role has_role step act good is)) (sent (answer real (node_of past) act) refl)

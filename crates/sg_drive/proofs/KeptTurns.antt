@@ -22,11 +22,11 @@ use Rattle.sg_protocol.specs.Verdict.{receipt}
 use Rattle.sg_report.specs.Reported.{reported_answer}
 use Rattle.sg_world.specs.Replay.{next_number, run_of, stepped}
 use Rattle.sg_drive.proofs.DrawnValues.{chosen_there}
-use Rattle.sg_drive.proofs.Kept.{WereTold, accepted_is, along_keeps, get_some}
-use Rattle.sg_drive.proofs.Left.{TakenOut, add, at, budget_of, few_roles, fewer, graph_is, more_budget, none_left, none_pending, one_begins, spend_draws, spend_step, sum_end, taken_out, told_anew}
+use Rattle.sg_drive.proofs.Kept.{WereReported, accepted_is, along_keeps, get_some}
+use Rattle.sg_drive.proofs.Left.{TakenOut, add, at, budget_of, few_roles, fewer, graph_is, more_budget, none_left, none_pending, one_begins, spend_draws, spend_step, sum_end, taken_out, reported_anew}
 use Rattle.sg_drive.proofs.OwnRuns.{abandon_is, deliver_is, next_accepted, not_again, own_frame, start_is}
 use Rattle.sg_drive.proofs.OwnSetup.{own_cast}
-use Rattle.sg_drive.proofs.Stepping.{own_next, role_there, run_is, told_next, way_spent, ways_next}
+use Rattle.sg_drive.proofs.Stepping.{own_next, role_there, run_is, reported_next, way_spent, ways_next}
 use Rattle.sg_drive.proofs.Turning.{turn_none}
 use Rattle.sg_drive.specs.Budget.{HasBudget, HasLeft, IsOnItsWay, OnItsWay, steps_after, steps_of}
 use Rattle.sg_drive.specs.Draws.{draw}
@@ -41,12 +41,12 @@ use Rattle.sg_drive.specs.Spent.{IsPast}
 
 module _ (m : Machine) (begun : ℕ) where
   play_keeps : (left : ℕ) (x : Going) (ways : List OnItsWay) → HasLeft (suc left) begun (at m x) ways → (session node t : ℕ) → session < m.sessions → sum_by steps_of ways + (4 + steps_after (t + 1)) ≤ left
-      → WereTold m.graph x.replay session node t → HasBudget left begun (at m (play m.seed m.graph session node x))
-  play_keeps left x ways h session node t there enough told = by (leaving_from m.graph node) refl
+      → WereReported m.graph x.replay session node t → HasBudget left begun (at m (play m.seed m.graph session node x))
+  play_keeps left x ways h session node t there enough reported = by (leaving_from m.graph node) refl
     where
       by : (labels : List ℕ) → leaving_from m.graph node ≡ labels → HasBudget left begun (at m (play_by m.seed m.graph session node labels x))
       by [] e = budget_of left left begun (at m x) ways (omega arith) (fewer (suc left) begun (at m x) ways h left (omega arith) (omega (arith, enough)))
-      by (l ∷ ls) e = along_keeps m begun left x ways h session node t there enough told (chosen (l ∷ ls) (draw m.seed x.draws)) (chosen_there m.graph node l ls (draw m.seed x.draws) e)
+      by (l ∷ ls) e = along_keeps m begun left x ways h session node t there enough reported (chosen (l ∷ ls) (draw m.seed x.draws)) (chosen_there m.graph node l ls (draw m.seed x.draws) e)
 
   -- a session is abandoned
   leave_keeps : (left : ℕ) (x : Going) (ways : List OnItsWay) → HasLeft (suc left) begun (at m x) ways → (session node : ℕ) → sum_by steps_of ways ≤ left → HasBudget left begun (at m (taking (AbandonStep (player_at m.graph node) session) x))
@@ -63,12 +63,12 @@ module _ (m : Machine) (begun : ℕ) where
 
   -- a session goes on if a frame of this time was accepted
   on_keeps : (left : ℕ) (x : Going) (ways : List OnItsWay) → HasLeft left begun (at m x) ways → (session node t : ℕ) → session < m.sessions → sum_by steps_of ways + steps_after t ≤ left
-      → WereTold m.graph x.replay session node t → HasBudget left begun (at m (goes_on_by m.seed m.graph session node t (leaving_from m.graph node) x))
-  on_keeps zero x ways h session node t there enough told = absurd (omega (arith, enough))
-  on_keeps (suc left) x ways h session node t there enough told = by (leaving_from m.graph node)
+      → WereReported m.graph x.replay session node t → HasBudget left begun (at m (goes_on_by m.seed m.graph session node t (leaving_from m.graph node) x))
+  on_keeps zero x ways h session node t there enough reported = absurd (omega (arith, enough))
+  on_keeps (suc left) x ways h session node t there enough reported = by (leaving_from m.graph node)
     where
       early : (b : Bool) → nat_lt t 16 ≡ b → HasBudget (suc left) begun (at m (if b then play m.seed m.graph session node x else taking (AbandonStep (player_at m.graph node) session) x))
-      early true e = (let below : t < 16 = grind (arith, nat_tests) in more_budget left (suc left) begun (at m (play m.seed m.graph session node x)) (omega arith) (play_keeps left x ways h session node t there (omega (arith, enough, below)) told))
+      early true e = (let below : t < 16 = grind (arith, nat_tests) in more_budget left (suc left) begun (at m (play m.seed m.graph session node x)) (omega arith) (play_keeps left x ways h session node t there (omega (arith, enough, below)) reported))
       early false e = more_budget left (suc left) begun (at m (taking (AbandonStep (player_at m.graph node) session) x)) (omega arith) (leave_keeps left x ways h session node (omega (arith, enough)))
 
       by : (labels : List ℕ) → HasBudget (suc left) begun (at m (goes_on_by m.seed m.graph session node t labels x))
@@ -124,8 +124,8 @@ module _ (m : Machine) (begun left : ℕ) (x : Going) (ways : List OnItsWay) (h 
   spent_now a = next_accepted real real_hash m.graph few (run_of x.replay) (run_of given.replay) h.run (next_number x.replay) role has_role (Deliver on.bytes) own_bytes (run_is m.graph few x.replay h.run role has_role step (Deliver on.bytes) own_bytes is)
       on.bytes on.frame (receipt on.frame) refl on.reads a
 
-  were_told : IsSpentBy (run_of given.replay) role on.frame → WereTold m.graph given.replay o.pending.session node (last_time on.frame.items)
-  were_told spent p q s found =
+  were_reported : IsSpentBy (run_of given.replay) role on.frame → WereReported m.graph given.replay o.pending.session node (last_time on.frame.items)
+  were_reported spent p q s found =
       let mine = after.run.nodes role has_role in
       let both : Some mine.0 ≡ Some p = sym mine.1 ∙ q in
       let same : mine.0 ≡ p = cc in
@@ -143,7 +143,7 @@ module _ (m : Machine) (begun left : ℕ) (x : Going) (ways : List OnItsWay) (h 
       let anew = gain given (way_spent m.graph few x.replay h.run role has_role step (Deliver on.bytes) own_bytes is o on spent) t after in
       let same : last_time on.frame.items ≡ o.time = on.time in
       let more = anew.2 in
-      on_keeps m begun left given anew.0 anew.1 o.pending.session node (last_time on.frame.items) there.session (subst (λ z. sum_by steps_of anew.0 + steps_after z ≤ left) (sym same) more) (were_told spent)
+      on_keeps m begun left given anew.0 anew.1 o.pending.session node (last_time on.frame.items) there.session (subst (λ z. sum_by steps_of anew.0 + steps_after z ≤ left) (sym same) more) (were_reported spent)
 
   came : (a : Answer) → answer real (node_of past) (Deliver on.bytes) ≡ a → HasBudget left begun (at m (goes_on m.seed m.graph o.pending (accepted_time (Some (reported_answer (frame_number (run_of x.replay).log) a))) given))
   came (Happened e) q =
@@ -153,7 +153,7 @@ module _ (m : Machine) (begun left : ℕ) (x : Going) (ways : List OnItsWay) (h 
   came other q = budget_of left left begun (at m given) ways (omega arith) after
 
   pub deliver_keeps : HasBudget left begun (at m (deliver m.seed m.graph o.pending (drawing 2 x)))
-  deliver_keeps = subst (λ z. HasBudget left begun (at m (goes_on m.seed m.graph o.pending (accepted_time z) given))) (sym (told_next m.graph few x.replay h.run role has_role step (Deliver on.bytes) own_bytes is)) (came (answer real (node_of past) (Deliver on.bytes)) refl)
+  deliver_keeps = subst (λ z. HasBudget left begun (at m (goes_on m.seed m.graph o.pending (accepted_time z) given))) (sym (reported_next m.graph few x.replay h.run role has_role step (Deliver on.bytes) own_bytes is)) (came (answer real (node_of past) (Deliver on.bytes)) refl)
 
 -- ---- a turn
 
@@ -199,7 +199,7 @@ module _ (m : Machine) (begun left : ℕ) (x : Going) (rest : List OnItsWay) (h 
       let each : AllByRecursion (IsOnItsWay m.graph y.replay) (rest ++ gone ∷ []) = all-append (IsOnItsWay m.graph y.replay) rest (gone ∷ []) (all-parts (IsOnItsWay m.graph y.replay) rest (raised o ∷ []) k.each).0
       (record { bytes = now.bytes; frame = now.frame; recorded = now.recorded; reads = now.reads; time = now.time; goes_to = now.goes_to; sid = now.sid; taken = now.taken }, tt) in (
         rest ++ gone ∷ [],
-        told_anew left begun (at m y) (rest ++ raised o ∷ []) k (rest ++ gone ∷ []) (map-append (λ (o : OnItsWay). o.pending) rest (gone ∷ []) ∙ sym (map-append (λ (o : OnItsWay). o.pending) rest (raised o ∷ []))) each (omega (arith, enough)),
+        reported_anew left begun (at m y) (rest ++ raised o ∷ []) k (rest ++ gone ∷ []) (map-append (λ (o : OnItsWay). o.pending) rest (gone ∷ []) ∙ sym (map-append (λ (o : OnItsWay). o.pending) rest (raised o ∷ []))) each (omega (arith, enough)),
         enough,
       ))
   later e Lost q = budget_of left left begun (at m (record (drawing 2 x) { lost = x.lost + 1 })) rest (omega arith) (spend_draws left begun (at m x) rest h covered (x.draws + 2) (x.lost + 1) (omega arith) (omega arith))

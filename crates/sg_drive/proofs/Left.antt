@@ -157,8 +157,8 @@ module _ (left begun : ℕ) (m : Machine) (ways : List OnItsWay) (h : HasLeft le
       }
 
   -- other facts on the same pending frames
-  pub told_anew : (anew : List OnItsWay) → map (λ (o : OnItsWay). o.pending) anew ≡ map (λ (o : OnItsWay). o.pending) ways → AllByRecursion (IsOnItsWay m.graph m.going.replay) anew → sum_by steps_of anew ≤ left → HasLeft left begun m anew
-  told_anew anew same each covered = record {
+  pub reported_anew : (anew : List OnItsWay) → map (λ (o : OnItsWay). o.pending) anew ≡ map (λ (o : OnItsWay). o.pending) ways → AllByRecursion (IsOnItsWay m.graph m.going.replay) anew → sum_by steps_of anew ≤ left → HasLeft left begun m anew
+  reported_anew anew same each covered = record {
     compiled = h.compiled;
     two = h.two;
     few = h.few;

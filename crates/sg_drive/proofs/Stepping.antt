@@ -25,14 +25,14 @@ use Rattle.sg_drive.specs.Setup.{player}
 
 -- ---- what is reported
 
-told_more : (before log : List Logged) (l : Logged) → reported_after before (log ++ l ∷ []) ≡ reported_after before log ++ reported_outcome (frame_number (before ++ log)) l.outcome ∷ []
-told_more before [] l = ap (λ (z : List Logged). reported_outcome (frame_number z) l.outcome ∷ []) (sym (append-nil before))
-told_more before (x ∷ xs) l =
-    ap (λ (z : List Reported). reported_outcome (frame_number before) x.outcome ∷ z) (told_more (before ++ x ∷ []) xs l)
+reported_more : (before log : List Logged) (l : Logged) → reported_after before (log ++ l ∷ []) ≡ reported_after before log ++ reported_outcome (frame_number (before ++ log)) l.outcome ∷ []
+reported_more before [] l = ap (λ (z : List Logged). reported_outcome (frame_number z) l.outcome ∷ []) (sym (append-nil before))
+reported_more before (x ∷ xs) l =
+    ap (λ (z : List Reported). reported_outcome (frame_number before) x.outcome ∷ z) (reported_more (before ++ x ∷ []) xs l)
     ∙ ap (λ (z : List Logged). reported_outcome (frame_number before) x.outcome ∷ (reported_after (before ++ x ∷ []) xs ++ reported_outcome (frame_number z) l.outcome ∷ [])) (append_assoc before (x ∷ []) xs)
 
-pub told_last : (log : List Logged) (l : Logged) → last (reported_log (log ++ l ∷ [])) ≡ Some (reported_outcome (frame_number log) l.outcome)
-told_last log l = ap (λ (z : List Reported). last z) (told_more [] log l) ∙ last-append (reported_log log) (reported_outcome (frame_number log) l.outcome) []
+pub reported_last : (log : List Logged) (l : Logged) → last (reported_log (log ++ l ∷ [])) ≡ Some (reported_outcome (frame_number log) l.outcome)
+reported_last log l = ap (λ (z : List Reported). last z) (reported_more [] log l) ∙ last-append (reported_log log) (reported_outcome (frame_number log) l.outcome) []
 
 -- ---- roles
 
@@ -55,8 +55,8 @@ module _ (g : Graph) (few : length g.roles ≤ 16) (r : Replay) (own : IsOwnRun 
   pub own_next : IsOwnRun real g (run_of (with_taken r st))
   own_next = next_own real real_hash g few (run_of r) (run_of (with_taken r st)) own (next_number r) role there c good run_is
 
-  pub told_next : last (reported_log (run_of (with_taken r st)).log) ≡ Some (reported_answer (frame_number (run_of r).log) (answer real (node_of (own.nodes role there).0) c))
-  told_next = ap (λ (w : World). last (reported_log w.log)) run_is ∙ told_last (run_of r).log _
+  pub reported_next : last (reported_log (run_of (with_taken r st)).log) ≡ Some (reported_answer (frame_number (run_of r).log) (answer real (node_of (own.nodes role there).0) c))
+  reported_next = ap (λ (w : World). last (reported_log w.log)) run_is ∙ reported_last (run_of r).log _
 
   pub way_next : (o : OnItsWay) → receiver (shape g) o.pending.label < length g.roles → IsOnItsWay g r o → IsOnItsWay g (with_taken r st) o
   way_next o h w = record {

@@ -3,7 +3,7 @@ use Rattle.std.proofs.Common.{◌≡◌, ℕ, ◌<◌, true, List, length, sym, 
 use Rattle.sg_model.specs.Lists.{has_text}
 use Rattle.sg_protocol.specs.Schedule.{Schedule}
 use Rattle.sg_world.specs.Replay.{without_steps}
-use Rattle.sg_drive.specs.Held.{HoldsMachine, machine_of}
+use Rattle.sg_drive.specs.GeneratorModel.{HoldsMachine, machine_of}
 use Rattle.sg_drive.specs.Machine.{Machine}
 use Rattle.sg_drive.specs.Setup.{players, setup}
 use Rattle.sg_drive.specs.declared.generator.Generator.TheInside.{Inside}

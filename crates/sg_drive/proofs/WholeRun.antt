@@ -17,7 +17,7 @@ use Rattle.sg_drive.specs.Faults.{IsGenerateFault}
 use Rattle.sg_drive.specs.Generated.{AreGroups, Generated, IsGroup}
 use Rattle.sg_drive.specs.Going.{Going, beginning}
 use Rattle.sg_drive.specs.Groups.{AreGrouped, IsGroupFault, IsOfGroup}
-use Rattle.sg_drive.specs.Held.{Drive, IsDrive}
+use Rattle.sg_drive.specs.GeneratorModel.{Drive, IsDrive}
 use Rattle.sg_drive.specs.Laws.{GeneratedAreShort, GeneratorEnds}
 use Rattle.sg_drive.specs.Machine.{Machine}
 use Rattle.sg_drive.specs.Setup.{setup}

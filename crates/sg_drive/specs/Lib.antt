@@ -7,7 +7,7 @@ pub mod Summary
 pub mod Counted
 pub mod Writing
 pub mod Faults
-pub mod Held
+pub mod GeneratorModel
 pub mod Spent
 pub mod Own
 pub mod Budget

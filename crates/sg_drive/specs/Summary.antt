@@ -6,6 +6,7 @@ use Rattle.sg_text.specs.Sessions.{firsts}
 use Rattle.sg_model.specs.Shape.{target}
 use Rattle.sg_protocol.specs.Calls.{Event, Sent, Received}
 use Rattle.sg_protocol.specs.Graph.{Graph, shape}
+use Rattle.sg_protocol.specs.Walk.{StoredStep}
 use Rattle.sg_report.specs.Report.{Account, premise_lines, premises_hold}
 use Rattle.sg_report.specs.Reported.{Reported, Happened, Sends, Abandoned, NotDelivered, reported_log}
 use Rattle.sg_world.specs.Account.{account}
@@ -53,7 +54,7 @@ completed g other = None
 
 -- how many there are of these
 abbrev pub count : (Reported → Bool) → List Reported → ℕ
-count which told = length (filter which told)
+count which reported = length (filter which reported)
 
 -- how many frames were sent, deliveries accepted and refused and sessions abandoned, and the sessions that were completed, in the order of their last frames
 pub record Counts : Type 0 where
@@ -65,12 +66,12 @@ pub record Counts : Type 0 where
 
 -- the counts of what is reported
 abbrev pub counts : Graph → List Reported → Counts
-counts g told = record {
-  sent = count is_sent told;
-  received = count is_received told;
-  refused = count is_refused told;
-  abandoned = count is_abandoned told;
-  complete = firsts (filter_map (completed g) told);
+counts g reported = record {
+  sent = count is_sent reported;
+  received = count is_received reported;
+  refused = count is_refused reported;
+  abandoned = count is_abandoned reported;
+  complete = firsts (filter_map (completed g) reported);
 }
 
 -- the counts of a replay's run
@@ -100,6 +101,6 @@ summary_text sessions lost c a walks = count_lines sessions lost c ++ premise_li
 
 -- the text is the summary of the replay: the counts of its run, and, if both assumptions hold, how many sessions have an event, each with a walk that explains what happened in it
 pub record IsSummary (sessions lost : ℕ) (g : Graph) (r : Replay) (text : List ℕ) : Type 0 where
-  pub walks : ℕ
+  pub walks : List (List ℕ × List StoredStep)
   pub made : premises_hold (account r) ≡ true → WalksAreMade r walks
-  pub spelled : text ≡ summary_text sessions lost (counts_of g r) (account r) walks
+  pub spelled : text ≡ summary_text sessions lost (counts_of g r) (account r) (length walks)

@@ -10,7 +10,7 @@ ghost use Rattle.sg_world.specs.Faults.{NeverFull};
 ghost use Rattle.sg_drive.specs.Draws.{draw};
 ghost use Rattle.sg_drive.specs.Faults.{IsStopped};
 ghost use Rattle.sg_drive.specs.Going.{adding, beginning, drawing, taking};
-ghost use Rattle.sg_drive.specs.Held.{drive_of};
+ghost use Rattle.sg_drive.specs.GeneratorModel.{drive_of};
 
 use crate::draws::Draws;
 use crate::drive::Driven;
@@ -46,7 +46,7 @@ impl<'g, 'p> Model for Generator<'g, 'p> {
 
     ghost Value = { Machine };
 
-    ghost use Rattle.sg_drive.specs.Held.{machine_of, HoldsMachine};
+    ghost use Rattle.sg_drive.specs.GeneratorModel.{machine_of, HoldsMachine};
 
     ghost view = { machine_of };
 

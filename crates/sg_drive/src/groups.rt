@@ -7,7 +7,7 @@ ghost use Rattle.sg_drive.specs.Budget.{HasBudget};
 ghost use Rattle.sg_drive.specs.Faults.{IsGenerateFault, IsStopped};
 ghost use Rattle.sg_drive.specs.Generated.{begin_all};
 ghost use Rattle.sg_drive.specs.Groups.{AreTurns, IsGroupFault, IsOfGroup, IsTurnFault};
-ghost use Rattle.sg_drive.specs.Held.{IsDrive, drive_of};
+ghost use Rattle.sg_drive.specs.GeneratorModel.{IsDrive, drive_of};
 
 use crate::drive::Driven;
 use crate::fault::GenerateFault;

@@ -8,7 +8,7 @@ ghost use Rattle.sg_report.specs.Reported.{Reported, Happened};
 ghost use Rattle.sg_walk.specs.Model.{event_of};
 ghost use Rattle.sg_drive.specs.Generated.{accepted_time, deliver, gone_on, goes_on_by, meet, put_back, turn};
 ghost use Rattle.sg_drive.specs.Going.{drawing, without};
-ghost use Rattle.sg_drive.specs.Held.{fate_held};
+ghost use Rattle.sg_drive.specs.GeneratorModel.{fate_held};
 ghost use Rattle.sg_drive.specs.Machine.{HasRoom, IsThere};
 
 use crate::fault::GenerateFault;
@@ -149,7 +149,7 @@ impl<'g, 'p> Generator<'g, 'p> {
 
 // The time of the frame that was accepted, if this came of the last step.
 fn accepted_time(outcome: Option<&Outcome>) -> Option<Time>
-    ensures { (told : Option Reported) → option_map (λ o. outcome_of o.now) outcome.entry ≡ option_map Some told → result ≡ accepted_time told }
+    ensures { (reported : Option Reported) → option_map (λ o. outcome_of o.now) outcome.entry ≡ option_map Some reported → result ≡ accepted_time reported }
 {
     match outcome {
         Some(Outcome::Started(event)) => received_time(event),

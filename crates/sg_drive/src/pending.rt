@@ -1,7 +1,7 @@
 //! Frames that are on their way.
 ghost use Rattle.std.specs.Prelude.{◌≡◌, ◌≤◌, ◌+◌};
 ghost use Rattle.sg_drive.specs.Generated.{fate_of};
-ghost use Rattle.sg_drive.specs.Held.{fate_held};
+ghost use Rattle.sg_drive.specs.GeneratorModel.{fate_held};
 
 use sg_base::Label;
 use std::marker::Model;

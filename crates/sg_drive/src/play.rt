@@ -136,7 +136,7 @@ impl<'g, 'p> Generator<'g, 'p> {
 
 // The number of the frame that was sent, if this came of the last step.
 fn number_sent(outcome: Option<&Outcome>) -> Option<u32>
-    ensures { (told : Option Reported) → option_map (λ o. outcome_of o.now) outcome.entry ≡ option_map Some told → result ≡ number_sent told }
+    ensures { (reported : Option Reported) → option_map (λ o. outcome_of o.now) outcome.entry ≡ option_map Some reported → result ≡ number_sent reported }
 {
     match outcome {
         Some(Outcome::Sent { frame, .. }) => Some(*frame),

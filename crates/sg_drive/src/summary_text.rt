@@ -40,13 +40,13 @@ fn put_rest(out: &mut ByteOut, world: &World<'_>) -> Result<(), OutOfMemory>
     }
 }
 
-// Makes the walk of each session with an event, and writes how many there are.
+// Writes how many walks there are, one of each session with an event.
 fn put_walks(out: &mut ByteOut, world: &World<'_>) -> Result<(), OutOfMemory>
     requires { PremisesHold world.now }
     ensures { OnOk result (HasWalks world.now out.old out.new) }
 {
     let walks = world.walks()?;
-    put_number(out, b"walks", walks as u64)
+    put_number(out, b"walks", walks.as_slice().len() as u64)
 }
 
 // Writes the lines of the counts.

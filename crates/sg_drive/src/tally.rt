@@ -65,7 +65,7 @@ impl Tally {
     // Counts the outcome of a step, of which something is reported.
     fn add(&mut self, graph: &Graph, outcome: &Outcome) -> Result<(), OutOfMemory>
         requires few { CanRise self.old }
-        ensures { (told : Reported) → outcome_of outcome.now ≡ Some told → OnOk result (self.new ≡ with_reported graph.now told self.old) }
+        ensures { (reported : Reported) → outcome_of outcome.now ≡ Some reported → OnOk result (self.new ≡ with_reported graph.now reported self.old) }
     {
         match outcome {
             Outcome::Sent { event, .. } => self.add_sent(graph, event),

@@ -6,10 +6,10 @@ use Rattle.sg_parse.specs.Grammar.{SpellsGraph}
 use Rattle.sg_parse.specs.Reading.{read as parsed}
 use Rattle.sg_parse.specs.declared.fault.ParseFault.{ParseFault}
 use Rattle.sg_parse.proofs.GivesGraph.{spells-read}
-use Rattle.sg_program.specs.Compiled.{IsWhole}
-use Rattle.sg_program.specs.declared.check.CompileFault.{CompileFault}
-use Rattle.sg_program.specs.declared.check.CompileFault.TheVariants.{OutOfMemory}
-use Rattle.sg_program.proofs.Refusals.{all_or_refused}
+use Rattle.sg_compile.specs.Compiled.{IsWhole}
+use Rattle.sg_compile.specs.declared.check.CompileFault.{CompileFault}
+use Rattle.sg_compile.specs.declared.check.CompileFault.TheVariants.{OutOfMemory}
+use Rattle.sg_compile.proofs.Refusals.{all_or_refused}
 use Rattle.sg_protocol.specs.Graph.{Graph}
 use Rattle.sg_protocol.specs.IsSchedule.{AreCompiled}
 use Rattle.sg_protocol.specs.Keyring.{Program}
@@ -111,7 +111,7 @@ one_unread files most file _ _ (Missing h) (TooLong k) = absurd (missing_or_long
 one_unread files most file _ _ (TooLong h) (Missing k) = absurd (missing_or_long files most file k h)
 one_unread files most file _ _ (TooLong h) (TooLong k) = refl
 
--- what is asked for of a file, where its bytes ask for one ending
+-- what is asked for of a file, if its bytes ask for one ending
 pub file_once : (Does : List ℕ → (old new : Output) → Ending → Type 0) (most : ℕ)
     → ((bytes : List ℕ) (a a' b b' : Output) (x y : Ending) → Does bytes a a' x → Does bytes b b' y → is_of_outside x ≡ false → is_of_outside y ≡ false → asked x ≡ asked y)
     → EndsOnce Does most

@@ -7,12 +7,12 @@ use Rattle.sg_claims_text.specs.declared.fault.ClaimsFault.{ClaimsFault}
 use Rattle.sg_parse.specs.declared.fault.ParseFault.{ParseFault}
 use Rattle.sg_compose.specs.declared.fault.ComposeFault.{ComposeFault}
 use Rattle.sg_keys.specs.declared.key_file.KeyFault.{KeyFault}
-use Rattle.sg_program.specs.declared.check.CompileFault.{CompileFault}
+use Rattle.sg_compile.specs.declared.check.CompileFault.{CompileFault}
 use Rattle.sg_script.specs.declared.fault.ScriptFault.{ScriptFault}
 use Rattle.sg_parse.specs.FaultText.{parse_text}
 use Rattle.sg_compose.specs.FaultText.{compose_text}
 use Rattle.sg_text.specs.Values.{escaped_byte}
-use Rattle.sg_program.specs.FaultText.{refusal_text}
+use Rattle.sg_compile.specs.FaultText.{refusal_text}
 use Rattle.sg_keys.specs.FaultText.{keys_text}
 use Rattle.sg_script.specs.FaultText.{script_text}
 use Rattle.sg_ending.specs.declared.ending.BadProgram.{BadProgram}

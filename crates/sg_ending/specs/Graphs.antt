@@ -2,9 +2,9 @@
 use Rattle.std.specs.Prelude.{◌≡◌, ℕ, List, Some, Err, slice_get, ⊤}
 use Rattle.sg_protocol.specs.Graph.{Graph}
 use Rattle.sg_parse.specs.Reading.{read as parsed}
-use Rattle.sg_program.specs.All.{IsAllFault}
-use Rattle.sg_program.specs.declared.all.AllFault.TheVariants.{Refused}
-use Rattle.sg_program.specs.declared.check.CompileFault.{CompileFault}
+use Rattle.sg_compile.specs.All.{IsAllFault}
+use Rattle.sg_compile.specs.declared.all.AllFault.TheVariants.{Refused}
+use Rattle.sg_compile.specs.declared.check.CompileFault.{CompileFault}
 use Rattle.sg_ending.specs.Ending.{Ending, NoGraph, GraphRefused, NoMemory}
 
 -- the bytes are no graph, as their reading says, or memory ran out

@@ -1,6 +1,6 @@
 -- What a command on one file does is what its file asks for: one ending, unless the outside fails.
 use Rattle.std.specs.Prelude.{◌≡◌, ℕ, Bool, true, false, List, Some}
-use Rattle.sg_program.specs.declared.check.CompileFault.TheVariants.{OutOfMemory}
+use Rattle.sg_compile.specs.declared.check.CompileFault.TheVariants.{OutOfMemory}
 use Rattle.sg_ending.specs.Ending.{Ending, Written, GraphRefused, FileFailed, WriteFailed, NoMemory}
 use Rattle.sg_ending.specs.Files.{OnFile}
 use Rattle.sg_ending.specs.Output.{Output}
@@ -11,7 +11,7 @@ is_of_outside (FileFailed file) = true
 is_of_outside NoMemory = true
 is_of_outside ending = false
 
--- what is asked for, where it ends so: that the text is written, also where a write failed; and of a graph that is refused, which one it is
+-- what is asked for, if it ends so: that the text is written, also if a write failed; and of a graph that is refused, which one it is
 abbrev pub asked : Ending → Ending
 asked WriteFailed = Written
 asked (GraphRefused g fault) = GraphRefused g OutOfMemory

@@ -1,16 +1,16 @@
 //! How the program ends, and what it says of it.
 ghost use Rattle.std.specs.Prelude.{◌≡◌, ◌≢◌, ◌++◌, ◌∷◌, [], IfOk, OnErr, OnOk, codes};
-ghost use Rattle.sg_program.specs.FaultText.{refusal_text};
+ghost use Rattle.sg_compile.specs.FaultText.{refusal_text};
 ghost use Rattle.sg_ending.specs.Ending.{status_of, line_of, program_text, shown_byte, shown_arg};
 ghost use Rattle.sg_ending.specs.Model.{ending_held};
 
 use sg_base::{ByteOut, OutOfMemory};
 use sg_claims_text::ClaimsFault;
+use sg_compile::CompileFault;
 use sg_compose::ComposeFault;
 use sg_graph::Graph;
 use sg_keys::KeyFault;
 use sg_parse::ParseFault;
-use sg_program::CompileFault;
 use sg_script::ScriptFault;
 use sg_text::put_escaped;
 use std::alloc::Global;

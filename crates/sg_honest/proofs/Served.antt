@@ -27,11 +27,11 @@ use Rattle.sg_request.specs.Request.{is_cast, is_request, request_of}
 use Rattle.sg_request.specs.declared.request.Request.{Request}
 use Rattle.sg_request.specs.declared.request.Request.TheVariants as request
 use Rattle.sg_request.proofs.Sound.{form_sound}
-use Rattle.sg_sched.specs.Format.Forms.{are_names, is_given}
+use Rattle.sg_sched.specs.Format.Forms.{are_names, is_assignment}
 use Rattle.sg_sched.specs.Format.Items.{labels_of}
-use Rattle.sg_sched.specs.Format.Made.{values}
+use Rattle.sg_sched.specs.Format.Numbered.{values}
 use Rattle.sg_sched.specs.Format.Faults.{knows_variable}
-use Rattle.sg_sched.specs.Format.Said.{Assignment}
+use Rattle.sg_sched.specs.Format.LineContents.{Assignment}
 use Rattle.sg_sched_text.specs.Adding.{is_twice, known_values}
 use Rattle.sg_sched_text.proofs.MeantSteps.{values_fit}
 use Rattle.sg_script.specs.Script.{Start as ScriptStart}
@@ -93,7 +93,7 @@ module _ (programs : List Program) (first : List Join) (are : AllByRecursion (Is
       go true q = cc
       go false q = absurd (cc)
 
-  by_act : (s : Serving) (sid : List ℕ) (graph : Option Graph) (label : Name) (given : List Assignment) → Fine programs first are s.play → list_all is_given given ≡ true → FineTo (acts_by s sid graph label given)
+  by_act : (s : Serving) (sid : List ℕ) (graph : Option Graph) (label : Name) (given : List Assignment) → Fine programs first are s.play → list_all is_assignment given ≡ true → FineTo (acts_by s sid graph label given)
   by_act s sid graph label given h g =
       by_option (acts_if s sid graph given) (position (bytes_eq label) (labels_of graph)) _
       (λ l e. by_option _ (known_values graph given) _ (λ vs q. by_bool (is_twice given) _ _ h (acts_fine l vs (known_are graph given vs q))) h) h

@@ -18,7 +18,7 @@ mod system;
 pub use input::Input;
 pub use laws::lines_are_runs;
 pub use memory::MemInput;
-pub use reader::{Found, InputFault, LineReader};
+pub use reader::{InputFault, LineFound, LineReader};
 pub use system::StdInput;
 
 #[cfg(test)]

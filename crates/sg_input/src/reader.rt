@@ -20,7 +20,7 @@ const ROOM: usize = 262_144 + 65_536;
 
 /// What a reader found.
 #[derive(Debug, Clone, Copy, PartialEq, Eq)]
-pub enum Found {
+pub enum LineFound {
     /// A line, whose bytes [`LineReader::line`] gives.
     Line,
     /// A line of more than 262,144 bytes, of which nothing is kept.
@@ -90,15 +90,15 @@ impl LineReader {
     }
 
     /// Finds the next line, or gives `None` at the end of all.
-    pub fn next<I: Input>(&mut self, input: &mut I) -> Result<Option<Found>, InputFault>
+    pub fn next<I: Input>(&mut self, input: &mut I) -> Result<Option<LineFound>, InputFault>
         ensures never_falls { I.faults input.old ≤ I.faults input.new }
         ensures failed { result ≡ Err InputFault.Failed → HasRisen (I.faults input.old) (I.faults input.new) }
         ensures fits { length self.new.line ≤ most_line_bytes }
         ensures one { NoFeed self.new.line }
 
         // What each answer says of the lines that are left, if they are known.
-        ensures line { result ≡ Ok (Some Found.Line) → TakesFirst (lines_left self.old.unread (I.coming input.old)) (lines_left self.new.unread (I.coming input.new)) (Whole self.new.line) }
-        ensures too_long { result ≡ Ok (Some Found.TooLong) → TakesFirst (lines_left self.old.unread (I.coming input.old)) (lines_left self.new.unread (I.coming input.new)) TooLong }
+        ensures line { result ≡ Ok (Some LineFound.Line) → TakesFirst (lines_left self.old.unread (I.coming input.old)) (lines_left self.new.unread (I.coming input.new)) (Whole self.new.line) }
+        ensures too_long { result ≡ Ok (Some LineFound.TooLong) → TakesFirst (lines_left self.old.unread (I.coming input.old)) (lines_left self.new.unread (I.coming input.new)) TooLong }
         ensures at_end { result ≡ Ok None → (all : List Line) → lines_left self.old.unread (I.coming input.old) ≡ Some all → all ≡ [] }
         ensures kept_at_end { result ≡ Ok None → lines_left self.new.unread (I.coming input.new) ≡ lines_left self.old.unread (I.coming input.old) }
         ensures kept { OnErr result (lines_left self.new.unread (I.coming input.new) ≡ lines_left self.old.unread (I.coming input.old)) }
@@ -119,11 +119,11 @@ impl LineReader {
     }
 
     // Takes the first line off the bytes that were read, if it is there whole.
-    fn take_line(&mut self) -> Option<Found>
+    fn take_line(&mut self) -> Option<LineFound>
         ensures fits { length self.new.line ≤ most_line_bytes }
         ensures one { NoFeed self.new.line }
-        ensures line { result ≡ Some Found.Line → (more : List ℕ) → lines_of (self.old.unread ++ more) ≡ Whole self.new.line ∷ lines_of (self.new.unread ++ more) }
-        ensures too_long { result ≡ Some Found.TooLong → (more : List ℕ) → lines_of (self.old.unread ++ more) ≡ TooLong ∷ lines_of (self.new.unread ++ more) }
+        ensures line { result ≡ Some LineFound.Line → (more : List ℕ) → lines_of (self.old.unread ++ more) ≡ Whole self.new.line ∷ lines_of (self.new.unread ++ more) }
+        ensures too_long { result ≡ Some LineFound.TooLong → (more : List ℕ) → lines_of (self.old.unread ++ more) ≡ TooLong ∷ lines_of (self.new.unread ++ more) }
         ensures none { result ≡ None → (self.new.unread ≡ self.old.unread) × NoFeed self.old.unread × (self.new.line ≡ []) }
     {
         let Some(at) = find_feed(&self.buffer[self.seen..self.end]) else {
@@ -139,11 +139,11 @@ impl LineReader {
         if to - from > MOST_BYTES {
             self.from = 0;
             self.to = 0;
-            return Some(Found::TooLong);
+            return Some(LineFound::TooLong);
         }
         self.from = from;
         self.to = to;
-        Some(Found::Line)
+        Some(LineFound::Line)
     }
 
     // Reads more bytes behind those that were read, and gives their number, which is 0 at the end of all alone. Of a line that is too long
@@ -174,13 +174,13 @@ impl LineReader {
 
 // Where the bytes that are kept begin and end.
 #[derive(Debug, Clone, Copy)]
-struct Kept {
+struct KeptRange {
     start: usize,
     end: usize,
 }
 
 // Makes room behind the prefix of a line that was read, which is between two offsets and of which as much is kept as a line may have, and one byte more.
-fn make_room(buffer: &mut Vec<u8>, start: usize, end: usize) -> Kept
+fn make_room(buffer: &mut Vec<u8>, start: usize, end: usize) -> KeptRange
     requires within { start ≤ end }
     requires fits { end ≤ length buffer.old.items }
     requires whole { length buffer.old.items ≡ 327680 }
@@ -193,13 +193,13 @@ fn make_room(buffer: &mut Vec<u8>, start: usize, end: usize) -> Kept
 {
     let count = kept_bytes(end - start);
     if start == 0 || (start < end && end < ROOM && end - start <= MOST_BYTES) {
-        return Kept {
+        return KeptRange {
             start,
             end: start + count,
         };
     }
     move_prefix(buffer, start, count);
-    Kept {
+    KeptRange {
         start: 0,
         end: count,
     }

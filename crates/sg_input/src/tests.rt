@@ -6,8 +6,8 @@ use std::io::{self, ErrorKind, Read};
 // What a call of `next` gave: a letter for each answer, and the line's bytes.
 fn step<I: Input>(reader: &mut LineReader, input: &mut I) -> u8 {
     match reader.next(input) {
-        Ok(Some(Found::Line)) => b'l',
-        Ok(Some(Found::TooLong)) => b'o',
+        Ok(Some(LineFound::Line)) => b'l',
+        Ok(Some(LineFound::TooLong)) => b'o',
         Ok(None) => b'e',
         Err(InputFault::Failed) => b'f',
         Err(InputFault::OutOfMemory) => b'm',

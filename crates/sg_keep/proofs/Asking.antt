@@ -15,7 +15,7 @@ use Rattle.sg_script.specs.Script.{Choice, Script}
 use Rattle.sg_play.specs.declared.fault.PlayFault.{PlayFault}
 use Rattle.sg_play.specs.declared.fault.PlayFault.TheVariants.{LinkFailed, WriteFailed, OutOfMemory}
 use Rattle.sg_play.specs.declared.player.Player.{Player}
-use Rattle.sg_play.specs.Asking.{Comes}
+use Rattle.sg_play.specs.Asking.{IsAsked as IsAskedOfNode}
 use Rattle.sg_play.specs.Ends.{Outside, Whole, Ended}
 use Rattle.sg_play.specs.Played.{Play, all_deliveries, all_starts, beginning, called, played, with_turn}
 use Rattle.sg_play.specs.Representation.{HasAsked, KeepsJoins, RepresentsPlay}
@@ -26,8 +26,8 @@ use Rattle.sg_keep.specs.declared.fault.KeepFault.{KeepFault}
 use Rattle.sg_keep.specs.declared.fault.KeepFault.TheVariants.{Played, DiskFailed}
 use Rattle.sg_keep.specs.declared.keeper.Keeper.{Keeper}
 use Rattle.sg_keep.specs.Joins.{IsNew, join_in, join_reported, joins_made, with_join}
-use Rattle.sg_keep.specs.Kept.{AllRepresent, AreOfJoins, Kept}
-use Rattle.sg_keep.specs.Representation.{CameTo, HasAskedNode, HoldsJoins, IsAsked, RepresentsKept}
+use Rattle.sg_keep.specs.KeptRuns.{AllRepresent, AreOfJoins, HasKept}
+use Rattle.sg_keep.specs.Representation.{Progressed, HasAskedNode, HoldsJoins, IsAsked, RepresentsKept}
 use Rattle.sg_keep.proofs.Ending.{IsBetween, end_on, not_kept, played_end, stopped}
 use Rattle.sg_keep.proofs.Going.{Goes, after_call, by_call, by_deliveries, by_starts, in_step_on, joined, quiet_joins, with_call}
 use Rattle.sg_keep.proofs.NewJoins.{any_call, joins_of_node, joins_with}
@@ -39,25 +39,25 @@ working joins = record { joins = joins; failed = false }
 
 -- ---- the node was asked
 
-pub asked_node : (k : Keeper) (pl : Player) (may_leave : List ℕ → Type 0) (c : Call) (told : Option Reported) (graph : Option Graph) (h : HoldsJoins k may_leave) → Comes 0 k.player.node pl.node h.past c told graph None → HasAskedNode (record k { player = pl }) may_leave told
-asked_node k pl may_leave c told graph h came = record {
+pub asked_node : (k : Keeper) (pl : Player) (may_leave : List ℕ → Type 0) (c : Call) (reported : Option Reported) (graph : Option Graph) (h : HoldsJoins k may_leave) → IsAskedOfNode 0 k.player.node pl.node h.past c reported graph None → HasAskedNode (record k { player = pl }) may_leave reported
+asked_node k pl may_leave c reported graph h came = record {
   past = h.past;
   call = c;
   number = 0;
   range = came.range;
-  told_before = h.told;
+  answered_before = h.answered;
   represents = came.goes_on.represents;
-  is_told = came.is_told;
+  is_reported = came.is_reported;
   ledger = h.ledger ∙ ap working h.represents.joins;
   images = subst (AllRepresent may_leave) h.represents.joins h.images;
 }
 
-pub is_asked : (k : Keeper) (pl : Player) (may_leave : List ℕ → Type 0) (p : Play) (c : Call) (told : Option Reported) (graph : Option Graph) → HoldsJoins k may_leave → RepresentsKept k p → pl ≡ record k.player { node = pl.node }
-    → ((number : ℕ) → Comes number k.player.node pl.node p.past c told graph None) → None ≡ sid_left c → IsAsked (record k { player = pl }) p c told graph
-is_asked k pl may_leave p c told graph h s is comes stays = record {
-  asked = subst (λ (x : Player). HasAsked x p c told graph []) (sym is) (asked_quiet k.player pl.node p c told graph s.player comes);
+pub is_asked : (k : Keeper) (pl : Player) (may_leave : List ℕ → Type 0) (p : Play) (c : Call) (reported : Option Reported) (graph : Option Graph) → HoldsJoins k may_leave → RepresentsKept k p → pl ≡ record k.player { node = pl.node }
+    → ((number : ℕ) → IsAskedOfNode number k.player.node pl.node p.past c reported graph None) → None ≡ sid_left c → IsAsked (record k { player = pl }) p c reported graph
+is_asked k pl may_leave p c reported graph h s is comes stays = record {
+  asked = subst (λ (x : Player). HasAsked x p c reported graph []) (sym is) (asked_quiet k.player pl.node p c reported graph s.player comes);
   stays = stays;
-  told_before = s.player.told;
+  answered_before = s.player.answered;
   in_step = s.in_step;
   sent = s.sent;
   ledger = ap (λ (o : OpenLedger). o.joins) h.ledger ∙ s.player.node.joins;
@@ -74,19 +74,19 @@ told_join n (Protocol.NotActed x) = refl
 told_join n Protocol.NotAbandoned = refl
 told_join n (Protocol.NotDelivered x) = refl
 
-module _ (k : Keeper) (may_leave : List ℕ → Type 0) (told : Option Reported) (h : HasAskedNode k may_leave told) where
+module _ (k : Keeper) (may_leave : List ℕ → Type 0) (reported : Option Reported) (h : HasAskedNode k may_leave reported) where
   -- the node's answer
   abbrev given : Answer
   given = answer real (node_of h.past) h.call
 
-  pub join_is : (r : Option Join) → r ≡ option_and_then join_reported told → r ≡ join_in given
-  join_is r e = e ∙ ap (option_and_then join_reported) h.is_told ∙ told_join h.number given
+  pub join_is : (r : Option Join) → r ≡ option_and_then join_reported reported → r ≡ join_in given
+  join_is r e = e ∙ ap (option_and_then join_reported) h.is_reported ∙ told_join h.number given
 
   -- a pair that joins is new to the ledger
-  pub is_new : IfSome (option_and_then join_reported told) (IsNew k.ledger.joins)
-  is_new = by (option_and_then join_reported told) refl
+  pub is_new : IfSome (option_and_then join_reported reported) (IsNew k.ledger.joins)
+  is_new = by (option_and_then join_reported reported) refl
     where
-      by : (o : Option Join) → o ≡ option_and_then join_reported told → IfSome o (IsNew k.ledger.joins)
+      by : (o : Option Join) → o ≡ option_and_then join_reported reported → IfSome o (IsNew k.ledger.joins)
       by None e = tt
       by (Some j) e = subst (λ (l : OpenLedger). IsNew l.joins j) (sym h.ledger) ((any_call real (node_of h.past) h.call h.range).1 j (sym (join_is (Some j) e)))
 
@@ -97,33 +97,33 @@ module _ (k : Keeper) (may_leave : List ℕ → Type 0) (told : Option Reported)
   represent_now = subst (λ (o : OpenLedger). AllRepresent may_leave o.joins) (sym h.ledger) h.images
 
   -- the node's joins are the ledger's with it
-  pub node_joins : (r : Option Join) → r ≡ option_and_then join_reported told → k.player.node.joins ≡ with_join k.ledger.joins r
+  pub node_joins : (r : Option Join) → r ≡ option_and_then join_reported reported → k.player.node.joins ≡ with_join k.ledger.joins r
   node_joins r e =
       h.represents.joins ∙ joins_with h.past h.call h.range
       ∙ (λ i. with_join (sym (ap (λ (o : OpenLedger). o.joins) h.ledger) i) (sym (join_is r e) i))
 
   -- the ledger has it
-  pub holds_after : (l : OpenLedger) (now_leaves : List ℕ → Type 0) (r : Option Join) → r ≡ option_and_then join_reported told → l ≡ working (with_join k.ledger.joins r) → AllRepresent now_leaves l.joins → HoldsJoins (record k { ledger = l }) now_leaves
+  pub holds_after : (l : OpenLedger) (now_leaves : List ℕ → Type 0) (r : Option Join) → r ≡ option_and_then join_reported reported → l ≡ working (with_join k.ledger.joins r) → AllRepresent now_leaves l.joins → HoldsJoins (record k { ledger = l }) now_leaves
   holds_after l now_leaves r e is all = record {
     past = past_after real h.past h.call;
     represents = h.represents;
-    told = pasts_go_on h.past h.call h.told_before h.range;
+    answered = pasts_go_on h.past h.call h.answered_before h.range;
     ledger = is ∙ ap working (sym (node_joins r e));
     images = subst (AllRepresent now_leaves) (ap (λ (o : OpenLedger). o.joins) is ∙ sym (node_joins r e)) all;
   }
 
 -- ---- the call is reported
 
-module _ (start now : Outside) (may_leave : List ℕ → Type 0) (k : Keeper) (p : Play) (c : Call) (told : Option Reported) (graph : Option Graph) (a : IsAsked k p c told graph) where
+module _ (start now : Outside) (may_leave : List ℕ → Type 0) (k : Keeper) (p : Play) (c : Call) (reported : Option Reported) (graph : Option Graph) (a : IsAsked k p c reported graph) where
   -- the joins of the node with the call
   node_has : k.player.node.joins ≡ (called p c).past.first ++ joins_made (called p c).past.calls
-  node_has = a.asked.node.joins ∙ joins_of_node (past_after real p.past c) a.asked.told_past
+  node_has = a.asked.node.joins ∙ joins_of_node (past_after real p.past c) a.asked.answered_past
 
   -- its join was not kept
-  pub unkept : (f : KeepFault) → IsBetween f → ((image : List ℕ) → may_leave image → Represents image k.ledger.joins ⊎ Represents image k.player.node.joins) → Whole start now p.steps → Kept start now may_leave (with_turn p c) (Err f)
+  pub unkept : (f : KeepFault) → IsBetween f → ((image : List ℕ) → may_leave image → Represents image k.ledger.joins ⊎ Represents image k.player.node.joins) → Whole start now p.steps → HasKept start now may_leave (with_turn p c) (Err f)
   unkept f causes images w =
       end_on start now may_leave (called p c) (with_turn p c) f (after_call p c).0
-      (not_kept start now may_leave p c f k.ledger.joins k.player.node.joins causes a.in_step a.sent (a.ledger ∙ joins_of_node p.past a.told_before) node_has images w)
+      (not_kept start now may_leave p c f k.ledger.joins k.player.node.joins causes a.in_step a.sent (a.ledger ∙ joins_of_node p.past a.answered_before) node_has images w)
 
   -- its join is kept
   module _ (m : Keeper) (same : m.player ≡ k.player) (h : HoldsJoins m may_leave) where
@@ -131,7 +131,7 @@ module _ (start now : Outside) (may_leave : List ℕ → Type 0) (k : Keeper) (p
     all = subst (AllRepresent may_leave) (ap (λ (pl : Player). pl.node.joins) same ∙ node_has) h.images
 
     owns : OwnsAll (called p c)
-    owns = record { live = owned_past (past_after real p.past c) a.asked.told_past; sent = sent_more p c (record { live = owned_past p.past a.told_before; sent = a.sent }) }
+    owns = record { live = owned_past (past_after real p.past c) a.asked.answered_past; sent = sent_more p c (record { live = owned_past p.past a.answered_before; sent = a.sent }) }
 
     owns_then : OwnsAll (with_turn p c)
     owns_then = (after_call p c).2 owns
@@ -139,15 +139,15 @@ module _ (start now : Outside) (may_leave : List ℕ → Type 0) (k : Keeper) (p
     steps_so : length (called p c).steps ≡ length (called p c).past.calls
     steps_so = in_step_on p (called p c) (by_call p c) a.in_step
 
-    pub asked_then : HasAsked m.player p c told graph []
-    asked_then = subst (λ (pl : Player). HasAsked pl p c told graph []) (sym same) a.asked
+    pub asked_then : HasAsked m.player p c reported graph []
+    asked_then = subst (λ (pl : Player). HasAsked pl p c reported graph []) (sym same) a.asked
 
     -- the outcome was not given
-    pub untold : (f : PlayFault) → Ended start now (called p c).steps (Err f) → Kept start now may_leave (with_turn p c) (Err (Played f))
+    pub untold : (f : PlayFault) → Ended start now (called p c).steps (Err f) → HasKept start now may_leave (with_turn p c) (Err (Played f))
     untold f e = end_on start now may_leave (called p c) (with_turn p c) (Played f) (after_call p c).0 (played_end start now may_leave (called p c) steps_so owns.sent all f e)
 
     -- the turn ended early
-    pub unplayed : (f : PlayFault) → Ended start now (with_turn p c).steps (Err f) → Kept start now may_leave (with_turn p c) (Err (Played f))
+    pub unplayed : (f : PlayFault) → Ended start now (with_turn p c).steps (Err f) → HasKept start now may_leave (with_turn p c) (Err (Played f))
     unplayed f e =
         played_end start now may_leave (with_turn p c) (in_step_on (called p c) (with_turn p c) (after_call p c).0 steps_so) owns_then.sent
         (subst (AllRepresent may_leave) (sym (quiet_joins (called p c) (with_turn p c) (after_call p c))) all) f e
@@ -161,11 +161,11 @@ module _ (start now : Outside) (may_leave : List ℕ → Type 0) (k : Keeper) (p
 -- the node goes on without a join
 pub holds_on : (k m : Keeper) (may_leave : List ℕ → Type 0) → HoldsJoins k may_leave → m.ledger ≡ k.ledger → KeepsJoins k.player.node m.player.node → HoldsJoins m may_leave
 holds_on k m may_leave h same keeps =
-    let later = keeps h.past h.represents h.told in
+    let later = keeps h.past h.represents h.answered in
     record {
       past = later.0;
       represents = later.1;
-      told = later.2;
+      answered = later.2;
       ledger = same ∙ h.ledger ∙ ap working (sym later.3);
       images = subst (AllRepresent may_leave) (sym later.3) h.images;
     }
@@ -183,15 +183,15 @@ kept_without k p q past steps s h = record {
 
 -- all joins of the play are kept
 pub holds_all : (k : Keeper) (may_leave : List ℕ → Type 0) (p : Play) → HoldsJoins k may_leave → RepresentsKept k p → AllRepresent may_leave (p.past.first ++ joins_made p.past.calls)
-holds_all k may_leave p h s = subst (AllRepresent may_leave) (s.player.node.joins ∙ joins_of_node p.past s.player.told) h.images
+holds_all k may_leave p h s = subst (AllRepresent may_leave) (s.player.node.joins ∙ joins_of_node p.past s.player.answered) h.images
 
 module _ (start now : Outside) (may_leave : List ℕ → Type 0) (k : Keeper) (p q : Play) (h : HoldsJoins k may_leave) (s : RepresentsKept k p) (g : Goes p q) (w : Whole start now p.steps) where
   -- memory ran out between steps
-  pub memory_end : (f : PlayFault) → f ≡ OutOfMemory → Kept start now may_leave q (Err (Played f))
-  memory_end f e = subst (λ (z : PlayFault). Kept start now may_leave q (Err (Played z))) (sym e) (end_on start now may_leave p q (Played OutOfMemory) g (stopped start now may_leave p s.in_step s.sent (holds_all k may_leave p h s) w))
+  pub memory_end : (f : PlayFault) → f ≡ OutOfMemory → HasKept start now may_leave q (Err (Played f))
+  memory_end f e = subst (λ (z : PlayFault). HasKept start now may_leave q (Err (Played z))) (sym e) (end_on start now may_leave p q (Played OutOfMemory) g (stopped start now may_leave p s.in_step s.sent (holds_all k may_leave p h s) w))
 
   -- the link gave no delivery
-  pub link_end : Kept start now may_leave q (Err (Played LinkFailed))
+  pub link_end : HasKept start now may_leave q (Err (Played LinkFailed))
   link_end = end_on start now may_leave p q (Played LinkFailed) g (stopped start now may_leave p s.in_step s.sent (holds_all k may_leave p h s) w)
 
 -- ---- a play begins
@@ -200,7 +200,7 @@ pub holds_first : (k : Keeper) (may_leave : List ℕ → Type 0) (keys : Keyring
 holds_first k may_leave keys programs first choices s is all = record {
   past = record { keys = keys; programs = programs; first = first; calls = [] };
   represents = s.node;
-  told = s.told;
+  answered = s.answered;
   ledger = is ∙ ap working (sym s.node.joins);
   images = subst (AllRepresent may_leave) (sym s.node.joins) all;
 }
@@ -210,12 +210,12 @@ represents_first k keys programs first choices random s = record { player = s; i
 
 -- memory ran out before its first step
 pub not_begun : (start : Outside) (may_leave : List ℕ → Type 0) (keys : Keyring) (programs : List Program) (first : List Join) (script : Script) (deliveries random : List (List ℕ)) → AllRepresent may_leave first
-    → (f : PlayFault) → f ≡ OutOfMemory → Kept start start may_leave (played keys programs first script deliveries random) (Err (Played f))
+    → (f : PlayFault) → f ≡ OutOfMemory → HasKept start start may_leave (played keys programs first script deliveries random) (Err (Played f))
 not_begun start may_leave keys programs first script deliveries random all f e =
     let begun = beginning keys programs first script.choices random in
     let started = all_starts begun script.starts in
     let whole = all_deliveries started deliveries in
-    subst (λ (z : PlayFault). Kept start start may_leave whole (Err (Played z))) (sym e)
+    subst (λ (z : PlayFault). HasKept start start may_leave whole (Err (Played z))) (sym e)
     (end_on start start may_leave begun whole (Played OutOfMemory) (joined begun started whole (by_starts begun script.starts) (by_deliveries started deliveries))
     (stopped start start may_leave begun refl (none_sent []) (subst (AllRepresent may_leave) (sym (append-nil first)) all) (whole_none start)))
 
@@ -223,13 +223,13 @@ not_begun start may_leave keys programs first script deliveries random all f e =
 
 -- it ended early in its starts
 pub starts_ended : (start now : Outside) (may_leave : List ℕ → Type 0) (keys : Keyring) (programs : List Program) (first : List Join) (script : Script) (deliveries random : List (List ℕ)) (f : KeepFault)
-    → Kept start now may_leave (all_starts (beginning keys programs first script.choices random) script.starts) (Err f) → Kept start now may_leave (played keys programs first script deliveries random) (Err f)
+    → HasKept start now may_leave (all_starts (beginning keys programs first script.choices random) script.starts) (Err f) → HasKept start now may_leave (played keys programs first script deliveries random) (Err f)
 starts_ended start now may_leave keys programs first script deliveries random f h =
     let started = all_starts (beginning keys programs first script.choices random) script.starts in
     end_on start now may_leave started (all_deliveries started deliveries) f (by_deliveries started deliveries) h
 
 -- what was given and kept at its end
-pub came_kept : (start now : Outside) (may_leave : List ℕ → Type 0) (k : Keeper) (random : Option (List (List ℕ))) (p : Play) (r : Result (Unit {0}) KeepFault) → OnOk r (HoldsJoins k may_leave) → CameTo start now may_leave k random p r → Kept start now may_leave p r
+pub came_kept : (start now : Outside) (may_leave : List ℕ → Type 0) (k : Keeper) (random : Option (List (List ℕ))) (p : Play) (r : Result (Unit {0}) KeepFault) → OnOk r (HoldsJoins k may_leave) → Progressed start now may_leave k random p r → HasKept start now may_leave p r
 came_kept start now may_leave k random p (Ok u) holds h = (h.1, holds_all k may_leave p holds h.0, h.0.sent)
 came_kept start now may_leave k random p (Err (Played LinkFailed)) holds h = h
 came_kept start now may_leave k random p (Err (Played WriteFailed)) holds h = h

@@ -14,8 +14,8 @@ use Rattle.sg_keep.specs.declared.fault.KeepFault.{KeepFault}
 use Rattle.sg_keep.specs.declared.fault.KeepFault.TheVariants.{Played, DiskFailed}
 use Rattle.sg_keep.specs.declared.keeper.Keeper.{Keeper}
 use Rattle.sg_keep.specs.Joins.{joins_made}
-use Rattle.sg_keep.specs.Kept.{AllRepresent, AreOfJoins, KeepsFirst, Kept, KeptBegun, KeptPrefix, RepresentsFirst}
-use Rattle.sg_keep.specs.Representation.{CameTo}
+use Rattle.sg_keep.specs.KeptRuns.{AllRepresent, AreOfJoins, KeepsFirst, HasKept, KeptBegun, KeptPrefix, RepresentsFirst}
+use Rattle.sg_keep.specs.Representation.{Progressed}
 use Rattle.sg_keep.proofs.Going.{Goes, by_call}
 use Rattle.sg_keep.proofs.Owning.{made_by, of_first_steps, of_more, of_step_more}
 
@@ -52,7 +52,7 @@ module _ (start now : Outside) (may_leave : List ℕ → Type 0) where
     kept = λ image left. kept_on p q g image (length h.given.prefix + 1) (frames_of h.given.prefix ++ h.given.step.frames) (h.kept image left);
   }
 
-  pub end_on : (p q : Play) (f : KeepFault) → Goes p q → Kept start now may_leave p (Err f) → Kept start now may_leave q (Err f)
+  pub end_on : (p q : Play) (f : KeepFault) → Goes p q → HasKept start now may_leave p (Err f) → HasKept start now may_leave q (Err f)
   end_on p q (Played LinkFailed) g h = prefix_on p q g h
   end_on p q (Played WriteFailed) g h = begun_on p q g h
   end_on p q (Played OutOfMemory) g h = prefix_on p q g h
@@ -80,7 +80,7 @@ module _ (start now : Outside) (may_leave : List ℕ → Type 0) (p : Play) (in_
   }
 
   -- a play that ended early, if all its joins are kept
-  pub played_end : (f : PlayFault) → Ended start now p.steps (Err f) → Kept start now may_leave p (Err (Played f))
+  pub played_end : (f : PlayFault) → Ended start now p.steps (Err f) → HasKept start now may_leave p (Err (Played f))
   played_end LinkFailed h = prefix_of h
   played_end WriteFailed h = record {
     given = h;
@@ -100,14 +100,14 @@ module _ (start now : Outside) (may_leave : List ℕ → Type 0) (p : Play) (in_
 abbrev pub IsBetween : KeepFault → Type 0
 IsBetween f = (f ≡ DiskFailed) ⊎ (f ≡ Played OutOfMemory)
 
-between : (start now : Outside) (may_leave : List ℕ → Type 0) (p : Play) (f : KeepFault) → IsBetween f → KeptPrefix start now may_leave p → Kept start now may_leave p (Err f)
-between start now may_leave p f (inl e) h = subst (λ (z : KeepFault). Kept start now may_leave p (Err z)) (sym e) h
-between start now may_leave p f (inr e) h = subst (λ (z : KeepFault). Kept start now may_leave p (Err z)) (sym e) h
+between : (start now : Outside) (may_leave : List ℕ → Type 0) (p : Play) (f : KeepFault) → IsBetween f → KeptPrefix start now may_leave p → HasKept start now may_leave p (Err f)
+between start now may_leave p f (inl e) h = subst (λ (z : KeepFault). HasKept start now may_leave p (Err z)) (sym e) h
+between start now may_leave p f (inr e) h = subst (λ (z : KeepFault). HasKept start now may_leave p (Err z)) (sym e) h
 
 -- if the join of a call was not kept: the images have it or not, and nothing of the call was written or sent
 pub not_kept : (start now : Outside) (may_leave : List ℕ → Type 0) (p : Play) (c : Call) (f : KeepFault) (bare full : List Join) → IsBetween f → length p.steps ≡ length p.past.calls
     → AreOfJoins (joins_made p.past.calls) (frames_of p.steps) → bare ≡ p.past.first ++ joins_made p.past.calls → full ≡ p.past.first ++ joins_made (called p c).past.calls
-    → ((image : List ℕ) → may_leave image → Represents image bare ⊎ Represents image full) → Whole start now p.steps → Kept start now may_leave (called p c) (Err f)
+    → ((image : List ℕ) → may_leave image → Represents image bare ⊎ Represents image full) → Whole start now p.steps → HasKept start now may_leave (called p c) (Err f)
 not_kept start now may_leave p c f bare full causes in_step sent old new images w =
     let call : AnsweredCall = record { call = c; answer = answer_in p c } in
     let more : AreOfJoins (joins_made (called p c).past.calls) (frames_of p.steps) = subst (λ (js : List Join). AreOfJoins js (frames_of p.steps)) (sym (made_by p.past.calls (call ∷ []))) (of_more (joins_made p.past.calls) (joins_made (call ∷ [])) (frames_of p.steps) sent) in
@@ -132,13 +132,13 @@ not_kept start now may_leave p c f bare full causes in_step sent old new images 
 
 module _ (start now : Outside) (may_leave : List ℕ → Type 0) (k : Keeper) (random : Option (List (List ℕ))) where
   -- an early end, as what was answered says it
-  pub ended : (p : Play) (r : Result (Unit {0}) KeepFault) (f : KeepFault) → r ≡ Err f → Kept start now may_leave p (Err f) → CameTo start now may_leave k random p r
-  ended p r f e h = subst (λ (z : Result (Unit {0}) KeepFault). CameTo start now may_leave k random p z) (sym e) h
+  pub ended : (p : Play) (r : Result (Unit {0}) KeepFault) (f : KeepFault) → r ≡ Err f → HasKept start now may_leave p (Err f) → Progressed start now may_leave k random p r
+  ended p r f e h = subst (λ (z : Result (Unit {0}) KeepFault). Progressed start now may_leave k random p z) (sym e) h
 
   -- the play that is come to, by another name
-  pub to_same : (p q : Play) (r : Result (Unit {0}) KeepFault) → p ≡ q → CameTo start now may_leave k random p r → CameTo start now may_leave k random q r
-  to_same p q r e h = subst (λ (z : Play). CameTo start now may_leave k random z r) e h
+  pub to_same : (p q : Play) (r : Result (Unit {0}) KeepFault) → p ≡ q → Progressed start now may_leave k random p r → Progressed start now may_leave k random q r
+  to_same p q r e h = subst (λ (z : Play). Progressed start now may_leave k random z r) e h
 
   -- an early end of a play that goes on
-  pub ended_on : (p q : Play) (r : Result (Unit {0}) KeepFault) (f : KeepFault) → r ≡ Err f → Goes p q → CameTo start now may_leave k random p (Err f) → CameTo start now may_leave k random q r
+  pub ended_on : (p q : Play) (r : Result (Unit {0}) KeepFault) (f : KeepFault) → r ≡ Err f → Goes p q → Progressed start now may_leave k random p (Err f) → Progressed start now may_leave k random q r
   ended_on p q r f e g h = ended q r f e (end_on start now may_leave p q f g h)

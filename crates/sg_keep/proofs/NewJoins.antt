@@ -17,7 +17,7 @@ use Rattle.sg_model.specs.Limits.{most_joins, most_roles}
 use Rattle.sg_model.specs.Lists.{all_differ, first_some}
 use Rattle.sg_model.specs.Values.{Value}
 use Rattle.sg_node.proofs.Joined.{not_joined}
-use Rattle.sg_node.specs.Answers.{IsTold}
+use Rattle.sg_node.specs.Answers.{IsAnsweredPast}
 use Rattle.sg_protocol.proofs.Course.{node_more}
 use Rattle.sg_protocol.proofs.Moves.{row_none}
 use Rattle.sg_protocol.proofs.ReadBack.{read-SpellsFrame}
@@ -218,9 +218,9 @@ joins_after_all sha n before done (c ∷ cs) e r a =
     joins_after_all sha (node_after n c.call c.answer) before (done ++ c ∷ []) cs one r.1 a.1 ∙ ap (λ l. before ++ joins_made l) (append_assoc done (c ∷ []) cs)
 
 -- the joins of a node are those that it was made with, and then those that its calls made
-pub joins_of_node : (past : Past) → IsTold past → (node_of past).joins ≡ past.first ++ joins_made past.calls
-joins_of_node past told =
-    joins_after_all real (new_node past.keys past.programs past.first) past.first [] past.calls (sym (append-nil past.first)) (recursion_from_All (λ (c : AnsweredCall). IsCallInRange c.call) past.calls told.calls) told.answers
+pub joins_of_node : (past : Past) → IsAnsweredPast past → (node_of past).joins ≡ past.first ++ joins_made past.calls
+joins_of_node past reported =
+    joins_after_all real (new_node past.keys past.programs past.first) past.first [] past.calls (sym (append-nil past.first)) (recursion_from_All (λ (c : AnsweredCall). IsCallInRange c.call) past.calls reported.calls) reported.answers
 
 -- and after a call, with the one that the answer says
 pub joins_with : (past : Past) (c : Call) → IsCallInRange c → (node_of (past_after real past c)).joins ≡ with_join (node_of past).joins (join_in (answer real (node_of past) c))

@@ -16,7 +16,7 @@ use Rattle.sg_model.specs.Lists.{first_some}
 use Rattle.sg_model.specs.Names.{Name}
 use Rattle.sg_model.specs.Values.{Value}
 use Rattle.sg_model.proofs.Small.{and_left, and_right}
-use Rattle.sg_node.specs.Answers.{IsTold}
+use Rattle.sg_node.specs.Answers.{IsAnsweredPast}
 use Rattle.sg_play.specs.Played.{Play, answer_in, called, step_in}
 use Rattle.sg_play.specs.Steps.{Step, frames_in, frames_of}
 use Rattle.sg_protocol.proofs.Course.{node_more}
@@ -39,7 +39,7 @@ use Rattle.sg_protocol.specs.Spelling.{spelling}
 use Rattle.sg_protocol.specs.Texts.{Hash, real, session_id}
 use Rattle.sg_protocol.specs.Verdict.{decided, receipt, rows, verdict_on}
 use Rattle.sg_keep.specs.Joins.{join_in, joins_made, with_join}
-use Rattle.sg_keep.specs.Kept.{AreOfJoins, IsOfJoin}
+use Rattle.sg_keep.specs.KeptRuns.{AreOfJoins, IsOfJoin}
 use Rattle.sg_keep.proofs.NewJoins.{IsOfTurn, any_call, turns_join_none}
 
 -- ---- what a call adds to the joins, whatever these are
@@ -258,9 +258,9 @@ owned_after_all sha n made (c ∷ cs) h r a =
     (owned_after_all sha (node_after n c.call c.answer) (made ++ one (join_in c.answer)) cs next r.1 a.1)
 
 -- each live session of a node was joined by its calls
-pub owned_past : (past : Past) → IsTold past → Owns (joins_made past.calls) (node_of past).live
-owned_past past told =
-    owned_after_all real (new_node past.keys past.programs past.first) [] past.calls refl (recursion_from_All (λ (c : AnsweredCall). IsCallInRange c.call) past.calls told.calls) told.answers
+pub owned_past : (past : Past) → IsAnsweredPast past → Owns (joins_made past.calls) (node_of past).live
+owned_past past reported =
+    owned_after_all real (new_node past.keys past.programs past.first) [] past.calls refl (recursion_from_All (λ (c : AnsweredCall). IsCallInRange c.call) past.calls reported.calls) reported.answers
 
 -- ---- the frames of a play
 

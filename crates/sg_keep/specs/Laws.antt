@@ -2,16 +2,16 @@
 use Rattle.std.specs.Prelude.{◌≡◌, ℕ, List, ◌++◌, Contains, Ok}
 use Rattle.sg_ledger.specs.Format.{Join, Represents}
 use Rattle.sg_model.specs.Bytes.{IsBytes}
-use Rattle.sg_node.specs.Answers.{IsTold}
+use Rattle.sg_node.specs.Answers.{IsAnsweredPast}
 use Rattle.sg_protocol.specs.Frame.{Frame}
 use Rattle.sg_protocol.specs.Past.{Past, node_of}
 use Rattle.sg_protocol.specs.Reading.{read}
 use Rattle.sg_keep.specs.Joins.{joins_made}
-use Rattle.sg_keep.specs.Kept.{IsOfJoin}
+use Rattle.sg_keep.specs.KeptRuns.{IsOfJoin}
 
 -- The joins of a node are those that it was made with, and then those that its calls made
 abbrev pub JoinsOfNode : Type 0
-JoinsOfNode = (past : Past) → IsTold past → (node_of past).joins ≡ past.first ++ joins_made past.calls
+JoinsOfNode = (past : Past) → IsAnsweredPast past → (node_of past).joins ≡ past.first ++ joins_made past.calls
 
 -- If a file represents joins, and bytes are a frame of one of the later of these, what is read of the bytes has its session and its sender among them
 abbrev pub FramesTellTheirJoins : Type 0

@@ -1,5 +1,5 @@
 pub mod Joins
-pub mod Kept
+pub mod KeptRuns
 pub mod Faults
 pub mod Laws
 pub mod Representation

@@ -1,6 +1,6 @@
 -- What a keeper represents: a play, and a ledger with the joins of its node.
 use Rattle.std.specs.Prelude.{◌≡◌, ℕ, List, [], false, length, Option, Some, None, Result, Ok, Err}
-use Rattle.sg_node.specs.Answers.{IsTold}
+use Rattle.sg_node.specs.Answers.{IsAnsweredPast}
 use Rattle.sg_play.specs.Ends.{Outside, Whole}
 use Rattle.sg_play.specs.Played.{Play}
 use Rattle.sg_play.specs.Representation.{HasAsked, RepresentsPlay}
@@ -14,7 +14,7 @@ use Rattle.sg_protocol.specs.Ranges.{IsCallInRange}
 use Rattle.sg_protocol.specs.Texts.{real}
 use Rattle.sg_report.specs.Reported.{Reported, reported_answer, sid_left}
 use Rattle.sg_keep.specs.Joins.{joins_made}
-use Rattle.sg_keep.specs.Kept.{AllRepresent, AreOfJoins, Kept}
+use Rattle.sg_keep.specs.KeptRuns.{AllRepresent, AreOfJoins, HasKept}
 use Rattle.sg_keep.specs.declared.fault.KeepFault.{KeepFault}
 use Rattle.sg_keep.specs.declared.keeper.Keeper.{Keeper}
 
@@ -22,19 +22,19 @@ use Rattle.sg_keep.specs.declared.keeper.Keeper.{Keeper}
 pub record HoldsJoins (k : Keeper) (may_leave : List ℕ → Type 0) : Type 0 where
   pub past : Past
   pub represents : RepresentsPast k.player.node past
-  pub told : IsTold past
+  pub answered : IsAnsweredPast past
   pub ledger : k.ledger ≡ record { joins = k.player.node.joins; failed = false }
   pub images : AllRepresent may_leave k.player.node.joins
 
 -- the node has been asked one more call, and this is the outcome; the ledger has the joins from before
-pub record HasAskedNode (k : Keeper) (may_leave : List ℕ → Type 0) (told : Option Reported) : Type 0 where
+pub record HasAskedNode (k : Keeper) (may_leave : List ℕ → Type 0) (reported : Option Reported) : Type 0 where
   pub past : Past
   pub call : Call
   pub number : ℕ
   pub range : IsCallInRange call
-  pub told_before : IsTold past
+  pub answered_before : IsAnsweredPast past
   pub represents : RepresentsPast k.player.node (past_after real past call)
-  pub is_told : told ≡ Some (reported_answer number (answer real (node_of past) call))
+  pub is_reported : reported ≡ Some (reported_answer number (answer real (node_of past) call))
   pub ledger : k.ledger ≡ record { joins = (node_of past).joins; failed = false }
   pub images : AllRepresent may_leave (node_of past).joins
 
@@ -45,15 +45,15 @@ pub record RepresentsKept (k : Keeper) (p : Play) : Type 0 where
   pub sent : AreOfJoins (joins_made p.past.calls) (frames_of p.steps)
 
 -- the player has asked a call that leaves no session, and this is the outcome, which is not reported yet
-pub record IsAsked (k : Keeper) (p : Play) (c : Call) (told : Option Reported) (graph : Option Graph) : Type 0 where
-  pub asked : HasAsked k.player p c told graph []
+pub record IsAsked (k : Keeper) (p : Play) (c : Call) (reported : Option Reported) (graph : Option Graph) : Type 0 where
+  pub asked : HasAsked k.player p c reported graph []
   pub stays : None ≡ sid_left c
-  pub told_before : IsTold p.past
+  pub answered_before : IsAnsweredPast p.past
   pub in_step : length p.steps ≡ length p.past.calls
   pub sent : AreOfJoins (joins_made p.past.calls) (frames_of p.steps)
   pub ledger : k.ledger.joins ≡ (node_of p.past).joins
 
 -- a play came to this one, all that it gave the outside since the start being whole, and the random bytes that are left are the source's; or it ended early on the way
-abbrev pub CameTo : (start now : Outside) → (may_leave : List ℕ → Type 0) → Keeper → (random : Option (List (List ℕ))) → Play → Result (Unit {0}) KeepFault → Type 0
-CameTo start now may_leave k random p (Ok u) = RepresentsKept k p × Whole start now p.steps × (random ≡ Some p.random)
-CameTo start now may_leave k random p (Err f) = Kept start now may_leave p (Err f)
+abbrev pub Progressed : (start now : Outside) → (may_leave : List ℕ → Type 0) → Keeper → (random : Option (List (List ℕ))) → Play → Result (Unit {0}) KeepFault → Type 0
+Progressed start now may_leave k random p (Ok u) = RepresentsKept k p × Whole start now p.steps × (random ≡ Some p.random)
+Progressed start now may_leave k random p (Err f) = HasKept start now may_leave p (Err f)

@@ -8,7 +8,7 @@ ghost use Rattle.sg_play.specs.Played.{Play, with_turn};
 ghost use Rattle.sg_protocol.specs.Calls.{Call};
 ghost use Rattle.sg_report.specs.Outcome.{outcome_of};
 ghost use Rattle.sg_keep.specs.Joins.{IsNew, join_reported, with_join};
-ghost use Rattle.sg_keep.specs.Kept.{AllRepresent};
+ghost use Rattle.sg_keep.specs.KeptRuns.{AllRepresent};
 
 use crate::KeepFault;
 use crate::join::join_in;
@@ -27,7 +27,7 @@ pub(crate) struct Keeper<'p> {
 
 impl<'p> Keeper<'p> {
     ghost use Rattle.sg_keep.specs.Faults.{TellsFaults};
-    ghost use Rattle.sg_keep.specs.Representation.{CameTo, HasAskedNode, HoldsJoins, IsAsked};
+    ghost use Rattle.sg_keep.specs.Representation.{Progressed, HasAskedNode, HoldsJoins, IsAsked};
 
     /// Keeps the join of the outcome of a call, if it is one; gives the outside the outcome when the join is kept; and plays the turn that
     /// it gives.
@@ -49,7 +49,7 @@ impl<'p> Keeper<'p> {
         ensures holds { OnOk result (HoldsJoins self.new (D.may_leave disk.new)) }
         ensures progress { (p : Play) (c : Call) (start : Outside) → IsAsked self.old p c (outcome_of outcome.now) (option_copied graph.entry) → R.random fresh.old ≡ Some p.random
             → Whole start (record { written = O.written out.old; sent = L.sent link.old }) p.steps
-            → CameTo start (record { written = O.written out.new; sent = L.sent link.new }) (D.may_leave disk.new) self.new (R.random fresh.new) (with_turn p c) result }
+            → Progressed start (record { written = O.written out.new; sent = L.sent link.new }) (D.may_leave disk.new) self.new (R.random fresh.new) (with_turn p c) result }
     {
         match self.keep_join(outcome, disk) {
             Ok(()) => {}

@@ -4,8 +4,8 @@ ghost use Rattle.sg_play.specs.Ends.{Outside, Whole};
 ghost use Rattle.sg_play.specs.Played.{Play, all_deliveries, all_starts, played, starts, with_turn};
 ghost use Rattle.sg_protocol.specs.Calls.{Deliver};
 ghost use Rattle.sg_keep.specs.Faults.{TellsFaults};
-ghost use Rattle.sg_keep.specs.Kept.{AllRepresent, Kept};
-ghost use Rattle.sg_keep.specs.Representation.{CameTo, HoldsJoins, RepresentsKept};
+ghost use Rattle.sg_keep.specs.KeptRuns.{AllRepresent, HasKept};
+ghost use Rattle.sg_keep.specs.Representation.{Progressed, HoldsJoins, RepresentsKept};
 
 use crate::KeepFault;
 use crate::keeper::Keeper;
@@ -37,7 +37,7 @@ impl<'p> Keeper<'p> {
         ensures holds { OnOk result (HoldsJoins self.new (D.may_leave disk.new)) }
         ensures progress { (p : Play) (start : Outside) → RepresentsKept self.old p → R.random fresh.old ≡ Some p.random
             → Whole start (record { written = O.written out.old; sent = L.sent link.old }) p.steps
-            → CameTo start (record { written = O.written out.new; sent = L.sent link.new }) (D.may_leave disk.new) self.new (R.random fresh.new) (all_starts p starts.now) result }
+            → Progressed start (record { written = O.written out.new; sent = L.sent link.new }) (D.may_leave disk.new) self.new (R.random fresh.new) (all_starts p starts.now) result }
     {
         for start in starts {
             match self.start_one(start, link, fresh, out, disk) {
@@ -66,7 +66,7 @@ impl<'p> Keeper<'p> {
         ensures holds { OnOk result (HoldsJoins self.new (D.may_leave disk.new)) }
         ensures progress { (p : Play) (start : Outside) → RepresentsKept self.old p → R.random fresh.old ≡ Some p.random
             → Whole start (record { written = O.written out.old; sent = L.sent link.old }) p.steps
-            → CameTo start (record { written = O.written out.new; sent = L.sent link.new }) (D.may_leave disk.new) self.new (R.random fresh.new) (starts p start_of.now) result }
+            → Progressed start (record { written = O.written out.new; sent = L.sent link.new }) (D.may_leave disk.new) self.new (R.random fresh.new) (starts p start_of.now) result }
     {
         let nonce = fresh.next();
         match self.player.ask_start(start_of, nonce) {
@@ -92,7 +92,7 @@ impl<'p> Keeper<'p> {
             (record { link = L.faults link.new; out = O.faults out.new; disk = D.faults disk.new }) result }
         ensures progress { (p : Play) (start : Outside) (deliveries : List (List ℕ)) → L.deliveries link.old ≡ Some deliveries → RepresentsKept self.old p → R.random fresh.old ≡ Some p.random
             → Whole start (record { written = O.written out.old; sent = L.sent link.old }) p.steps
-            → CameTo start (record { written = O.written out.new; sent = L.sent link.new }) (D.may_leave disk.new) self.new (R.random fresh.new) (all_deliveries p (take most deliveries)) result }
+            → Progressed start (record { written = O.written out.new; sent = L.sent link.new }) (D.may_leave disk.new) self.new (R.random fresh.new) (all_deliveries p (take most deliveries)) result }
         ensures left { OnOk result ((deliveries : List (List ℕ)) → L.deliveries link.old ≡ Some deliveries → L.deliveries link.new ≡ Some (drop most deliveries)) }
         ensures at_most { (deliveries : List (List ℕ)) → L.deliveries link.old ≡ Some deliveries → (n : ℕ) × (n ≤ most) × (L.deliveries link.new ≡ Some (drop n deliveries)) }
         ensures holds { OnOk result (HoldsJoins self.new (D.may_leave disk.new)) }
@@ -131,7 +131,7 @@ impl<'p> Keeper<'p> {
         ensures holds { OnOk result (HoldsJoins self.new (D.may_leave disk.new)) }
         ensures progress { (p : Play) (start : Outside) → RepresentsKept self.old p → R.random fresh.old ≡ Some p.random
             → Whole start (record { written = O.written out.old; sent = L.sent link.old }) p.steps
-            → CameTo start (record { written = O.written out.new; sent = L.sent link.new }) (D.may_leave disk.new) self.new (R.random fresh.new) (with_turn p (Deliver bytes.now)) result }
+            → Progressed start (record { written = O.written out.new; sent = L.sent link.new }) (D.may_leave disk.new) self.new (R.random fresh.new) (with_turn p (Deliver bytes.now)) result }
     {
         match self.player.ask_deliver(bytes) {
             Ok((outcome, graph)) => self.tell(&outcome, graph, link, fresh, out, disk),
@@ -170,7 +170,7 @@ pub fn keep<'p, L: Link, R: Fresh, O: Sink, D: Disk>(
     // and what a crash leaves of the disk is the ledger with the joins of the play up to there, and so with the session and the sender of
     // each frame that was sent.
     ensures kept { (deliveries random : List (List ℕ)) → L.deliveries link.old ≡ Some deliveries → R.random fresh.old ≡ Some random
-        → Kept (record { written = O.written out.old; sent = L.sent link.old }) (record { written = O.written out.new; sent = L.sent link.new }) (D.may_leave disk.new)
+        → HasKept (record { written = O.written out.old; sent = L.sent link.old }) (record { written = O.written out.new; sent = L.sent link.new }) (D.may_leave disk.new)
         (played keys.now programs.now ledger.joins script (take most deliveries) random) result }
     ensures left { OnOk result ((deliveries : List (List ℕ)) → L.deliveries link.old ≡ Some deliveries → L.deliveries link.new ≡ Some (drop most deliveries)) }
     ensures at_most { (deliveries : List (List ℕ)) → L.deliveries link.old ≡ Some deliveries → (n : ℕ) × (n ≤ most) × (L.deliveries link.new ≡ Some (drop n deliveries)) }

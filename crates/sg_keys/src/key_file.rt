@@ -1,5 +1,5 @@
 //! The reader of key files.
-ghost use Rattle.std.specs.Prelude.{◌≡◌, ◌≢◌, ◌⊎◌, Some, None, map, option_map, IfErr, IfOk, OnOk};
+ghost use Rattle.std.specs.Prelude.{◌≡◌, ◌≢◌, ◌⊎◌, Err, Some, None, map, option_map, IfErr, IfOk, IsUtf8, OnOk};
 ghost use Rattle.toml.specs.View.{view, table_view};
 ghost use Rattle.sg_keys.specs.KeyFile.{document, key_file, head_of, peer_of, with_entry, with_entries, SpellsKeys};
 ghost use Rattle.sg_keys.specs.Names.{peer_at};
@@ -11,7 +11,7 @@ use crate::{Keyring, PeerFault};
 use sg_base::{Addr, Name};
 use std::alloc::Global;
 use std::error::Error;
-use std::fmt;
+use std::{fmt, str};
 use toml::{Table, Value};
 
 /// Why a key file can't be read: the fault of the first entry that has one. The head is entry 0, and peers are counted from 1.
@@ -72,13 +72,15 @@ impl Keyring {
     ghost use Rattle.sg_protocol.specs.Keyring.{Keyring};
 
     /// The keyring that the bytes of a key file spell, or the first fault. The head is looked at first, then each peer in order, for
-    /// a bad entry and then for a name that is there.
+    /// a bad entry and then for a name that is there. Bytes that are no UTF-8 are refused before any memory is taken.
     pub fn from_toml(alloc: Global, bytes: &[u8]) -> Result<Keyring, KeyFault>
         ensures spelled { IfOk result (SpellsKeys bytes.now) }
         ensures each { (keys : Keyring) → SpellsKeys bytes.now keys → (result ≡ Ok keys) ⊎ (result ≡ Err KeyFault.OutOfMemory) }
 
         ensures answer { IfOk result (λ k. key_file bytes.now ≡ Ok k) }
         ensures first_fault { IfErr result (λ e. e ≢ KeyFault.OutOfMemory → key_file bytes.now ≡ Err e) }
+        // Memory never runs out for bytes that are no text.
+        ensures not_text { ¬ IsUtf8 bytes.now → result ≡ Err KeyFault.NotToml }
     {
         read_keys(alloc, bytes)
     }
@@ -88,6 +90,7 @@ impl Keyring {
 fn read_keys(alloc: Global, bytes: &[u8]) -> Result<Keyring, KeyFault>
     ensures answer { IfOk result (λ k. key_file bytes.now ≡ Ok k) }
     ensures fault { IfErr result (λ e. e ≢ KeyFault.OutOfMemory → key_file bytes.now ≡ Err e) }
+    ensures not_text { ¬ IsUtf8 bytes.now → result ≡ Err KeyFault.NotToml }
 {
     let table = read_document(alloc, bytes)?;
     let Some(head) = read_head(&table) else {
@@ -105,7 +108,11 @@ fn read_keys(alloc: Global, bytes: &[u8]) -> Result<Keyring, KeyFault>
 fn read_document(alloc: Global, bytes: &[u8]) -> Result<Table, KeyFault>
     ensures ok { IfOk result (λ t. document bytes.now ≡ Some (table_view t)) }
     ensures refused { IfErr result (λ e. e ≢ KeyFault.OutOfMemory → (e ≡ KeyFault.NotToml) × (document bytes.now ≡ None)) }
+    ensures not_text { ¬ IsUtf8 bytes.now → result ≡ Err KeyFault.NotToml }
 {
+    if str::from_utf8(bytes).is_err() {
+        return Err(KeyFault::NotToml);
+    }
     match toml::table_from_slice(alloc, bytes) {
         Ok(table) => Ok(table),
         Err(fault) => {

@@ -40,5 +40,5 @@ pub record IsLeftAlone {D : Type 0} (seen : D → Option (List ℕ)) (may_leave 
   pub any_moment : LeavesOnly moment left_since old new (may_leave old)
 
 -- if the file is known, it has this
-abbrev pub WhereTold : Option (List ℕ) → (List ℕ → Type 0) → Type 0
-WhereTold seen P = (file : List ℕ) → seen ≡ Some file → P file
+abbrev pub IfSeen : Option (List ℕ) → (List ℕ → Type 0) → Type 0
+IfSeen seen P = (file : List ℕ) → seen ≡ Some file → P file

@@ -18,5 +18,5 @@ pub now_only : (m : Medium) (image : List ℕ) → LeftSince m (length m.calls) 
 now_only m image left = subst (λ (p : Platter). IsImage p image) (whole m left.0 left.1) left.3
 
 -- what is not known is no file
-pub never_told : (file : List ℕ) → None ≡ Some file → ⊥
-never_told file is = true≢false (ap is_some (sym is))
+pub never_seen : (file : List ℕ) → None ≡ Some file → ⊥
+never_seen file is = true≢false (ap is_some (sym is))

@@ -6,7 +6,7 @@
 //! known. The name of the file that it is bound to, each disk tells.
 ghost use Rattle.std.specs.Prelude.{◌≡◌, ℕ, ◌+◌, ◌<◌, ◌≤◌, ◌^◌, List, Option, Some, length, take, drop, IfOk, OnErr, OnOk};
 ghost use Rattle.sg_base.specs.Outside.{HasRisen};
-ghost use Rattle.sg_ledger.specs.Disk.{overlaid, Torn, Keeps, Follows, Elapses, WhereTold};
+ghost use Rattle.sg_ledger.specs.Disk.{overlaid, Torn, Keeps, Follows, Elapses, IfSeen};
 
 use sg_base::Failed;
 use std::alloc::Global;
@@ -58,19 +58,19 @@ pub trait Disk {
         ensures never_falls { faults self.old ≤ faults self.new }
         ensures failed { OnErr result (HasRisen (faults self.old) (faults self.new)) }
         ensures kept_bound { bound self.new ≡ bound self.old }
-        ensures length { IfOk result (λ n. WhereTold (seen self.old) (λ file. n ≡ length file)) }
+        ensures length { IfOk result (λ n. IfSeen (seen self.old) (λ file. n ≡ length file)) }
         ensures kept { seen self.new ≡ seen self.old }
         ensures images { Keeps (may_leave self.old) (may_leave self.new) }
         ensures time { Elapses (moment self.old) (moment self.new) (left_since self.old) (left_since self.new) (may_leave self.new) };
 
     /// The `count` bytes from the offset `at` on.
     fn read(&mut self, alloc: Global, at: u32, count: u32) -> Result<Vec<u8>, DiskFault>
-        requires { WhereTold (seen self.old) (λ file. at + count ≤ length file) }
+        requires { IfSeen (seen self.old) (λ file. at + count ≤ length file) }
         ensures never_falls { faults self.old ≤ faults self.new }
         ensures failed { result ≡ Err DiskFault.Failed → HasRisen (faults self.old) (faults self.new) }
         ensures kept_bound { bound self.new ≡ bound self.old }
         ensures count { IfOk result (λ bytes. length bytes.items ≡ count) }
-        ensures bytes { IfOk result (λ bytes. WhereTold (seen self.old) (λ file. bytes.items ≡ take count (drop at file))) }
+        ensures bytes { IfOk result (λ bytes. IfSeen (seen self.old) (λ file. bytes.items ≡ take count (drop at file))) }
         ensures kept { seen self.new ≡ seen self.old }
         ensures images { Keeps (may_leave self.old) (may_leave self.new) }
         ensures time { Elapses (moment self.old) (moment self.new) (left_since self.old) (left_since self.new) (may_leave self.new) };
@@ -78,11 +78,11 @@ pub trait Disk {
     /// Writes over what is there, from an offset on, and past the end. If it fails, any part of the range may be written.
     fn write(&mut self, at: u32, bytes: &[u8]) -> Result<(), Failed>
         requires fits { at + length bytes.now < 2 ^ 32 }
-        requires begins { WhereTold (seen self.old) (λ file. at ≤ length file) }
+        requires begins { IfSeen (seen self.old) (λ file. at ≤ length file) }
         ensures never_falls { faults self.old ≤ faults self.new }
         ensures failed { OnErr result (HasRisen (faults self.old) (faults self.new)) }
         ensures kept_bound { bound self.new ≡ bound self.old }
-        ensures written { OnOk result (WhereTold (seen self.old) (λ file. seen self.new ≡ Some (overlaid file at bytes.now))) }
+        ensures written { OnOk result (IfSeen (seen self.old) (λ file. seen self.new ≡ Some (overlaid file at bytes.now))) }
         ensures images { Follows (Torn at (length bytes.now)) (may_leave self.old) (may_leave self.new) }
         ensures time { Elapses (moment self.old) (moment self.new) (left_since self.old) (left_since self.new) (may_leave self.new) };
 

@@ -86,7 +86,7 @@ fn write_at<F: Write + Seek>(file: &mut F, at: u32, bytes: &[u8]) -> io::Result<
 
 impl<R: rt::Files<File = File> + Drop> Disk for FileDisk<R> {
     ghost use Rattle.std.specs.Prelude.{None};
-    ghost use Rattle.sg_ledger.specs.Laws.{never_told};
+    ghost use Rattle.sg_ledger.specs.Laws.{never_seen};
 
     ghost faults = { λ d. d.faults };
 
@@ -100,7 +100,7 @@ impl<R: rt::Files<File = File> + Drop> Disk for FileDisk<R> {
 
     ghost left_since = { λ _ _ _. ⊥ };
 
-    ghost read_is_image = { λ _ file is. never_told file is };
+    ghost read_is_image = { λ _ file is. never_seen file is };
 
     ghost told = { λ _ _ left. absurd left };
 

@@ -2,7 +2,7 @@
 ghost use Rattle.std.specs.Prelude.{◌≡◌, ◌≢◌, ◌⊎◌, ◌↔◌, ◌++◌, ◌+◌, ◌^◌, ◌<◌, ◌≤◌, [], ◌∷◌, List, ℕ, Some, true, false, length, take, drop, All, AllPairs, Contains, IfOk, IfErr, IsTrue, OnErr, OnOk};
 ghost use Rattle.sg_model.specs.Limits.{most_joins};
 ghost use Rattle.sg_base.specs.Outside.{HasRisen};
-ghost use Rattle.sg_ledger.specs.Disk.{overlaid, Torn, Keeps, LeavesOnly, IsLeftAlone, WhereTold};
+ghost use Rattle.sg_ledger.specs.Disk.{overlaid, Torn, Keeps, LeavesOnly, IsLeftAlone, IfSeen};
 ghost use Rattle.sg_ledger.specs.Format.{magic, Join, IsBlank, Represents, RepresentsOneOf};
 ghost use Rattle.sg_ledger.specs.Opening.{Refuses, Opens};
 
@@ -96,8 +96,8 @@ impl Ledger {
         ensures never_falls { D.faults disk.old ≤ D.faults disk.new }
         ensures kept_bound { D.bound disk.new ≡ D.bound disk.old }
         ensures failed { result ≡ Err CreateFault.Failed → HasRisen (D.faults disk.old) (D.faults disk.new) }
-        ensures empty { OnOk result (WhereTold (D.seen disk.old) (λ file. file ≡ [])) }
-        ensures not_empty { IfErr result (λ e. (size : ℕ) → e ≡ CreateFault.NotEmpty size → (0 < size) × WhereTold (D.seen disk.old) (λ file. length file ≡ size)) }
+        ensures empty { OnOk result (IfSeen (D.seen disk.old) (λ file. file ≡ [])) }
+        ensures not_empty { IfErr result (λ e. (size : ℕ) → e ≡ CreateFault.NotEmpty size → (0 < size) × IfSeen (D.seen disk.old) (λ file. length file ≡ size)) }
         ensures blank { OnOk result ((image : List ℕ) → D.may_leave disk.new image → IsBlank image) }
         ensures made { OnOk result ((image : List ℕ) → D.may_leave disk.new image → Represents image []) }
 
@@ -129,9 +129,9 @@ impl Ledger {
         ensures kept_bound { D.bound disk.new ≡ D.bound disk.old }
         ensures failed { result ≡ Err OpenFault.Failed → HasRisen (D.faults disk.old) (D.faults disk.new) }
         ensures not_failed { IfOk result (λ ledger. ledger.failed ≡ false) }
-        ensures joins { IfOk result (λ ledger. WhereTold (D.seen disk.old) (λ file. Represents file ledger.joins)) }
-        ensures refused { IfErr result (λ e. WhereTold (D.seen disk.old) (λ file. Refuses file e)) }
-        ensures represents { (joins : List Join) → WhereTold (D.seen disk.old) (λ file. Represents file joins → Opens result joins) }
+        ensures joins { IfOk result (λ ledger. IfSeen (D.seen disk.old) (λ file. Represents file ledger.joins)) }
+        ensures refused { IfErr result (λ e. IfSeen (D.seen disk.old) (λ file. Refuses file e)) }
+        ensures represents { (joins : List Join) → IfSeen (D.seen disk.old) (λ file. Represents file joins → Opens result joins) }
 
         // Every image represents the joins, now and at each moment of the call it is one of those from before.
         ensures images { IfOk result (λ ledger. (image : List ℕ) → D.may_leave disk.new image → Represents image ledger.joins) }
@@ -245,8 +245,8 @@ fn read_file<D: Disk>(alloc: Global, disk: &mut D) -> Result<Vec<u8>, OpenFault>
     ensures kept_bound { D.bound disk.new ≡ D.bound disk.old }
     ensures failed { result ≡ Err OpenFault.Failed → HasRisen (D.faults disk.old) (D.faults disk.new) }
     ensures length { IfOk result (λ file. length file.items ≡ 2228232) }
-    ensures told { IfOk result (λ file. WhereTold (D.seen disk.old) (λ seen. file.items ≡ seen)) }
-    ensures refused { IfErr result (λ e. WhereTold (D.seen disk.old) (λ seen. Refuses seen e)) }
+    ensures told { IfOk result (λ file. IfSeen (D.seen disk.old) (λ seen. file.items ≡ seen)) }
+    ensures refused { IfErr result (λ e. IfSeen (D.seen disk.old) (λ seen. Refuses seen e)) }
     ensures images { IfOk result (λ file. (image : List ℕ) → D.may_leave disk.new image → image ≡ file.items) }
     ensures kept { D.seen disk.new ≡ D.seen disk.old }
     ensures keeps { Keeps (D.may_leave disk.old) (D.may_leave disk.new) }
@@ -303,11 +303,11 @@ fn pair_bytes(join: (Sid, Role)) -> [u8; 33]
 // Writes bytes, and brings them to the disk.
 fn write_through<D: Disk>(disk: &mut D, at: u32, bytes: &[u8]) -> Result<(), Failed>
     requires fits { at + length bytes.now < 2 ^ 32 }
-    requires begins { WhereTold (D.seen disk.old) (λ file. at ≤ length file) }
+    requires begins { IfSeen (D.seen disk.old) (λ file. at ≤ length file) }
     ensures never_falls { D.faults disk.old ≤ D.faults disk.new }
     ensures kept_bound { D.bound disk.new ≡ D.bound disk.old }
     ensures failed { OnErr result (HasRisen (D.faults disk.old) (D.faults disk.new)) }
-    ensures written { OnOk result (WhereTold (D.seen disk.old) (λ file. D.seen disk.new ≡ Some (overlaid file at bytes.now))) }
+    ensures written { OnOk result (IfSeen (D.seen disk.old) (λ file. D.seen disk.new ≡ Some (overlaid file at bytes.now))) }
     ensures durable { OnOk result ((image : List ℕ) → D.may_leave disk.new image → (file : List ℕ) × (D.seen disk.old ≡ Some file) × (image ≡ overlaid file at bytes.now)) }
     ensures any_moment { LeavesOnly D.moment D.left_since disk.old disk.new (λ image. (from : List ℕ) × D.may_leave disk.old from × Torn at (length bytes.now) from image) }
 {

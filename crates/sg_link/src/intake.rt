@@ -11,7 +11,7 @@ use std::net::Net;
 use std::time::{Clock, Duration, Instant};
 
 // What a connection gave.
-enum Came {
+enum Brought {
     // So many bytes.
     Bytes(usize),
     // Its end.
@@ -97,15 +97,15 @@ impl Intake {
                 return Err(LinkFault::Failed);
             }
             match read_on(clock, self.limit, &mut self.reading, &mut bytes) {
-                Came::Bytes(count) => {
+                Brought::Bytes(count) => {
                     bytes.truncate(count);
                     return Ok(bytes);
                 }
-                Came::End => {
+                Brought::End => {
                     bytes.clear();
                     return Ok(bytes);
                 }
-                Came::Nothing => {}
+                Brought::Nothing => {}
             }
             let most = patience(clock, self.limit, &self.reading);
             if !self.watch.wait(most) {
@@ -124,13 +124,13 @@ impl Intake {
                 return;
             }
             match read_on(clock, self.limit, &mut self.reading, &mut self.piece) {
-                Came::Bytes(count) => {
+                Brought::Bytes(count) => {
                     if count <= self.piece.len() && count <= PIECE {
                         self.inbox.push(&self.piece[..count]);
                     }
                 }
-                Came::End => self.inbox.push(&[]),
-                Came::Nothing => return,
+                Brought::End => self.inbox.push(&[]),
+                Brought::Nothing => return,
             }
         }
     }
@@ -206,22 +206,22 @@ fn read_on<C: Clock>(
     limit: Duration,
     reading: &mut Option<Reading>,
     bytes: &mut [u8],
-) -> Came {
+) -> Brought {
     let Some(open) = reading else {
-        return Came::Nothing;
+        return Brought::Nothing;
     };
     match read_some(&mut open.stream, bytes) {
         Some(count) if count > 0 => {
             if let Ok(now) = Instant::now(clock) {
                 open.heard = now;
             }
-            return Came::Bytes(count);
+            return Brought::Bytes(count);
         }
-        None if !left(clock, open.heard, limit).is_zero() => return Came::Nothing,
+        None if !left(clock, open.heard, limit).is_zero() => return Brought::Nothing,
         _ => {}
     }
     *reading = None;
-    Came::End
+    Brought::End
 }
 
 // Reads some bytes, and gives their number, which is 0 if the connection has ended or its peer broke it off, or `None` if there are

@@ -3,7 +3,7 @@ use Rattle.std.specs.Prelude.{◌≡◌, ℕ, zero, suc, ◌≤◌, List, [], �
 use Rattle.std.proofs.lemmas.Bool.{cases_lt}
 use Rattle.std.proofs.Common.{inl, inr, ap, sym, ◌∙◌, subst, arith}
 use Rattle.sg_keep.specs.Joins.{joins_made}
-use Rattle.sg_keep.specs.Kept.{RepresentsFirst}
+use Rattle.sg_keep.specs.KeptRuns.{RepresentsFirst}
 use Rattle.sg_ledger.specs.Format.{Join, Represents, SlotsRepresent, pairs_of}
 use Rattle.sg_protocol.specs.Calls.{Event, events_of_answer}
 use Rattle.sg_protocol.specs.Node.{Node, has_joined}
@@ -12,7 +12,7 @@ use Rattle.sg_protocol.specs.NodeAfter.{node_after}
 use Rattle.sg_protocol.specs.Restarts.{AreLives, joined_by, told_in_lives}
 use Rattle.sg_protocol.specs.Texts.{Hash, real}
 use Rattle.sg_protocol.proofs.ToldLives.{told_join_once}
-use Rattle.sg_lives.specs.LedgerRuns.{LedgerRun, AreRuns, told_in_runs, RunsAreLives, RunsTellJoinsOnce}
+use Rattle.sg_lives.specs.LedgerRuns.{LedgerRun, AreRuns, reported_in_runs, RunsAreLives, RunsTellJoinsOnce}
 use Rattle.sg_lives.proofs.NodeJoins.{joins_after_all}
 
 take_within : {A : Type 0} (n : ℕ) (xs ys : List A) → n ≤ length xs → take n (xs ++ ys) ≡ take n xs
@@ -42,18 +42,18 @@ pub runs_are_lives : RunsAreLives
 runs_are_lives opened [] h = ([], tt, refl)
 runs_are_lives opened (r ∷ rs) h =
     let past : Past = r.past in
-    let f : RepresentsFirst r.image opened past.calls r.told r.sent = h.1 in
+    let f : RepresentsFirst r.image opened past.calls r.reported r.sent = h.1 in
     let life : Past = record { keys = past.keys; programs = past.programs; first = opened; calls = f.prefix } in
     let own : AreAnswers real (new_node past.keys past.programs opened) past.calls = subst (λ js. AreAnswers real (new_node past.keys past.programs js) past.calls) (h.0).0 (h.0).1 in
     let answered : AreAnswers real (new_node past.keys past.programs opened) f.prefix = first_answers real (new_node past.keys past.programs opened) f.prefix f.rest (subst (AreAnswers real (new_node past.keys past.programs opened)) f.is own) in
     let joins : (node_of life).joins ≡ opened ++ joins_made f.prefix = joins_after_all real (new_node past.keys past.programs opened) f.prefix answered in
     let next : (h.2).0 ≡ opened ++ joins_made f.prefix = only_joins r.image (h.2).0 (opened ++ joins_made f.prefix) (h.2).1 f.represents in
-    let rest : (lives : List (ℕ × Past)) × AreLives real (h.2).0 (map (λ (l : ℕ × Past). l.1) lives) × (told_in_lives lives ≡ told_in_runs rs) = runs_are_lives (h.2).0 rs (h.2).2 in
-    let told : take r.told f.prefix ≡ take r.told past.calls = sym (ap (take r.told) f.is ∙ take_within r.told f.prefix f.rest f.enough) in (
-      (r.told, life) ∷ rest.0,
+    let rest : (lives : List (ℕ × Past)) × AreLives real (h.2).0 (map (λ (l : ℕ × Past). l.1) lives) × (told_in_lives lives ≡ reported_in_runs rs) = runs_are_lives (h.2).0 rs (h.2).2 in
+    let reported : take r.reported f.prefix ≡ take r.reported past.calls = sym (ap (take r.reported) f.is ∙ take_within r.reported f.prefix f.rest f.enough) in (
+      (r.reported, life) ∷ rest.0,
       (refl, answered, subst (λ js. AreLives real js (map (λ (l : ℕ × Past). l.1) rest.0)) (next ∙ sym joins) rest.1),
-      ap (λ cs. flat_map (λ (c : AnsweredCall). events_of_answer c.answer) cs ++ told_in_lives rest.0) told
-          ∙ ap (λ es. flat_map (λ (c : AnsweredCall). events_of_answer c.answer) (take r.told past.calls) ++ es) rest.2,
+      ap (λ cs. flat_map (λ (c : AnsweredCall). events_of_answer c.answer) cs ++ told_in_lives rest.0) reported
+          ∙ ap (λ es. flat_map (λ (c : AnsweredCall). events_of_answer c.answer) (take r.reported past.calls) ++ es) rest.2,
     )
 
 pub runs_tell_joins_once : RunsTellJoinsOnce

@@ -4,7 +4,7 @@ use Rattle.std.specs.Option.{option_map_or}
 use Rattle.std.proofs.Common.{ap, sym, subst, arith, append-nil}
 use Rattle.sg_base.specs.declared.address.Addr.{Addr}
 use Rattle.sg_keep.specs.Joins.{joins_made}
-use Rattle.sg_keep.specs.Kept.{Kept, KeptPrefix, KeptBegun, RepresentsFirst}
+use Rattle.sg_keep.specs.KeptRuns.{HasKept, KeptPrefix, KeptBegun, RepresentsFirst}
 use Rattle.sg_keep.specs.declared.fault.KeepFault.{KeepFault}
 use Rattle.sg_keep.specs.declared.fault.KeepFault.TheVariants.{Played, DiskFailed}
 use Rattle.sg_ledger.specs.Format.{Join, Represents}
@@ -81,9 +81,9 @@ module _ (opened : List Join) where
 
 -- what was left is of first calls
 abbrev IsLeft : List ℕ → List Join → List AnsweredCall → Type 0
-IsLeft image opened calls = (told : ℕ) × (sent : List (Addr × List ℕ)) × RepresentsFirst image opened calls told sent
+IsLeft image opened calls = (reported : ℕ) × (sent : List (Addr × List ℕ)) × RepresentsFirst image opened calls reported sent
 
-left_by : (start now : Outside) (image : List ℕ) (p : Play) (result : Result (Unit {0}) KeepFault) → Kept start now (λ i. i ≡ image) p result → IsLeft image p.past.first p.past.calls
+left_by : (start now : Outside) (image : List ℕ) (p : Play) (result : Result (Unit {0}) KeepFault) → HasKept start now (λ i. i ≡ image) p result → IsLeft image p.past.first p.past.calls
 left_by start now image p (Ok u) h = (
   length p.past.calls,
   frames_of p.steps,

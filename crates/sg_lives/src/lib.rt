@@ -7,11 +7,11 @@
 ghost use Rattle.sg_lives.specs.LedgerRuns.{KeptIsRun, RunsAreLives, RunsTellJoinsOnce};
 
 /// Runs over one ledger, each of which opens what the one before left, are lives of one principal, each of the first calls of its
-/// run: of all that the run told, and maybe of more, whose lines a crash cut off. So what all of them told has no two joins of one
+/// run: of all that the run reported, and maybe of more, whose lines a crash cut off. So what all of them reported has no two joins of one
 /// pair, and none that the ledger was first opened with.
 pub fn runs_are_lives()
     ensures lives { RunsAreLives }
-    ensures told { RunsTellJoinsOnce }
+    ensures reported { RunsTellJoinsOnce }
 {}
 
 /// However a run of `keep` ended, what a crash may then leave of the disk is left by a run over the ledger: its node had joined

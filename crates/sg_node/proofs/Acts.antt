@@ -51,7 +51,7 @@ use Rattle.sg_node.specs.declared.fault.ActFault.TheVariants as acting
 use Rattle.sg_node.specs.Invariant.{IsLiveAt, IfLive, IsSlot, HoldsNode, node_state}
 use Rattle.sg_node.proofs.Indices.{live_at, Tests, First, held_first}
 use Rattle.sg_node.proofs.Leaving.{tests_sid}
-use Rattle.sg_node.proofs.Going.{all_backed, goes_on}
+use Rattle.sg_node.proofs.Going.{all_reachable, goes_on}
 use Rattle.sg_node.proofs.Found.{Its, turn_held, AtIndex, none_here, its_slot, replaced, its_program, session_here}
 
 mapped : {A B : Type 0} (f : A → B) (os : List (Option A)) → first_some (map (option_map f) os) ≡ option_map f (first_some os)
@@ -271,11 +271,11 @@ module _ (n : Inside) (h : HoldsNode n) (past : Past) (st : RepresentsPast (node
   -- by a refusal
   pub stays_by : ss ≡ n.sessions.slots → (fault : ActFault) → answer real (node_of past) (Act sid label values confs) ≡ NotActed fault →
       GoesOn (node_state n) (record { keys = n.keys; programs = n.programs.now; joins = n.joins.pairs; live = held_in ss }) (Act sid label values confs) past
-  stays_by e fault a = goes_on (node_state n) (record { keys = n.keys; programs = n.programs.now; joins = n.joins.pairs; live = held_in ss }) (Act sid label values confs) past h.programs (all_backed n h) good st
+  stays_by e fault a = goes_on (node_state n) (record { keys = n.keys; programs = n.programs.now; joins = n.joins.pairs; live = held_in ss }) (Act sid label values confs) past h.programs (all_reachable n h) good st
       (ap (λ z. record { keys = n.keys; programs = n.programs.now; joins = n.joins.pairs; live = held_in z }) e ∙ ap (state_after (node_state n) (Act sid label values confs)) (sym a))
 
   -- by a step
   pub goes_by : (i : ℕ) (e : first_index (is_of false sid) n.sessions.slots ≡ Some i) (t : RoleState) (there : live_at n.sessions.slots i ≡ Some (AtTurn t)) (x : Sent) (d : SentBy n.keys t label values confs x) → ss ≡ set_value_at n.sessions.slots i (left_by x) →
       GoesOn (node_state n) (record { keys = n.keys; programs = n.programs.now; joins = n.joins.pairs; live = held_in ss }) (Act sid label values confs) past
-  goes_by i e t there x d q = goes_on (node_state n) (record { keys = n.keys; programs = n.programs.now; joins = n.joins.pairs; live = held_in ss }) (Act sid label values confs) past h.programs (all_backed n h) good st
+  goes_by i e t there x d q = goes_on (node_state n) (record { keys = n.keys; programs = n.programs.now; joins = n.joins.pairs; live = held_in ss }) (Act sid label values confs) past h.programs (all_reachable n h) good st
       (ap (λ z. record { keys = n.keys; programs = n.programs.now; joins = n.joins.pairs; live = held_in z }) q ∙ act_state n h (node_of past) st sid label values confs i e t there good x d)

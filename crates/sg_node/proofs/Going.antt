@@ -13,7 +13,7 @@ use Rattle.sg_protocol.specs.Ranges.{IsCallInRange}
 use Rattle.sg_protocol.specs.Acting.{answer}
 use Rattle.sg_protocol.specs.Texts.{real}
 use Rattle.sg_protocol.specs.Reachable.{IsReachableAtTurn, IsReachableWaiting}
-use Rattle.sg_protocol.specs.NodeStates.{NodeState, IsBackedLive, RepresentsNode, RepresentsPast, state_after}
+use Rattle.sg_protocol.specs.NodeStates.{NodeState, IsReachableLive, RepresentsNode, RepresentsPast, state_after}
 use Rattle.sg_protocol.proofs.Course.{node_more}
 use Rattle.sg_protocol.proofs.NodeStates.{node_states_represent}
 use Rattle.sg_protocol.proofs.RealHash.{real_hash}
@@ -26,28 +26,28 @@ use Rattle.sg_node.specs.declared.sessions.Live.TheVariants.{AtTurn, Waiting}
 
 -- some sound session stands behind each thing that a node holds
 module _ (n : Inside) where
-  one_backed : (sid : List ℕ) (r : ℕ) (l : Option Live) → IfLive n.programs.now sid r l → AllByRecursion (IsBackedLive real n.programs.now) (held_at l)
-  one_backed sid r None k = tt
-  one_backed sid r (Some (AtTurn s)) k = (subst (λ (o : Option Program). IsSomeAnd o (λ p. IsReachableAtTurn real p s.held ⊎ IsReachableWaiting real p s.held)) (sym k.program) (inl k.reachable), tt)
-  one_backed sid r (Some (Waiting s)) k = (subst (λ (o : Option Program). IsSomeAnd o (λ p. IsReachableAtTurn real p s.held ⊎ IsReachableWaiting real p s.held)) (sym k.program) (inr k.reachable), tt)
+  one_reachable : (sid : List ℕ) (r : ℕ) (l : Option Live) → IfLive n.programs.now sid r l → AllByRecursion (IsReachableLive real n.programs.now) (held_at l)
+  one_reachable sid r None k = tt
+  one_reachable sid r (Some (AtTurn s)) k = (subst (λ (o : Option Program). IsSomeAnd o (λ p. IsReachableAtTurn real p s.held ⊎ IsReachableWaiting real p s.held)) (sym k.program) (inl k.reachable), tt)
+  one_reachable sid r (Some (Waiting s)) k = (subst (λ (o : Option Program). IsSomeAnd o (λ p. IsReachableAtTurn real p s.held ⊎ IsReachableWaiting real p s.held)) (sym k.program) (inr k.reachable), tt)
 
-  each_backed : (ss : List Slot) → AllByRecursion (IsSlot n.programs.now n.joins.pairs) ss → AllByRecursion (IsBackedLive real n.programs.now) (held_in ss)
-  each_backed [] a = tt
-  each_backed (s ∷ ss) a = all-append (IsBackedLive real n.programs.now) (held_at s.1) (held_in ss) (one_backed (s.0).0 (s.0).1 s.1 a.0.1) (each_backed ss a.1)
+  each_reachable : (ss : List Slot) → AllByRecursion (IsSlot n.programs.now n.joins.pairs) ss → AllByRecursion (IsReachableLive real n.programs.now) (held_in ss)
+  each_reachable [] a = tt
+  each_reachable (s ∷ ss) a = all-append (IsReachableLive real n.programs.now) (held_at s.1) (held_in ss) (one_reachable (s.0).0 (s.0).1 s.1 a.0.1) (each_reachable ss a.1)
 
-  pub all_backed : HoldsNode n → AllByRecursion (IsBackedLive real n.programs.now) (held_in n.sessions.slots)
-  all_backed h = each_backed n.sessions.slots h.slots
+  pub all_reachable : HoldsNode n → AllByRecursion (IsReachableLive real n.programs.now) (held_in n.sessions.slots)
+  all_reachable h = each_reachable n.sessions.slots h.slots
 
 -- so it does, if its programs are programs, sound sessions stand behind what it holds, and the call is in range
-pub goes_on : (old new : NodeState) (call : Call) (past : Past) → AllByRecursion (IsProgram real) old.programs → AllByRecursion (IsBackedLive real old.programs) old.live → IsCallInRange call → RepresentsPast old past
+pub goes_on : (old new : NodeState) (call : Call) (past : Past) → AllByRecursion (IsProgram real) old.programs → AllByRecursion (IsReachableLive real old.programs) old.live → IsCallInRange call → RepresentsPast old past
     → new ≡ state_after old call (answer real (node_of past) call) → GoesOn old new call past
 goes_on old new call past programs reachable good st e = record {
   state = e;
   represents =
       let n : Node = node_of past in
       let ip : AllByRecursion (IsProgram real) n.programs = subst (AllByRecursion (IsProgram real)) st.programs programs in
-      let its : AllByRecursion (IsBackedLive real n.programs) old.live = subst (λ ps. AllByRecursion (IsBackedLive real ps) old.live) st.programs reachable in
+      let its : AllByRecursion (IsReachableLive real n.programs) old.live = subst (λ ps. AllByRecursion (IsReachableLive real ps) old.live) st.programs reachable in
       subst (λ z. RepresentsPast z (past_after real past call)) (sym e)
       (subst (RepresentsNode (state_after old call (answer real n call))) (sym (node_more (new_node past.keys past.programs past.first) past.calls (record { call = call; answer = answer real n call })))
-      ((node_states_represent real real_hash).after_backed old n call (All-from_recursion (IsProgram real) n.programs ip) (All-from_recursion (IsBackedLive real n.programs) old.live its) good st));
+      ((node_states_represent real real_hash).after_reachable old n call (All-from_recursion (IsProgram real) n.programs ip) (All-from_recursion (IsReachableLive real n.programs) old.live its) good st));
 }

@@ -9,7 +9,7 @@ use Rattle.sg_protocol.specs.Calls as Protocol
 use Rattle.sg_protocol.specs.Calls.{Answer, Deliver, Happened, NotDelivered}
 use Rattle.sg_protocol.specs.Frame.{Frame}
 use Rattle.sg_protocol.specs.IsSchedule.{IsProgram}
-use Rattle.sg_protocol.specs.NodeStates.{NodeState, IsBackedLive, RepresentsPast, state_taking, state_after}
+use Rattle.sg_protocol.specs.NodeStates.{NodeState, IsReachableLive, RepresentsPast, state_taking, state_after}
 use Rattle.sg_protocol.specs.Past.{Past, node_of}
 use Rattle.sg_protocol.specs.Reading.{read}
 use Rattle.sg_protocol.specs.Texts.{real}
@@ -27,7 +27,7 @@ no_refusal : (r : Refusal) → refusal r ≡ None → r ≡ refusals.OutOfMemory
 no_refusal refusals.OutOfMemory e = refl
 no_refusal other e = absurd (cc)
 
-module _ (old new : NodeState) (past : Past) (bytes : List ℕ) (programs : AllByRecursion (IsProgram real) old.programs) (reachable : AllByRecursion (IsBackedLive real old.programs) old.live) (good : IsBytes bytes) (st : RepresentsPast old past) where
+module _ (old new : NodeState) (past : Past) (bytes : List ℕ) (programs : AllByRecursion (IsProgram real) old.programs) (reachable : AllByRecursion (IsReachableLive real old.programs) old.live) (good : IsBytes bytes) (st : RepresentsPast old past) where
   -- by bytes that are no frame
   pub stays_by : (r : Protocol.Refusal) → answer real (node_of past) (Deliver bytes) ≡ NotDelivered r → new ≡ old → GoesOn old new (Deliver bytes) past
   stays_by r a e = goes_on old new (Deliver bytes) past programs reachable good st (e ∙ ap (state_after old (Deliver bytes)) (sym a))

@@ -48,7 +48,7 @@ delivery_answer (Ok e) = Some (Happened (event_of e))
 delivery_answer (Err fault) = option_map NotDelivered (refusal fault)
 
 -- the calls of the past were in range, and were answered as the node answers
-pub record IsTold (past : Past) : Type 0 where
+pub record IsAnsweredPast (past : Past) : Type 0 where
   pub calls : All (λ c. IsCallInRange c.call) past.calls
   pub answers : AreAnswers real (new_node past.keys past.programs past.first) past.calls
 

@@ -8,7 +8,7 @@ use Rattle.sg_protocol.specs.NodeStates.{RepresentsPast, new_state}
 use Rattle.sg_protocol.specs.Past.{Past, new_node, node_of, past_after, AreAnswers, answers, is_call_of, calls_of_session, pairs_differ, JoinedOnce}
 use Rattle.sg_protocol.specs.Ranges.{IsCallInRange}
 use Rattle.sg_protocol.specs.Texts.{real}
-use Rattle.sg_node.specs.Answers.{IsTold}
+use Rattle.sg_node.specs.Answers.{IsAnsweredPast}
 
 -- the past of a node that is made, without calls
 abbrev pub new_past : Keyring → List Program → List (List ℕ × ℕ) → Past
@@ -17,11 +17,11 @@ new_past keys programs first = record { keys = keys; programs = programs; first 
 -- A node that is made represents the past without calls, which is valid
 abbrev pub NewNodesRepresent : Type 0
 NewNodesRepresent = (keys : Keyring) (programs : List Program) (first : List (List ℕ × ℕ)) →
-    RepresentsPast (new_state keys programs first) (new_past keys programs first) × IsTold (new_past keys programs first)
+    RepresentsPast (new_state keys programs first) (new_past keys programs first) × IsAnsweredPast (new_past keys programs first)
 
 -- A valid past is valid with a call in range and the node's answer
 abbrev pub PastsGoOn : Type 0
-PastsGoOn = (past : Past) (c : Call) → IsTold past → IsCallInRange c → IsTold (past_after real past c)
+PastsGoOn = (past : Past) (c : Call) → IsAnsweredPast past → IsCallInRange c → IsAnsweredPast (past_after real past c)
 
 -- If no call was refused because there was no room, a node answered the calls of a session as a node that gets no other calls would
 abbrev pub SessionsAreAlone : Type 0

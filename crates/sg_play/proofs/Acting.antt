@@ -18,13 +18,13 @@ use Rattle.sg_script.specs.Script.{Choice}
 use Rattle.sg_walk.specs.Model.{values_of}
 use Rattle.sg_play.specs.declared.fault.PlayFault.{PlayFault}
 use Rattle.sg_play.specs.declared.player.Player.{Player}
-use Rattle.sg_play.specs.Asking.{ComesMade}
+use Rattle.sg_play.specs.Asking.{IsAskedWithFrames}
 use Rattle.sg_play.specs.Choosing.{is_ready, used}
 use Rattle.sg_play.specs.Ends.{Outside, Whole, Ended}
 use Rattle.sg_play.specs.Played.{Play, abandons, act_by, answer_in, called, chosen, next_confounders, plays_on, step_in}
 use Rattle.sg_play.specs.Posting.{frames_made}
 use Rattle.sg_play.specs.Queues.{Spot, HoldsChoices}
-use Rattle.sg_play.specs.Representation.{Came, CameActing, CameTo, HasActed, RepresentsPlay}
+use Rattle.sg_play.specs.Representation.{ProgressedOnItsWay, ProgressedActing, Progressed, HasActed, RepresentsPlay}
 use Rattle.sg_play.specs.Turns.{acted, acted_by, acted_in, is_sent, or_leaves}
 use Rattle.sg_play.proofs.Coming.{ended_on}
 use Rattle.sg_play.proofs.Extends.{Extends, nothing}
@@ -35,7 +35,7 @@ use Rattle.sg_play.proofs.Turning.{acted_first, leaves, leaving_adds, no_turn, s
 
 -- a player with other choices represents the play with these
 by_choice : (old : Player) (table : List (Spot × List Choice)) (p : Play) (graph : Name) (node : ℕ) (c : Choice) → HoldsChoices table (used graph node p.choices) → RepresentsPlay old p → RepresentsPlay (record old { choices = table }) (chosen graph node c p)
-by_choice old table p graph node c holds s = record { node = s.node; told = s.told; keys = s.keys; programs = s.programs; choices = holds; names = s.names; steps = s.steps; frames = s.frames }
+by_choice old table p graph node c holds s = record { node = s.node; answered = s.answered; keys = s.keys; programs = s.programs; choices = holds; names = s.names; steps = s.steps; frames = s.frames }
 
 -- how many values a choice has
 pub count_is : (c : Choice) (held : List (ℕ × Held)) (n : ℕ) → n ≡ length held → values_of held ≡ c.values → n ≡ length c.values
@@ -47,15 +47,15 @@ pub act_is : (sid : List ℕ) (c : Choice) (label : ℕ) (values : Map Value) (c
 act_is sid c label values count drawn random l v n w = let d = w ∙ ap (λ k. next_confounders k random) n in λ i. Act sid (l i) (v i) (d i)
 
 -- the player has acted
-pub has_acted : (old : Player) (n : NodeState) (table : List (Spot × List Choice)) (counted : ℕ) (p : Play) (sid : List ℕ) (graph : Name) (node : ℕ) (c : Choice) (call : Call) (told : Option Reported) (by : Option Graph) (frame : Option (Addr × (Name × List ℕ)))
-    (left : Option (List (List ℕ))) → RepresentsPlay old p → find (is_ready graph node) p.choices ≡ Some c → call ≡ act_by sid c p.random → ComesMade old.keys.now old.frames counted old.node n p.past call told by frame
-    → HoldsChoices table (used graph node p.choices) → left ≡ Some (drop (length c.values) p.random) → HasActed (record old { node = n; choices = table; frames = counted }) left sid graph node p told by (frames_made frame)
-has_acted old n table counted p sid graph node c call told by frame left s first is_call comes holds random =
-    let came = subst (λ (k : Call). ComesMade old.keys.now old.frames counted old.node n p.past k told by frame) is_call comes in
+pub has_acted : (old : Player) (n : NodeState) (table : List (Spot × List Choice)) (counted : ℕ) (p : Play) (sid : List ℕ) (graph : Name) (node : ℕ) (c : Choice) (call : Call) (reported : Option Reported) (by : Option Graph) (frame : Option (Addr × (Name × List ℕ)))
+    (left : Option (List (List ℕ))) → RepresentsPlay old p → find (is_ready graph node) p.choices ≡ Some c → call ≡ act_by sid c p.random → IsAskedWithFrames old.keys.now old.frames counted old.node n p.past call reported by frame
+    → HoldsChoices table (used graph node p.choices) → left ≡ Some (drop (length c.values) p.random) → HasActed (record old { node = n; choices = table; frames = counted }) left sid graph node p reported by (frames_made frame)
+has_acted old n table counted p sid graph node c call reported by frame left s first is_call comes holds random =
+    let came = subst (λ (k : Call). IsAskedWithFrames old.keys.now old.frames counted old.node n p.past k reported by frame) is_call comes in
     record {
       choice = c;
       is_first = first;
-      asked = asked_made (record old { choices = table }) n counted (chosen graph node c p) (act_by sid c p.random) told by frame (by_choice old table p graph node c holds s) came;
+      asked = asked_made (record old { choices = table }) n counted (chosen graph node c p) (act_by sid c p.random) reported by frame (by_choice old table p graph node c holds s) came;
       random_left = random;
     }
 
@@ -71,42 +71,42 @@ acting_adds sid graph node p = by (find (is_ready graph node) p.choices)
 
 module _ (start now : Outside) (pl : Player) (random : Option (List (List ℕ))) where
   -- an early end
-  pub act_failed : (x : Play × Bool) (r : Result Bool PlayFault) (f : PlayFault) → r ≡ Err f → Ended start now x.0.steps (Err f) → CameActing start now pl random x r
-  act_failed x r f e h = subst (λ (z : Result Bool PlayFault). CameActing start now pl random x z) (sym e) h
+  pub act_failed : (x : Play × Bool) (r : Result Bool PlayFault) (f : PlayFault) → r ≡ Err f → Ended start now x.0.steps (Err f) → ProgressedActing start now pl random x r
+  act_failed x r f e h = subst (λ (z : Result Bool PlayFault). ProgressedActing start now pl random x z) (sym e) h
 
   -- the state that is come to, by another name
-  pub act_same : (x y : Play × Bool) (r : Result Bool PlayFault) → y ≡ x → CameActing start now pl random x r → CameActing start now pl random y r
-  act_same x y r e h = subst (λ (z : Play × Bool). CameActing start now pl random z r) (sym e) h
+  pub act_same : (x y : Play × Bool) (r : Result Bool PlayFault) → y ≡ x → ProgressedActing start now pl random x r → ProgressedActing start now pl random y r
+  act_same x y r e h = subst (λ (z : Play × Bool). ProgressedActing start now pl random z r) (sym e) h
 
   -- no choice, or no session
-  pub act_none : (old : Player) (before : Option (List (List ℕ))) (x : Play × Bool) (p : Play) → x ≡ (p, false) → pl ≡ old → random ≡ before → RepresentsPlay old p → before ≡ Some p.random → Whole start now p.steps → CameActing start now pl random x (Ok false)
+  pub act_none : (old : Player) (before : Option (List (List ℕ))) (x : Play × Bool) (p : Play) → x ≡ (p, false) → pl ≡ old → random ≡ before → RepresentsPlay old p → before ≡ Some p.random → Whole start now p.steps → ProgressedActing start now pl random x (Ok false)
   act_none old before x p e same kept s w h = act_same (p, false) x (Ok false) e (((subst (λ (z : Player). RepresentsPlay z p) (sym same) s, h), kept ∙ w), refl)
 
 -- by the first choice
-module _ (start now : Outside) (old pl : Player) (random : Option (List (List ℕ))) (sid : List ℕ) (graph : Name) (node : ℕ) (p : Play) (told : Option Reported) (by : Option Graph) (made : List (Addr × List ℕ)) (h : HasActed old random sid graph node p told by made) where
-  pub act_given : (sent : Bool) → Came start now pl (called (chosen graph node h.choice p) (act_by sid h.choice p.random)) (Ok tt) → sent ≡ is_sent (answer_in p (act_by sid h.choice p.random)) → CameActing start now pl random (acted_in sid graph node p) (Ok sent)
+module _ (start now : Outside) (old pl : Player) (random : Option (List (List ℕ))) (sid : List ℕ) (graph : Name) (node : ℕ) (p : Play) (reported : Option Reported) (by : Option Graph) (made : List (Addr × List ℕ)) (h : HasActed old random sid graph node p reported by made) where
+  pub act_given : (sent : Bool) → ProgressedOnItsWay start now pl (called (chosen graph node h.choice p) (act_by sid h.choice p.random)) (Ok tt) → sent ≡ is_sent (answer_in p (act_by sid h.choice p.random)) → ProgressedActing start now pl random (acted_in sid graph node p) (Ok sent)
   act_given sent came is = act_same start now pl random (acted_by sid graph node p h.choice) (acted_in sid graph node p) (Ok sent) (acted_first sid node p graph h.choice h.is_first) ((came, h.random_left), is)
 
-  pub act_stopped : (r : Result Bool PlayFault) (f : PlayFault) → r ≡ Err f → Came start now pl (called (chosen graph node h.choice p) (act_by sid h.choice p.random)) (Err f) → CameActing start now pl random (acted_in sid graph node p) r
+  pub act_stopped : (r : Result Bool PlayFault) (f : PlayFault) → r ≡ Err f → ProgressedOnItsWay start now pl (called (chosen graph node h.choice p) (act_by sid h.choice p.random)) (Err f) → ProgressedActing start now pl random (acted_in sid graph node p) r
   act_stopped r f e came = act_failed start now pl random (acted_in sid graph node p) r f e (subst (λ (x : Play × Bool). Ended start now x.0.steps (Err f)) (sym (acted_first sid node p graph h.choice h.is_first)) came)
 
 -- ---- the turn
 
 module _ (start now : Outside) (pl : Player) (random : Option (List (List ℕ))) (sid : List ℕ) (p : Play) where
   -- none
-  pub turn_none : turn_of (node_of p.past) sid ≡ None → RepresentsPlay pl p → random ≡ Some p.random → Whole start now p.steps → CameTo start now pl random (plays_on sid p) (Ok tt)
-  turn_none e s w h = subst (λ (q : Play). CameTo start now pl random q (Ok tt)) (sym (no_turn sid p e)) ((s, h), w)
+  pub turn_none : turn_of (node_of p.past) sid ≡ None → RepresentsPlay pl p → random ≡ Some p.random → Whole start now p.steps → Progressed start now pl random (plays_on sid p) (Ok tt)
+  turn_none e s w h = subst (λ (q : Play). Progressed start now pl random q (Ok tt)) (sym (no_turn sid p e)) ((s, h), w)
 
   -- a step was sent
-  pub turn_sent : (node : ℕ) (b : Bool) → turn_of (node_of p.past) sid ≡ Some node → b ≡ true → CameActing start now pl random (acted sid node p) (Ok b) → CameTo start now pl random (plays_on sid p) (Ok tt)
-  turn_sent node b e sent h = subst (λ (q : Play). CameTo start now pl random q (Ok tt)) (sym (turn_is sid node p e ∙ stays sid (acted sid node p) (sym h.1 ∙ sent))) h.0
+  pub turn_sent : (node : ℕ) (b : Bool) → turn_of (node_of p.past) sid ≡ Some node → b ≡ true → ProgressedActing start now pl random (acted sid node p) (Ok b) → Progressed start now pl random (plays_on sid p) (Ok tt)
+  turn_sent node b e sent h = subst (λ (q : Play). Progressed start now pl random q (Ok tt)) (sym (turn_is sid node p e ∙ stays sid (acted sid node p) (sym h.1 ∙ sent))) h.0
 
   -- none was sent: the session is left
-  pub turn_left : (node : ℕ) (r : Result (Unit {0}) PlayFault) → turn_of (node_of p.past) sid ≡ Some node → (acted sid node p).1 ≡ false → CameTo start now pl random (abandons sid (acted sid node p).0) r → CameTo start now pl random (plays_on sid p) r
-  turn_left node r e unsent h = subst (λ (q : Play). CameTo start now pl random q r) (sym (turn_is sid node p e ∙ leaves sid (acted sid node p) unsent)) h
+  pub turn_left : (node : ℕ) (r : Result (Unit {0}) PlayFault) → turn_of (node_of p.past) sid ≡ Some node → (acted sid node p).1 ≡ false → Progressed start now pl random (abandons sid (acted sid node p).0) r → Progressed start now pl random (plays_on sid p) r
+  turn_left node r e unsent h = subst (λ (q : Play). Progressed start now pl random q r) (sym (turn_is sid node p e ∙ leaves sid (acted sid node p) unsent)) h
 
   -- it ended early
-  pub turn_failed : (node : ℕ) (r : Result (Unit {0}) PlayFault) (f : PlayFault) → turn_of (node_of p.past) sid ≡ Some node → r ≡ Err f → CameActing start now pl random (acted sid node p) (Err f) → CameTo start now pl random (plays_on sid p) r
+  pub turn_failed : (node : ℕ) (r : Result (Unit {0}) PlayFault) (f : PlayFault) → turn_of (node_of p.past) sid ≡ Some node → r ≡ Err f → ProgressedActing start now pl random (acted sid node p) (Err f) → Progressed start now pl random (plays_on sid p) r
   turn_failed node r f e is h =
       let ended : Ended start now (plays_on sid p).steps (Err f) = subst (λ (q : Play). Ended start now q.steps (Err f)) (sym (turn_is sid node p e)) (ended_on start now (acted sid node p).0 (or_leaves sid (acted sid node p)) f (leaving_adds sid (acted sid node p)) h) in
-      subst (λ (z : Result (Unit {0}) PlayFault). CameTo start now pl random (plays_on sid p) z) (sym is) ended
+      subst (λ (z : Result (Unit {0}) PlayFault). Progressed start now pl random (plays_on sid p) z) (sym is) ended

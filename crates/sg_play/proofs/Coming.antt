@@ -8,7 +8,7 @@ use Rattle.sg_play.specs.declared.fault.PlayFault.TheVariants.{LinkFailed, Write
 use Rattle.sg_play.specs.declared.player.Player.{Player}
 use Rattle.sg_play.specs.Ends.{Outside, Whole, Ended}
 use Rattle.sg_play.specs.Played.{Play, called, step_in}
-use Rattle.sg_play.specs.Representation.{Came, CameTo, RepresentsPlay}
+use Rattle.sg_play.specs.Representation.{ProgressedOnItsWay, Progressed, RepresentsPlay}
 use Rattle.sg_play.specs.Steps.{Step}
 use Rattle.sg_play.proofs.Endings.{begun, ended_more, stopped, whole_more}
 use Rattle.sg_play.proofs.Extends.{Extends}
@@ -31,7 +31,7 @@ no_memory_by start now p q f is e w = subst (λ (x : PlayFault). Ended start now
 -- what was given of a step
 pub came_after : (start old new : Outside) (pl : Player) (p : Play) (c : Call) (line : List ℕ) (made : List (Addr × List ℕ)) (r : Result (Unit {0}) PlayFault) → Whole start old p.steps → RepresentsPlay pl (called p c)
     → line ≡ (step_in p c).line → made ≡ (step_in p c).frames → r ≢ Err OutOfMemory → OnOk r (Appends old.written new.written line) → (r ≢ Err LinkFailed → Appends old.sent new.sent made)
-    → (r ≡ Err WriteFailed → AppendsPrefix old.written new.written line) → (r ≡ Err LinkFailed → new.sent ≡ old.sent) → (r ≡ Err LinkFailed → new.written ≡ old.written) → Came start new pl (called p c) r
+    → (r ≡ Err WriteFailed → AppendsPrefix old.written new.written line) → (r ≡ Err LinkFailed → new.sent ≡ old.sent) → (r ≡ Err LinkFailed → new.written ≡ old.written) → ProgressedOnItsWay start new pl (called p c) r
 came_after start old new pl p c line made (Ok u) w represents l m memory whole frames prefix no_frame no_line =
     (represents, whole_more start old new p.steps (step_in p c) w (subst (Appends old.written new.written) l whole) (subst (Appends old.sent new.sent) m (frames (λ e. cc))))
 came_after start old new pl p c line made (Err LinkFailed) w represents l m memory whole frames prefix no_frame no_line =
@@ -45,15 +45,15 @@ came_after start old new pl p c line made (Err OutOfMemory) w represents l m mem
 -- ---- one after another
 
 -- no random bytes were taken
-pub with_random : (start now : Outside) (pl : Player) (random : Option (List (List ℕ))) (p : Play) (r : Result (Unit {0}) PlayFault) → random ≡ Some p.random → Came start now pl p r → CameTo start now pl random p r
+pub with_random : (start now : Outside) (pl : Player) (random : Option (List (List ℕ))) (p : Play) (r : Result (Unit {0}) PlayFault) → random ≡ Some p.random → ProgressedOnItsWay start now pl p r → Progressed start now pl random p r
 with_random start now pl random p (Ok u) w h = (h, w)
 with_random start now pl random p (Err f) w h = h
 
 -- an early end, as what was answered says it
-pub failed : (start now : Outside) (pl : Player) (random : Option (List (List ℕ))) (p : Play) (r : Result (Unit {0}) PlayFault) (f : PlayFault) → r ≡ Err f → Ended start now p.steps (Err f) → CameTo start now pl random p r
-failed start now pl random p r f e h = subst (λ (z : Result (Unit {0}) PlayFault). CameTo start now pl random p z) (sym e) h
+pub failed : (start now : Outside) (pl : Player) (random : Option (List (List ℕ))) (p : Play) (r : Result (Unit {0}) PlayFault) (f : PlayFault) → r ≡ Err f → Ended start now p.steps (Err f) → Progressed start now pl random p r
+failed start now pl random p r f e h = subst (λ (z : Result (Unit {0}) PlayFault). Progressed start now pl random p z) (sym e) h
 
 -- what was given the outside
-pub ended_so : (start now : Outside) (pl : Player) (random : Option (List (List ℕ))) (p : Play) (r : Result (Unit {0}) PlayFault) → CameTo start now pl random p r → Ended start now p.steps r
+pub ended_so : (start now : Outside) (pl : Player) (random : Option (List (List ℕ))) (p : Play) (r : Result (Unit {0}) PlayFault) → Progressed start now pl random p r → Ended start now p.steps r
 ended_so start now pl random p (Ok u) h = h.0.1
 ended_so start now pl random p (Err f) h = h

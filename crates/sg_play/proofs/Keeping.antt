@@ -5,7 +5,7 @@ use Rattle.sg_model.specs.Last.{Map}
 use Rattle.sg_model.specs.Names.{Name}
 use Rattle.sg_model.specs.Values.{Value}
 use Rattle.sg_node.proofs.Life.{pasts_go_on}
-use Rattle.sg_node.specs.Answers.{IsTold}
+use Rattle.sg_node.specs.Answers.{IsAnsweredPast}
 use Rattle.sg_protocol.specs.Acting.{answer}
 use Rattle.sg_protocol.specs.Calls as Protocol
 use Rattle.sg_protocol.specs.Calls.{Call, Answer, Act, Abandon}
@@ -15,17 +15,17 @@ use Rattle.sg_protocol.specs.NodeStates.{NodeState, RepresentsPast, state_after}
 use Rattle.sg_protocol.specs.Past.{Past, node_of, past_after}
 use Rattle.sg_protocol.specs.Texts.{real}
 use Rattle.sg_report.specs.Reported.{Reported}
-use Rattle.sg_play.specs.Asking.{Comes, ComesMade, sealed_in}
+use Rattle.sg_play.specs.Asking.{IsAsked, IsAskedWithFrames, sealed_in}
 use Rattle.sg_play.specs.Representation.{KeepsJoins}
 
 -- nothing was asked
 pub keeps_same : (old new : NodeState) → new ≡ old → KeepsJoins old new
-keeps_same old new e past s told = (past, subst (λ (n : NodeState). RepresentsPast n past) (sym e) s, told, ap (λ (n : NodeState). n.joins) e)
+keeps_same old new e past s answered = (past, subst (λ (n : NodeState). RepresentsPast n past) (sym e) s, answered, ap (λ (n : NodeState). n.joins) e)
 
 -- one after another
 pub keeps_then : (a b c : NodeState) → KeepsJoins a b → KeepsJoins b c → KeepsJoins a c
-keeps_then a b c f g past s told =
-    let mid = f past s told in
+keeps_then a b c f g past s reported =
+    let mid = f past s reported in
     let end = g mid.0 mid.1 mid.2 in
     (end.0, end.1, end.2, end.3 ∙ mid.3)
 
@@ -48,19 +48,19 @@ leavings_join_none st sid Protocol.NotAbandoned = refl
 leavings_join_none st sid (Protocol.NotDelivered x) = refl
 
 -- a call that joins nothing
-keeps_by : (number : ℕ) (old new : NodeState) (c : Call) (past : Past) (told : Option Reported) (graph : Option Graph) (sealed : Option (Name × List ℕ)) → IsTold past → Comes number old new past c told graph sealed
-    → ((a : Answer) → (state_after old c a).joins ≡ old.joins) → (later : Past) × RepresentsPast new later × IsTold later × (new.joins ≡ old.joins)
-keeps_by number old new c past told graph sealed its h none =
+keeps_by : (number : ℕ) (old new : NodeState) (c : Call) (past : Past) (reported : Option Reported) (graph : Option Graph) (sealed : Option (Name × List ℕ)) → IsAnsweredPast past → IsAsked number old new past c reported graph sealed
+    → ((a : Answer) → (state_after old c a).joins ≡ old.joins) → (later : Past) × RepresentsPast new later × IsAnsweredPast later × (new.joins ≡ old.joins)
+keeps_by number old new c past reported graph sealed its h none =
     (past_after real past c, h.goes_on.represents, pasts_go_on past c its h.range, ap (λ (n : NodeState). n.joins) h.goes_on.state ∙ none (answer real (node_of past) c))
 
 -- an act
-pub keeps_by_act : (keys : Keyring) (frames counted : ℕ) (old new : NodeState) (sid : List ℕ) (label : ℕ) (values : Map Value) (confounders : List (List ℕ)) (told : Option Reported) (graph : Option Graph) (frame : Option (Addr × (Name × List ℕ)))
-    → ((past : Past) → RepresentsPast old past → ComesMade keys frames counted old new past (Act sid label values confounders) told graph frame) → KeepsJoins old new
-keeps_by_act keys frames counted old new sid label values confounders told graph frame h past s its =
+pub keeps_by_act : (keys : Keyring) (frames counted : ℕ) (old new : NodeState) (sid : List ℕ) (label : ℕ) (values : Map Value) (confounders : List (List ℕ)) (reported : Option Reported) (graph : Option Graph) (frame : Option (Addr × (Name × List ℕ)))
+    → ((past : Past) → RepresentsPast old past → IsAskedWithFrames keys frames counted old new past (Act sid label values confounders) reported graph frame) → KeepsJoins old new
+keeps_by_act keys frames counted old new sid label values confounders reported graph frame h past s its =
     let act = Act sid label values confounders in
-    keeps_by (frames + 1) old new act past told graph (sealed_in (answer real (node_of past) act)) its (h past s).comes (acts_join_none old sid label values confounders)
+    keeps_by (frames + 1) old new act past reported graph (sealed_in (answer real (node_of past) act)) its (h past s).comes (acts_join_none old sid label values confounders)
 
 -- a leaving
-pub keeps_by_leaving : (number : ℕ) (old new : NodeState) (sid : List ℕ) (told : Option Reported) (graph : Option Graph) (sealed : Option (Name × List ℕ))
-    → ((past : Past) → RepresentsPast old past → Comes number old new past (Abandon sid) told graph sealed) → KeepsJoins old new
-keeps_by_leaving number old new sid told graph sealed h past s its = keeps_by number old new (Abandon sid) past told graph sealed its (h past s) (leavings_join_none old sid)
+pub keeps_by_leaving : (number : ℕ) (old new : NodeState) (sid : List ℕ) (reported : Option Reported) (graph : Option Graph) (sealed : Option (Name × List ℕ))
+    → ((past : Past) → RepresentsPast old past → IsAsked number old new past (Abandon sid) reported graph sealed) → KeepsJoins old new
+keeps_by_leaving number old new sid reported graph sealed h past s its = keeps_by number old new (Abandon sid) past reported graph sealed its (h past s) (leavings_join_none old sid)

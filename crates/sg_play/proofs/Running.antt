@@ -12,7 +12,7 @@ use Rattle.sg_play.specs.declared.fault.PlayFault.TheVariants.{LinkFailed, OutOf
 use Rattle.sg_play.specs.declared.player.Player.{Player}
 use Rattle.sg_play.specs.Ends.{Outside, Whole, Ended}
 use Rattle.sg_play.specs.Played.{Play, all_deliveries, all_starts, answer_in, beginning, called, cast_of_start, played, plays_on, sid_given, starts, with_turn, without, next_random}
-use Rattle.sg_play.specs.Representation.{CameTo, RepresentsPlay}
+use Rattle.sg_play.specs.Representation.{Progressed, RepresentsPlay}
 use Rattle.sg_play.proofs.Coming.{ended_on, failed, no_link, no_memory, no_memory_by}
 use Rattle.sg_play.proofs.Endings.{whole_none}
 use Rattle.sg_play.proofs.Extends.{after_call, by_deliveries, by_starts, joined}
@@ -22,18 +22,18 @@ use Rattle.sg_play.proofs.Looping.{deliveries_on, delivery_next, start_next, sta
 
 module _ (start now : Outside) (pl : Player) (random : Option (List (List ℕ))) (q : Play) (c : Call) where
   -- the turn was played
-  pub turn_given : (sid : Option (List ℕ)) (r : Result (Unit {0}) PlayFault) → sid ≡ sid_given (answer_in q c) → CameTo start now pl random (option_map_or (λ s. plays_on s (called q c)) sid (called q c)) r → CameTo start now pl random (with_turn q c) r
-  turn_given sid r e h = subst (λ (o : Option (List ℕ)). CameTo start now pl random (option_map_or (λ s. plays_on s (called q c)) o (called q c)) r) e h
+  pub turn_given : (sid : Option (List ℕ)) (r : Result (Unit {0}) PlayFault) → sid ≡ sid_given (answer_in q c) → Progressed start now pl random (option_map_or (λ s. plays_on s (called q c)) sid (called q c)) r → Progressed start now pl random (with_turn q c) r
+  turn_given sid r e h = subst (λ (o : Option (List ℕ)). Progressed start now pl random (option_map_or (λ s. plays_on s (called q c)) o (called q c)) r) e h
 
   -- the call ended early
-  pub call_failed : (r : Result (Unit {0}) PlayFault) (f : PlayFault) → r ≡ Err f → Ended start now (called q c).steps (Err f) → CameTo start now pl random (with_turn q c) r
+  pub call_failed : (r : Result (Unit {0}) PlayFault) (f : PlayFault) → r ≡ Err f → Ended start now (called q c).steps (Err f) → Progressed start now pl random (with_turn q c) r
   call_failed r f e h = failed start now pl random (with_turn q c) r f e (ended_on start now (called q c) (with_turn q c) f (after_call q c) h)
 
 -- ---- a start
 
 -- a player represents the play with sixteen random bytes less
 pub without_one : (pl : Player) (p : Play) → RepresentsPlay pl p → RepresentsPlay pl (without 1 p)
-without_one pl p s = record { node = s.node; told = s.told; keys = s.keys; programs = s.programs; choices = s.choices; names = s.names; steps = s.steps; frames = s.frames }
+without_one pl p s = record { node = s.node; answered = s.answered; keys = s.keys; programs = s.programs; choices = s.choices; names = s.names; steps = s.steps; frames = s.frames }
 
 -- a start with the next sixteen random bytes as its nonce
 pub start_is : (p : Play) (s : ScriptStart) (programs : List Program) (nonce : List ℕ) (cast : Cast) → p.past.programs ≡ programs → nonce ≡ next_random p.random → cast ≡ cast_of_start programs s nonce → with_turn (without 1 p) (Start cast) ≡ starts p s
@@ -43,18 +43,18 @@ start_is p s programs nonce cast held next e = ap (λ (c : Cast). with_turn (wit
 
 module _ (start now : Outside) (pl : Player) (random : Option (List (List ℕ))) (p : Play) (ss : List ScriptStart) (i : ℕ) where
   -- one more
-  pub start_more : (s : ScriptStart) → i < length ss → s ≡ get_or ss i s → CameTo start now pl random (starts (all_starts p (take i ss)) s) (Ok tt) → CameTo start now pl random (all_starts p (take (i + 1) ss)) (Ok tt)
-  start_more s l e h = subst (λ (z : Play). CameTo start now pl random z (Ok tt)) (start_next p i ss s l e) h
+  pub start_more : (s : ScriptStart) → i < length ss → s ≡ get_or ss i s → Progressed start now pl random (starts (all_starts p (take i ss)) s) (Ok tt) → Progressed start now pl random (all_starts p (take (i + 1) ss)) (Ok tt)
+  start_more s l e h = subst (λ (z : Play). Progressed start now pl random z (Ok tt)) (start_next p i ss s l e) h
 
   -- one that ended early
-  pub start_failed : (s : ScriptStart) (r : Result (Unit {0}) PlayFault) (f : PlayFault) → i < length ss → s ≡ get_or ss i s → r ≡ Err f → CameTo start now pl random (starts (all_starts p (take i ss)) s) (Err f) → CameTo start now pl random (all_starts p ss) r
+  pub start_failed : (s : ScriptStart) (r : Result (Unit {0}) PlayFault) (f : PlayFault) → i < length ss → s ≡ get_or ss i s → r ≡ Err f → Progressed start now pl random (starts (all_starts p (take i ss)) s) (Err f) → Progressed start now pl random (all_starts p ss) r
   start_failed s r f l e is h =
       failed start now pl random (all_starts p ss) r f is
       (ended_on start now (all_starts p (take (i + 1) ss)) (all_starts p ss) f (starts_on p (i + 1) ss) (subst (λ (z : Play). Ended start now z.steps (Err f)) (start_next p i ss s l e) h))
 
   -- all of them
-  pub starts_done : length ss ≤ i → CameTo start now pl random (all_starts p (take i ss)) (Ok tt) → CameTo start now pl random (all_starts p ss) (Ok tt)
-  starts_done l h = subst (λ (z : List ScriptStart). CameTo start now pl random (all_starts p z) (Ok tt)) (take_all i ss l) h
+  pub starts_done : length ss ≤ i → Progressed start now pl random (all_starts p (take i ss)) (Ok tt) → Progressed start now pl random (all_starts p ss) (Ok tt)
+  starts_done l h = subst (λ (z : List ScriptStart). Progressed start now pl random (all_starts p z) (Ok tt)) (take_all i ss l) h
 
 -- ---- deliveries
 
@@ -64,26 +64,26 @@ nothing_sent start p written old new e w = subst (λ (s : Option (List (Addr × 
 
 module _ (start now : Outside) (pl : Player) (random : Option (List (List ℕ))) (p : Play) (ds : List (List ℕ)) (k : ℕ) where
   -- one more
-  pub delivery_more : (b : List ℕ) → drop k ds ≡ b ∷ drop 1 (drop k ds) → CameTo start now pl random (with_turn (all_deliveries p (take k ds)) (Deliver b)) (Ok tt) → CameTo start now pl random (all_deliveries p (take (k + 1) ds)) (Ok tt)
-  delivery_more b e h = subst (λ (z : Play). CameTo start now pl random z (Ok tt)) (delivery_next p k ds b e) h
+  pub delivery_more : (b : List ℕ) → drop k ds ≡ b ∷ drop 1 (drop k ds) → Progressed start now pl random (with_turn (all_deliveries p (take k ds)) (Deliver b)) (Ok tt) → Progressed start now pl random (all_deliveries p (take (k + 1) ds)) (Ok tt)
+  delivery_more b e h = subst (λ (z : Play). Progressed start now pl random z (Ok tt)) (delivery_next p k ds b e) h
 
   -- one that ended early
-  pub delivery_failed : (b : List ℕ) (m : ℕ) (r : Result (Unit {0}) PlayFault) (f : PlayFault) → drop k ds ≡ b ∷ drop 1 (drop k ds) → k + 1 ≤ m → r ≡ Err f → CameTo start now pl random (with_turn (all_deliveries p (take k ds)) (Deliver b)) (Err f)
-      → CameTo start now pl random (all_deliveries p (take m ds)) r
+  pub delivery_failed : (b : List ℕ) (m : ℕ) (r : Result (Unit {0}) PlayFault) (f : PlayFault) → drop k ds ≡ b ∷ drop 1 (drop k ds) → k + 1 ≤ m → r ≡ Err f → Progressed start now pl random (with_turn (all_deliveries p (take k ds)) (Deliver b)) (Err f)
+      → Progressed start now pl random (all_deliveries p (take m ds)) r
   delivery_failed b m r f e l is h =
       failed start now pl random (all_deliveries p (take m ds)) r f is
       (ended_on start now (all_deliveries p (take (k + 1) ds)) (all_deliveries p (take m ds)) f (deliveries_on p (k + 1) m ds l) (subst (λ (z : Play). Ended start now z.steps (Err f)) (delivery_next p k ds b e) h))
 
   -- the link gave none
-  pub link_failed : (m : ℕ) → k ≤ m → Whole start now (all_deliveries p (take k ds)).steps → CameTo start now pl random (all_deliveries p (take m ds)) (Err LinkFailed)
+  pub link_failed : (m : ℕ) → k ≤ m → Whole start now (all_deliveries p (take k ds)).steps → Progressed start now pl random (all_deliveries p (take m ds)) (Err LinkFailed)
   link_failed m l w = no_link start now (all_deliveries p (take k ds)) (all_deliveries p (take m ds)) (deliveries_on p k m ds l) w
 
-  pub link_full : (m : ℕ) → k ≤ m → Whole start now (all_deliveries p (take k ds)).steps → CameTo start now pl random (all_deliveries p (take m ds)) (Err OutOfMemory)
+  pub link_full : (m : ℕ) → k ≤ m → Whole start now (all_deliveries p (take k ds)).steps → Progressed start now pl random (all_deliveries p (take m ds)) (Err OutOfMemory)
   link_full m l w = no_memory start now (all_deliveries p (take k ds)) (all_deliveries p (take m ds)) (deliveries_on p k m ds l) w
 
   -- the link's end
-  pub link_ended : (m : ℕ) → k ≤ m → drop k ds ≡ [] → RepresentsPlay pl (all_deliveries p (take k ds)) → Whole start now (all_deliveries p (take k ds)).steps → random ≡ Some (all_deliveries p (take k ds)).random → CameTo start now pl random (all_deliveries p (take m ds)) (Ok tt)
-  link_ended m l e s w left = subst (λ (z : List (List ℕ)). CameTo start now pl random (all_deliveries p z) (Ok tt)) (sym (taken_all k m ds l e)) ((s, w), left)
+  pub link_ended : (m : ℕ) → k ≤ m → drop k ds ≡ [] → RepresentsPlay pl (all_deliveries p (take k ds)) → Whole start now (all_deliveries p (take k ds)).steps → random ≡ Some (all_deliveries p (take k ds)).random → Progressed start now pl random (all_deliveries p (take m ds)) (Ok tt)
+  link_ended m l e s w left = subst (λ (z : List (List ℕ)). Progressed start now pl random (all_deliveries p z) (Ok tt)) (sym (taken_all k m ds l e)) ((s, w), left)
 
 -- ---- a play
 
@@ -98,7 +98,7 @@ module _ (start now : Outside) (keys : Keyring) (programs : List Program) (first
       subst (λ (z : Result (Unit {0}) PlayFault). Ended start now (played keys programs first script deliveries random).steps z) (sym e) ended
 
   -- it ended early in its starts
-  pub starts_failed : (pl : Player) (left : Option (List (List ℕ))) (r : Result (Unit {0}) PlayFault) (f : PlayFault) → r ≡ Err f → CameTo start now pl left (all_starts (beginning keys programs first script.choices random) script.starts) (Err f)
+  pub starts_failed : (pl : Player) (left : Option (List (List ℕ))) (r : Result (Unit {0}) PlayFault) (f : PlayFault) → r ≡ Err f → Progressed start now pl left (all_starts (beginning keys programs first script.choices random) script.starts) (Err f)
       → Ended start now (played keys programs first script deliveries random).steps r
   starts_failed pl left r f e h =
       let started = all_starts (beginning keys programs first script.choices random) script.starts in

@@ -17,7 +17,7 @@ use Rattle.sg_protocol.specs.Texts.{real}
 use Rattle.sg_report.specs.Lines.{graph_or_none, line_text}
 use Rattle.sg_report.specs.Reported.{Reported, reported_answer, session_reported, sid_left, sid_reported}
 use Rattle.sg_play.specs.declared.player.Player.{Player}
-use Rattle.sg_play.specs.Asking.{Comes, ComesMade, sealed_in}
+use Rattle.sg_play.specs.Asking.{IsAsked, IsAskedWithFrames, sealed_in}
 use Rattle.sg_play.specs.Meeting.{met_more}
 use Rattle.sg_play.specs.Played.{Play, answer_in, called, sid_given, step_in}
 use Rattle.sg_play.specs.Posting.{frames_made}
@@ -50,14 +50,14 @@ pub met_after : (calls : List AnsweredCall) (c : AnsweredCall) (k : ℕ) → met
 met_after calls c k = ap with_events (sids_more calls c) ∙ met_by (met_in calls).events k c.answer
 
 -- the session in which something happened
-pub told_given : (k : ℕ) (a : Answer) → sid_reported (reported_answer k a) ≡ sid_given a
-told_given k (Protocol.Happened e) = refl
-told_given k (Protocol.Sends e to f) = refl
-told_given k Protocol.Abandoned = refl
-told_given k (Protocol.NotStarted x) = refl
-told_given k (Protocol.NotActed x) = refl
-told_given k Protocol.NotAbandoned = refl
-told_given k (Protocol.NotDelivered x) = refl
+pub reported_given : (k : ℕ) (a : Answer) → sid_reported (reported_answer k a) ≡ sid_given a
+reported_given k (Protocol.Happened e) = refl
+reported_given k (Protocol.Sends e to f) = refl
+reported_given k Protocol.Abandoned = refl
+reported_given k (Protocol.NotStarted x) = refl
+reported_given k (Protocol.NotActed x) = refl
+reported_given k Protocol.NotAbandoned = refl
+reported_given k (Protocol.NotDelivered x) = refl
 
 -- ---- a call
 
@@ -78,74 +78,74 @@ no_more : (n : ℕ) → n ≡ n + 0
 no_more n = omega arith
 
 -- a call that sends no frame was asked
-pub asked_quiet : (pl : Player) (n : NodeState) (p : Play) (c : Call) (told : Option Reported) (graph : Option Graph) → RepresentsPlay pl p → ((number : ℕ) → Comes number pl.node n p.past c told graph None) → HasAsked (record pl { node = n }) p c told graph []
-asked_quiet pl n p c told graph s h =
+pub asked_quiet : (pl : Player) (n : NodeState) (p : Play) (c : Call) (reported : Option Reported) (graph : Option Graph) → RepresentsPlay pl p → ((number : ℕ) → IsAsked number pl.node n p.past c reported graph None) → HasAsked (record pl { node = n }) p c reported graph []
+asked_quiet pl n p c reported graph s h =
     let came = h (length (frames_of p.steps) + 1) in
     record {
       node = came.goes_on.represents;
-      told_past = pasts_go_on p.past c s.told came.range;
+      answered_past = pasts_go_on p.past c s.answered came.range;
       keys = s.keys;
       programs = s.programs;
       choices = s.choices;
       names = s.names;
       steps = s.steps;
       frames = s.frames ∙ no_more (length (frames_of p.steps));
-      is_told = came.is_told;
+      is_reported = came.is_reported;
       is_graph = came.is_graph;
       is_made = no_frames p.past.keys (answer_in p c) came.is_sealed;
     }
 
 -- an act was asked, with its frame
-pub asked_made : (pl : Player) (n : NodeState) (counted : ℕ) (p : Play) (c : Call) (told : Option Reported) (graph : Option Graph) (frame : Option (Addr × (Name × List ℕ))) → RepresentsPlay pl p → ComesMade pl.keys.now pl.frames counted pl.node n p.past c told graph frame
-    → HasAsked (record pl { node = n; frames = counted }) p c told graph (frames_made frame)
-asked_made pl n counted p c told graph frame s h =
+pub asked_made : (pl : Player) (n : NodeState) (counted : ℕ) (p : Play) (c : Call) (reported : Option Reported) (graph : Option Graph) (frame : Option (Addr × (Name × List ℕ))) → RepresentsPlay pl p → IsAskedWithFrames pl.keys.now pl.frames counted pl.node n p.past c reported graph frame
+    → HasAsked (record pl { node = n; frames = counted }) p c reported graph (frames_made frame)
+asked_made pl n counted p c reported graph frame s h =
     let came = h.comes in
     record {
       node = came.goes_on.represents;
-      told_past = pasts_go_on p.past c s.told came.range;
+      answered_past = pasts_go_on p.past c s.answered came.range;
       keys = s.keys;
       programs = s.programs;
       choices = s.choices;
       names = s.names;
       steps = s.steps;
       frames = h.is_counted ∙ ap (λ k. k + length (frames_made frame)) s.frames;
-      is_told = came.is_told ∙ ap (λ k. Some (reported_answer (k + 1) (answer_in p c))) s.frames;
+      is_reported = came.is_reported ∙ ap (λ k. Some (reported_answer (k + 1) (answer_in p c))) s.frames;
       is_graph = came.is_graph;
       is_made = ap frames_made h.is_frame ∙ is_addressed pl.keys.now (answer_in p c) ∙ ap (λ (k : Keyring). frames_in k (answer_in p c)) (sym s.keys);
     }
 
 -- what is reported of a call
-abbrev pub told_in : Play → Call → Reported
-told_in p c = reported_answer (length (frames_of p.steps) + 1) (answer_in p c)
+abbrev pub reported_in : Play → Call → Reported
+reported_in p c = reported_answer (length (frames_of p.steps) + 1) (answer_in p c)
 
 -- the sessions that are met with it
-met_with : (p : Play) (c : Call) → met_more (met_in p.past.calls) (told_in p c) ≡ met_in (past_after real p.past c).calls
+met_with : (p : Play) (c : Call) → met_more (met_in p.past.calls) (reported_in p c) ≡ met_in (past_after real p.past c).calls
 met_with p c = sym (met_after p.past.calls (record { call = c; answer = answer_in p c }) (length (frames_of p.steps) + 1))
 
 -- what reporting a step leaves of a player
-pub told_rest : (old met : Player) (number : ℕ) → met ≡ record old { names = met.names } → number ≡ met.steps + 1 → record met { steps = number } ≡ record old { names = met.names; steps = old.steps + 1 }
-told_rest old met number is next = (λ i. record (is i) { steps = next i }) ∙ (λ i. record old { names = met.names; steps = (is i).steps + 1 })
+pub reported_rest : (old met : Player) (number : ℕ) → met ≡ record old { names = met.names } → number ≡ met.steps + 1 → record met { steps = number } ≡ record old { names = met.names; steps = old.steps + 1 }
+reported_rest old met number is next = (λ i. record (is i) { steps = next i }) ∙ (λ i. record old { names = met.names; steps = (is i).steps + 1 })
 
 -- the line is that of the step
-pub line_is : (pl : Player) (p : Play) (c : Call) (told : Option Reported) (left : Option (List ℕ)) (graph : Option Graph) (made : List (Addr × List ℕ)) (line : List ℕ) → HasAsked pl p c told graph made → left ≡ sid_left c
-    → line ≡ line_text (option_map_or (session_name 115 (met_more (met_in p.past.calls) (told_in p c))) (session_reported left (told_in p c)) []) (graph_or_none graph) (pl.steps + 1) pl.keys.now.me (told_in p c) → line ≡ (step_in p c).line
-line_is pl p c told left graph made line h l e =
+pub line_is : (pl : Player) (p : Play) (c : Call) (reported : Option Reported) (left : Option (List ℕ)) (graph : Option Graph) (made : List (Addr × List ℕ)) (line : List ℕ) → HasAsked pl p c reported graph made → left ≡ sid_left c
+    → line ≡ line_text (option_map_or (session_name 115 (met_more (met_in p.past.calls) (reported_in p c))) (session_reported left (reported_in p c)) []) (graph_or_none graph) (pl.steps + 1) pl.keys.now.me (reported_in p c) → line ≡ (step_in p c).line
+line_is pl p c reported left graph made line h l e =
     let met = met_with p c in
     let number : pl.steps + 1 ≡ length (past_after real p.past c).calls = ap (λ n. n + 1) h.steps ∙ sym (one_more p.past.calls (record { call = c; answer = answer_in p c })) in
     let graphed = h.is_graph in
     let me : pl.keys.now.me ≡ p.past.keys.me = ap (λ (k : Keyring). k.me) (sym h.keys) in
-    e ∙ (λ i. line_text (option_map_or (session_name 115 (met i)) (session_reported (l i) (told_in p c)) []) (graph_or_none (graphed i)) (number i) (me i) (told_in p c))
+    e ∙ (λ i. line_text (option_map_or (session_name 115 (met i)) (session_reported (l i) (reported_in p c)) []) (graph_or_none (graphed i)) (number i) (me i) (reported_in p c))
 
 -- the names are those after it
-pub names_are : (ns : Naming) (p : Play) (c : Call) → ns ≡ naming 115 (met_more (met_in p.past.calls) (told_in p c)) → ns ≡ naming 115 (met_in (past_after real p.past c).calls)
+pub names_are : (ns : Naming) (p : Play) (c : Call) → ns ≡ naming 115 (met_more (met_in p.past.calls) (reported_in p c)) → ns ≡ naming 115 (met_in (past_after real p.past c).calls)
 names_are ns p c e = e ∙ ap (naming 115) (met_with p c)
 
 -- and the player represents the play with the step
-pub represents_told : (old new : Player) (p : Play) (c : Call) (told : Option Reported) (graph : Option Graph) (made : List (Addr × List ℕ)) → HasAsked old p c told graph made → new ≡ record old { names = new.names; steps = old.steps + 1 }
-    → new.names ≡ naming 115 (met_more (met_in p.past.calls) (told_in p c)) → RepresentsPlay new (called p c)
-represents_told old new p c told graph made h is names = subst (λ (pl : Player). RepresentsPlay pl (called p c)) (sym is) (record {
+pub represents_reported : (old new : Player) (p : Play) (c : Call) (reported : Option Reported) (graph : Option Graph) (made : List (Addr × List ℕ)) → HasAsked old p c reported graph made → new ≡ record old { names = new.names; steps = old.steps + 1 }
+    → new.names ≡ naming 115 (met_more (met_in p.past.calls) (reported_in p c)) → RepresentsPlay new (called p c)
+represents_reported old new p c reported graph made h is names = subst (λ (pl : Player). RepresentsPlay pl (called p c)) (sym is) (record {
   node = h.node;
-  told = h.told_past;
+  answered = h.answered_past;
   keys = h.keys;
   programs = h.programs;
   choices = h.choices;

@@ -23,9 +23,9 @@ sealed_in (Sends e to f) = Some (to, spelling f)
 sealed_in other = None
 
 -- the outcome of a call is what the node of the past answers, if its frame has this number, by the graph of the call; and the new state goes on for the past
-pub record Comes (number : ℕ) (old new : NodeState) (past : Past) (call : Call) (told : Option Reported) (graph : Option Graph) (sealed : Option (Name × List ℕ)) : Type 0 where
+pub record IsAsked (number : ℕ) (old new : NodeState) (past : Past) (call : Call) (reported : Option Reported) (graph : Option Graph) (sealed : Option (Name × List ℕ)) : Type 0 where
   pub range : IsCallInRange call
-  pub is_told : told ≡ Some (reported_answer number (answer real (node_of past) call))
+  pub is_reported : reported ≡ Some (reported_answer number (answer real (node_of past) call))
   pub is_graph : graph ≡ graph_of_call real (node_of past) call
   pub is_sealed : sealed ≡ sealed_in (answer real (node_of past) call)
   pub goes_on : GoesOn old new call past
@@ -35,7 +35,7 @@ abbrev pub addressed : Keyring → Option (Name × List ℕ) → Option (Addr ×
 addressed keys sealed = option_and_then (λ s. option_map (λ at. (at, s)) (addr_of keys s.0)) sealed
 
 -- so with the frame that is made, at its address: it has the next number after these, and is counted
-pub record ComesMade (keys : Keyring) (frames counted : ℕ) (old new : NodeState) (past : Past) (call : Call) (told : Option Reported) (graph : Option Graph) (frame : Option (Addr × (Name × List ℕ))) : Type 0 where
-  pub comes : Comes (frames + 1) old new past call told graph (sealed_in (answer real (node_of past) call))
+pub record IsAskedWithFrames (keys : Keyring) (frames counted : ℕ) (old new : NodeState) (past : Past) (call : Call) (reported : Option Reported) (graph : Option Graph) (frame : Option (Addr × (Name × List ℕ))) : Type 0 where
+  pub comes : IsAsked (frames + 1) old new past call reported graph (sealed_in (answer real (node_of past) call))
   pub is_frame : frame ≡ addressed keys (sealed_in (answer real (node_of past) call))
   pub is_counted : counted ≡ frames + length (frames_made frame)

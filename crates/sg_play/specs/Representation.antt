@@ -3,7 +3,7 @@ use Rattle.std.specs.Prelude.{◌≡◌, ℕ, ◌+◌, List, length, drop, find,
 use Rattle.sg_base.specs.declared.address.Addr.{Addr}
 use Rattle.sg_text.specs.Sessions.{naming}
 use Rattle.sg_model.specs.Names.{Name}
-use Rattle.sg_node.specs.Answers.{IsTold}
+use Rattle.sg_node.specs.Answers.{IsAnsweredPast}
 use Rattle.sg_protocol.specs.Calls.{Call}
 use Rattle.sg_protocol.specs.Graph.{Graph}
 use Rattle.sg_protocol.specs.NodeStates.{NodeState, RepresentsPast}
@@ -23,7 +23,7 @@ use Rattle.sg_play.specs.Steps.{met_in, frames_in, frames_of}
 -- the player has the play's node, keys and programs, its choices, and what its lines are written by
 pub record RepresentsPlay (pl : Player) (p : Play) : Type 0 where
   pub node : RepresentsPast pl.node p.past
-  pub told : IsTold p.past
+  pub answered : IsAnsweredPast p.past
   pub keys : p.past.keys ≡ pl.keys.now
   pub programs : p.past.programs ≡ pl.programs.now
   pub choices : HoldsChoices pl.choices p.choices
@@ -32,16 +32,16 @@ pub record RepresentsPlay (pl : Player) (p : Play) : Type 0 where
   pub frames : pl.frames ≡ length (frames_of p.steps)
 
 -- the player has asked its node this call, and this is the outcome, which is not reported yet. These frames are counted
-pub record HasAsked (pl : Player) (p : Play) (c : Call) (told : Option Reported) (graph : Option Graph) (made : List (Addr × List ℕ)) : Type 0 where
+pub record HasAsked (pl : Player) (p : Play) (c : Call) (reported : Option Reported) (graph : Option Graph) (made : List (Addr × List ℕ)) : Type 0 where
   pub node : RepresentsPast pl.node (past_after real p.past c)
-  pub told_past : IsTold (past_after real p.past c)
+  pub answered_past : IsAnsweredPast (past_after real p.past c)
   pub keys : p.past.keys ≡ pl.keys.now
   pub programs : p.past.programs ≡ pl.programs.now
   pub choices : HoldsChoices pl.choices p.choices
   pub names : pl.names ≡ naming 115 (met_in p.past.calls)
   pub steps : pl.steps ≡ length p.past.calls
   pub frames : pl.frames ≡ length (frames_of p.steps) + length made
-  pub is_told : told ≡ Some (reported_answer (length (frames_of p.steps) + 1) (answer_in p c))
+  pub is_reported : reported ≡ Some (reported_answer (length (frames_of p.steps) + 1) (answer_in p c))
   pub is_graph : graph ≡ graph_of_call real (node_of p.past) c
   pub is_made : made ≡ frames_in p.past.keys (answer_in p c)
 
@@ -51,27 +51,27 @@ done (Ok a) = Ok tt
 done (Err fault) = Err fault
 
 -- a play came to this one, all that it gave the outside since the start being whole; or it ended early on the way
-abbrev pub Came : (start now : Outside) → Player → Play → Result (Unit {0}) PlayFault → Type 0
-Came start now pl p (Ok u) = RepresentsPlay pl p × Whole start now p.steps
-Came start now pl p (Err fault) = Ended start now p.steps (Err fault)
+abbrev pub ProgressedOnItsWay : (start now : Outside) → Player → Play → Result (Unit {0}) PlayFault → Type 0
+ProgressedOnItsWay start now pl p (Ok u) = RepresentsPlay pl p × Whole start now p.steps
+ProgressedOnItsWay start now pl p (Err fault) = Ended start now p.steps (Err fault)
 
 -- and the random bytes that are left are the source's
-abbrev pub CameTo : (start now : Outside) → Player → (random : Option (List (List ℕ))) → Play → Result (Unit {0}) PlayFault → Type 0
-CameTo start now pl random p (Ok u) = Came start now pl p (Ok u) × (random ≡ Some p.random)
-CameTo start now pl random p (Err fault) = Came start now pl p (Err fault)
+abbrev pub Progressed : (start now : Outside) → Player → (random : Option (List (List ℕ))) → Play → Result (Unit {0}) PlayFault → Type 0
+Progressed start now pl random p (Ok u) = ProgressedOnItsWay start now pl p (Ok u) × (random ≡ Some p.random)
+Progressed start now pl random p (Err fault) = ProgressedOnItsWay start now pl p (Err fault)
 
 -- so with the answer whether a frame was sent
-abbrev pub CameActing : (start now : Outside) → Player → (random : Option (List (List ℕ))) → Play × Bool → Result Bool PlayFault → Type 0
-CameActing start now pl random x (Ok sent) = CameTo start now pl random x.0 (Ok tt) × (sent ≡ x.1)
-CameActing start now pl random x (Err fault) = CameTo start now pl random x.0 (Err fault)
+abbrev pub ProgressedActing : (start now : Outside) → Player → (random : Option (List (List ℕ))) → Play × Bool → Result Bool PlayFault → Type 0
+ProgressedActing start now pl random x (Ok sent) = Progressed start now pl random x.0 (Ok tt) × (sent ≡ x.1)
+ProgressedActing start now pl random x (Err fault) = Progressed start now pl random x.0 (Err fault)
 
 -- the player has asked for the act by the first choice that can be taken, and this is the outcome
-pub record HasActed (pl : Player) (random : Option (List (List ℕ))) (sid : List ℕ) (graph : Name) (node : ℕ) (p : Play) (told : Option Reported) (by : Option Graph) (made : List (Addr × List ℕ)) : Type 0 where
+pub record HasActed (pl : Player) (random : Option (List (List ℕ))) (sid : List ℕ) (graph : Name) (node : ℕ) (p : Play) (reported : Option Reported) (by : Option Graph) (made : List (Addr × List ℕ)) : Type 0 where
   pub choice : Choice
   pub is_first : find (is_ready graph node) p.choices ≡ Some choice
-  pub asked : HasAsked pl (chosen graph node choice p) (act_by sid choice p.random) told by made
+  pub asked : HasAsked pl (chosen graph node choice p) (act_by sid choice p.random) reported by made
   pub random_left : random ≡ Some (drop (length choice.values) p.random)
 
 -- if the old state of a node represented a valid past, the new one represents such a past too, and has the same joins
 abbrev pub KeepsJoins : (old new : NodeState) → Type 0
-KeepsJoins old new = (past : Past) → RepresentsPast old past → IsTold past → (later : Past) × RepresentsPast new later × IsTold later × (new.joins ≡ old.joins)
+KeepsJoins old new = (past : Past) → RepresentsPast old past → IsAnsweredPast past → (later : Past) × RepresentsPast new later × IsAnsweredPast later × (new.joins ≡ old.joins)

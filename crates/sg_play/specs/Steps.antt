@@ -44,9 +44,9 @@ frames_in keys other = []
 -- the line of a call before which `sent` frames were sent, by the graph of the session that the call is of
 abbrev pub line_of : Past → (sent : ℕ) → Call → List ℕ
 line_of past sent c =
-    let told = reported_answer (sent + 1) (answer real (node_of past) c) in
+    let reported = reported_answer (sent + 1) (answer real (node_of past) c) in
     let calls = (past_after real past c).calls in
     line_text
-    (option_map_or (session_name 115 (met_in calls)) (session_reported (sid_left c) told) [])
+    (option_map_or (session_name 115 (met_in calls)) (session_reported (sid_left c) reported) [])
     (graph_or_none (graph_of_call real (node_of past) c))
-    (length calls) past.keys.me told
+    (length calls) past.keys.me reported

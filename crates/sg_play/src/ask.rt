@@ -8,7 +8,7 @@ ghost use Rattle.sg_protocol.specs.Texts.{real};
 ghost use Rattle.sg_protocol.specs.Told.{graph_of_call};
 ghost use Rattle.sg_report.specs.Outcome.{outcome_of};
 ghost use Rattle.sg_walk.specs.Model.{values_of};
-ghost use Rattle.sg_play.specs.Asking.{Comes, ComesMade, addressed};
+ghost use Rattle.sg_play.specs.Asking.{IsAsked, IsAskedWithFrames, addressed};
 ghost use Rattle.sg_play.specs.Posting.{frames_made};
 
 use crate::PlayFault;
@@ -29,7 +29,7 @@ pub(crate) fn ask_start<'p>(
     node: &mut Node<'p>,
     cast: Cast,
 ) -> Result<(Outcome, Option<&'p Graph>), PlayFault>
-    ensures comes { (number : ℕ) (past : Past) → RepresentsPast node.old past → IfOk result (λ r. Comes number node.old node.new past (Start cast) (outcome_of r.0) (option_copied r.1) None) }
+    ensures comes { (number : ℕ) (past : Past) → RepresentsPast node.old past → IfOk result (λ r. IsAsked number node.old node.new past (Start cast) (outcome_of r.0) (option_copied r.1) None) }
     ensures memory { IfErr result (λ e. e ≡ PlayFault.OutOfMemory) }
 {
     facts_of_cast(&cast);
@@ -60,7 +60,7 @@ pub(crate) fn ask_deliver<'p>(
     node: &mut Node<'p>,
     bytes: &[u8],
 ) -> Result<(Outcome, Option<&'p Graph>), PlayFault>
-    ensures comes { (number : ℕ) (past : Past) → RepresentsPast node.old past → IfOk result (λ r. Comes number node.old node.new past (Deliver bytes.now) (outcome_of r.0) (option_copied r.1) None) }
+    ensures comes { (number : ℕ) (past : Past) → RepresentsPast node.old past → IfOk result (λ r. IsAsked number node.old node.new past (Deliver bytes.now) (outcome_of r.0) (option_copied r.1) None) }
     ensures memory { IfErr result (λ e. e ≡ PlayFault.OutOfMemory) }
 {
     facts_of_bytes(bytes);
@@ -103,7 +103,7 @@ fn is_delivery_memory(why: &Refusal) -> bool
 
 /// Leaves a session.
 pub(crate) fn ask_abandon<'p>(node: &mut Node<'p>, sid: Sid) -> (Outcome, Option<&'p Graph>)
-    ensures { (number : ℕ) (past : Past) → RepresentsPast node.old past → Comes number node.old node.new past (Abandon sid) (outcome_of result.0) (option_copied result.1) None }
+    ensures { (number : ℕ) (past : Past) → RepresentsPast node.old past → IsAsked number node.old node.new past (Abandon sid) (outcome_of result.0) (option_copied result.1) None }
 {
     let graph = node.graph_of(&sid);
     match node.abandon(sid) {
@@ -125,7 +125,7 @@ pub(crate) fn ask_act<'p>(
 ) -> Result<(Outcome, Option<&'p Graph>, Option<(Addr, Sealed)>), PlayFault>
     requires { length confounders.now ≡ length values.now }
     ensures comes { (past : Past) → RepresentsPast node.old past
-        → IfOk result (λ r. ComesMade keys.now frames.old frames.new node.old node.new past (Act sid label (values_of values.now) confounders.now) (outcome_of r.0) (option_copied r.1) r.2) }
+        → IfOk result (λ r. IsAskedWithFrames keys.now frames.old frames.new node.old node.new past (Act sid label (values_of values.now) confounders.now) (outcome_of r.0) (option_copied r.1) r.2) }
     ensures memory { IfErr result (λ e. e ≡ PlayFault.OutOfMemory) }
 {
     let number = next_frame(*frames)?;
@@ -190,7 +190,7 @@ fn ask_numbered<'p>(
 ) -> Result<(Outcome, Option<&'p Graph>, Option<Sealed>), PlayFault>
     requires { length confounders.now ≡ length values.now }
     ensures comes { (past : Past) → RepresentsPast node.old past
-        → IfOk result (λ r. Comes number node.old node.new past (Act sid label (values_of values.now) confounders.now) (outcome_of r.0) (option_copied r.1) r.2) }
+        → IfOk result (λ r. IsAsked number node.old node.new past (Act sid label (values_of values.now) confounders.now) (outcome_of r.0) (option_copied r.1) r.2) }
     ensures memory { IfErr result (λ e. e ≡ PlayFault.OutOfMemory) }
 {
     facts_of_values(values, confounders);

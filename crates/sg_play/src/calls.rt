@@ -59,7 +59,7 @@ impl<'p> Player<'p> {
         ask_abandon(&mut self.node, sid)
     }
 
-    /// The graph's node at which a session stands that is at its turn. It takes no memory.
+    /// The place of a session that is at its turn, a node of its graph. It takes no memory.
     pub fn turn(&self, sid: Sid) -> Option<NodeId>
         ensures { (p : Play) → RepresentsPlay self.now p → result ≡ turn_of (node_of p.past) sid }
     {

@@ -14,7 +14,7 @@ ghost use Rattle.sg_play.specs.Posting.{frames_made};
 use crate::PlayFault;
 use crate::ask::{ask_deliver, ask_start};
 use crate::choices::Choices;
-use crate::post::{Made, let_go, post};
+use crate::post::{OutputStep, let_go, post};
 use crate::reported::reported_line;
 use crate::run::cast_of;
 use sg_base::{Addr, Link, Name, Sealed, Seq, Sid, Sink};
@@ -45,10 +45,10 @@ pub struct Player<'p> {
 impl<'p> Player<'p> {
     ghost use Rattle.sg_protocol.specs.NodeStates.{RepresentsPast, new_state};
     ghost use Rattle.sg_protocol.specs.Past.{Past};
-    ghost use Rattle.sg_play.specs.Asking.{Comes};
+    ghost use Rattle.sg_play.specs.Asking.{IsAsked};
     ghost use Rattle.sg_play.specs.Ends.{Outside, Whole};
     ghost use Rattle.sg_play.specs.Played.{Play, abandons, answer_in, beginning, called, cast_of_start, sid_given, step_in};
-    ghost use Rattle.sg_play.specs.Representation.{Came, HasAsked, KeepsJoins, RepresentsPlay, done};
+    ghost use Rattle.sg_play.specs.Representation.{ProgressedOnItsWay, HasAsked, KeepsJoins, RepresentsPlay, done};
 
     /// A player with a node that was made with these keys and programs and was not asked anything yet.
     pub fn new(
@@ -87,7 +87,7 @@ impl<'p> Player<'p> {
     ) -> Result<(Outcome, Option<&'p Graph>), PlayFault>
         ensures rest { OnOk result (self.new ≡ record self.old { node = self.new.node }) }
         ensures comes { (number : ℕ) (past : Past) → RepresentsPast self.old.node past
-            → IfOk result (λ r. Comes number self.old.node self.new.node past (Start (cast_of_start self.old.programs.now start_of.now nonce)) (outcome_of r.0) (option_copied r.1) None) }
+            → IfOk result (λ r. IsAsked number self.old.node self.new.node past (Start (cast_of_start self.old.programs.now start_of.now nonce)) (outcome_of r.0) (option_copied r.1) None) }
         ensures memory { IfErr result (λ e. e ≡ PlayFault.OutOfMemory) }
     {
         let cast = cast_of(self.programs, start_of, nonce)?;
@@ -98,7 +98,7 @@ impl<'p> Player<'p> {
     pub fn ask_deliver(&mut self, bytes: &[u8]) -> Result<(Outcome, Option<&'p Graph>), PlayFault>
         ensures rest { OnOk result (self.new ≡ record self.old { node = self.new.node }) }
         ensures comes { (number : ℕ) (past : Past) → RepresentsPast self.old.node past
-            → IfOk result (λ r. Comes number self.old.node self.new.node past (Deliver bytes.now) (outcome_of r.0) (option_copied r.1) None) }
+            → IfOk result (λ r. IsAsked number self.old.node self.new.node past (Deliver bytes.now) (outcome_of r.0) (option_copied r.1) None) }
         ensures memory { IfErr result (λ e. e ≡ PlayFault.OutOfMemory) }
     {
         ask_deliver(self.alloc, &mut self.node, bytes)
@@ -118,7 +118,7 @@ impl<'p> Player<'p> {
         ensures write_failed { result ≡ Err PlayFault.WriteFailed → HasRisen (O.faults out.old) (O.faults out.new) }
         ensures deliveries { L.deliveries link.new ≡ L.deliveries link.old }
         ensures progress { (p : Play) (start : Outside) → RepresentsPlay self.old p → Whole start (record { written = O.written out.old; sent = L.sent link.old }) p.steps
-            → Came start (record { written = O.written out.new; sent = L.sent link.new }) self.new (called p (Start cast)) (done result) }
+            → ProgressedOnItsWay start (record { written = O.written out.new; sent = L.sent link.new }) self.new (called p (Start cast)) (done result) }
         ensures turn { IfOk result (λ sid. (p : Play) → RepresentsPlay self.old p → sid ≡ sid_given (answer_in p (Start cast))) }
     {
         let (outcome, graph) = ask_start(self.alloc, &mut self.node, cast)?;
@@ -140,7 +140,7 @@ impl<'p> Player<'p> {
         ensures write_failed { result ≡ Err PlayFault.WriteFailed → HasRisen (O.faults out.old) (O.faults out.new) }
         ensures deliveries { L.deliveries link.new ≡ L.deliveries link.old }
         ensures progress { (p : Play) (start : Outside) → RepresentsPlay self.old p → Whole start (record { written = O.written out.old; sent = L.sent link.old }) p.steps
-            → Came start (record { written = O.written out.new; sent = L.sent link.new }) self.new (called p (Deliver bytes.now)) (done result) }
+            → ProgressedOnItsWay start (record { written = O.written out.new; sent = L.sent link.new }) self.new (called p (Deliver bytes.now)) (done result) }
         ensures turn { IfOk result (λ sid. (p : Play) → RepresentsPlay self.old p → sid ≡ sid_given (answer_in p (Deliver bytes.now))) }
     {
         let (outcome, graph) = ask_deliver(self.alloc, &mut self.node, bytes)?;
@@ -162,7 +162,7 @@ impl<'p> Player<'p> {
         ensures write_failed { result ≡ Err PlayFault.WriteFailed → HasRisen (O.faults out.old) (O.faults out.new) }
         ensures deliveries { L.deliveries link.new ≡ L.deliveries link.old }
         ensures progress { (p : Play) (start : Outside) → RepresentsPlay self.old p → Whole start (record { written = O.written out.old; sent = L.sent link.old }) p.steps
-            → Came start (record { written = O.written out.new; sent = L.sent link.new }) self.new (abandons sid p) result }
+            → ProgressedOnItsWay start (record { written = O.written out.new; sent = L.sent link.new }) self.new (abandons sid p) result }
         ensures joins { OnOk result (KeepsJoins self.old.node self.new.node) }
     {
         let (outcome, graph) = self.ask_abandon(sid);
@@ -188,11 +188,11 @@ impl<'p> Player<'p> {
         ensures deliveries { L.deliveries link.new ≡ L.deliveries link.old }
         ensures progress { (p : Play) (c : Call) (start : Outside) → HasAsked self.old p c (outcome_of outcome.now) (option_copied graph.entry) (frames_made frame) → left ≡ sid_left c
             → Whole start (record { written = O.written out.old; sent = L.sent link.old }) p.steps
-            → Came start (record { written = O.written out.new; sent = L.sent link.new }) self.new (called p c) result }
+            → ProgressedOnItsWay start (record { written = O.written out.new; sent = L.sent link.new }) self.new (called p c) result }
         ensures node { OnOk result (self.new.node ≡ self.old.node) }
     {
         match self.tell(left, graph, outcome) {
-            Ok(line) => post(Made { line, frame }, link, out),
+            Ok(line) => post(OutputStep { line, frame }, link, out),
             Err(fault) => {
                 let_go(frame);
                 Err(fault)
@@ -208,7 +208,7 @@ impl<'p> Player<'p> {
         outcome: &Outcome,
     ) -> Result<Vec<u8>, PlayFault>
         ensures rest { OnOk result (self.new ≡ record self.old { names = self.new.names; steps = self.old.steps + 1 }) }
-        ensures told { IfOk result (λ line. (p : Play) (c : Call) (made : List (Addr × List ℕ)) → HasAsked self.old p c (outcome_of outcome.now) (option_copied graph.entry) made → left ≡ sid_left c
+        ensures reported { IfOk result (λ line. (p : Play) (c : Call) (made : List (Addr × List ℕ)) → HasAsked self.old p c (outcome_of outcome.now) (option_copied graph.entry) made → left ≡ sid_left c
             → (line.items ≡ (step_in p c).line) × RepresentsPlay self.new (called p c)) }
         ensures memory { IfErr result (λ e. e ≡ PlayFault.OutOfMemory) }
     {

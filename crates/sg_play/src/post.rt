@@ -7,13 +7,17 @@ use crate::PlayFault;
 use sg_base::{Addr, Link, Sealed, Sink, write_all};
 
 /// The line of a step, and its frame, if it sends one, with the address of its receiver. A made frame must be spent: `post` does.
-pub(crate) struct Made {
+pub(crate) struct OutputStep {
     pub line: Vec<u8>,
     pub frame: Option<(Addr, Sealed)>,
 }
 
 /// Sends the frame of a step, if there is one, and writes its line when the link has taken the frame. It takes no memory.
-pub(crate) fn post<L: Link, O: Sink>(made: Made, link: &mut L, out: &mut O) -> Result<(), PlayFault>
+pub(crate) fn post<L: Link, O: Sink>(
+    made: OutputStep,
+    link: &mut L,
+    out: &mut O,
+) -> Result<(), PlayFault>
     ensures link_bound { L.bound link.new ≡ L.bound link.old }
     ensures link_falls { L.faults link.old ≤ L.faults link.new }
     ensures out_falls { O.faults out.old ≤ O.faults out.new }
@@ -27,7 +31,7 @@ pub(crate) fn post<L: Link, O: Sink>(made: Made, link: &mut L, out: &mut O) -> R
     ensures no_frame { result ≡ Err PlayFault.LinkFailed → L.sent link.new ≡ L.sent link.old }
     ensures no_line { result ≡ Err PlayFault.LinkFailed → O.written out.new ≡ O.written out.old }
 {
-    let Made { line, frame } = made;
+    let OutputStep { line, frame } = made;
     if send(frame, link).is_err() {
         return Err(PlayFault::LinkFailed);
     }

@@ -6,7 +6,7 @@ ghost use Rattle.sg_protocol.specs.Calls.{Deliver};
 ghost use Rattle.sg_protocol.specs.NodeStates.{new_state};
 ghost use Rattle.sg_play.specs.Ends.{Ended, Outside, Whole};
 ghost use Rattle.sg_play.specs.Played.{Play, all_deliveries, all_starts, cast_of_start, played, plays_on, starts, with_turn};
-ghost use Rattle.sg_play.specs.Representation.{CameTo, KeepsJoins, RepresentsPlay};
+ghost use Rattle.sg_play.specs.Representation.{Progressed, KeepsJoins, RepresentsPlay};
 
 use crate::{PlayFault, Player};
 use sg_base::{Fresh, Link, LinkFault, Sid, Sink};
@@ -33,7 +33,7 @@ impl<'p> Player<'p> {
         ensures write_failed { result ≡ Err PlayFault.WriteFailed → HasRisen (O.faults out.old) (O.faults out.new) }
         ensures deliveries { L.deliveries link.new ≡ L.deliveries link.old }
         ensures progress { (p : Play) (start : Outside) → RepresentsPlay self.old p → R.random fresh.old ≡ Some p.random → Whole start (record { written = O.written out.old; sent = L.sent link.old }) p.steps
-            → CameTo start (record { written = O.written out.new; sent = L.sent link.new }) self.new (R.random fresh.new) (all_starts p starts.now) result }
+            → Progressed start (record { written = O.written out.new; sent = L.sent link.new }) self.new (R.random fresh.new) (all_starts p starts.now) result }
     {
         for start in starts {
             self.start_one(start, link, fresh, out)?;
@@ -56,7 +56,7 @@ impl<'p> Player<'p> {
         ensures write_failed { result ≡ Err PlayFault.WriteFailed → HasRisen (O.faults out.old) (O.faults out.new) }
         ensures deliveries { L.deliveries link.new ≡ L.deliveries link.old }
         ensures progress { (p : Play) (start : Outside) → RepresentsPlay self.old p → R.random fresh.old ≡ Some p.random → Whole start (record { written = O.written out.old; sent = L.sent link.old }) p.steps
-            → CameTo start (record { written = O.written out.new; sent = L.sent link.new }) self.new (R.random fresh.new) (starts p start_of.now) result }
+            → Progressed start (record { written = O.written out.new; sent = L.sent link.new }) self.new (R.random fresh.new) (starts p start_of.now) result }
     {
         let nonce = fresh.next();
         let cast = cast_of(self.programs, start_of, nonce)?;
@@ -80,7 +80,7 @@ impl<'p> Player<'p> {
         ensures write_failed { result ≡ Err PlayFault.WriteFailed → HasRisen (O.faults out.old) (O.faults out.new) }
         ensures progress { (p : Play) (start : Outside) (deliveries : List (List ℕ)) → L.deliveries link.old ≡ Some deliveries → RepresentsPlay self.old p → R.random fresh.old ≡ Some p.random
             → Whole start (record { written = O.written out.old; sent = L.sent link.old }) p.steps
-            → CameTo start (record { written = O.written out.new; sent = L.sent link.new }) self.new (R.random fresh.new) (all_deliveries p (take most deliveries)) result }
+            → Progressed start (record { written = O.written out.new; sent = L.sent link.new }) self.new (R.random fresh.new) (all_deliveries p (take most deliveries)) result }
         ensures left { OnOk result ((deliveries : List (List ℕ)) → L.deliveries link.old ≡ Some deliveries → L.deliveries link.new ≡ Some (drop most deliveries)) }
         ensures at_most { (deliveries : List (List ℕ)) → L.deliveries link.old ≡ Some deliveries → (n : ℕ) × (n ≤ most) × (L.deliveries link.new ≡ Some (drop n deliveries)) }
     {
@@ -110,7 +110,7 @@ impl<'p> Player<'p> {
         ensures write_failed { result ≡ Err PlayFault.WriteFailed → HasRisen (O.faults out.old) (O.faults out.new) }
         ensures deliveries { L.deliveries link.new ≡ L.deliveries link.old }
         ensures progress { (p : Play) (start : Outside) → RepresentsPlay self.old p → R.random fresh.old ≡ Some p.random → Whole start (record { written = O.written out.old; sent = L.sent link.old }) p.steps
-            → CameTo start (record { written = O.written out.new; sent = L.sent link.new }) self.new (R.random fresh.new) (with_turn p (Deliver bytes.now)) result }
+            → Progressed start (record { written = O.written out.new; sent = L.sent link.new }) self.new (R.random fresh.new) (with_turn p (Deliver bytes.now)) result }
     {
         let sid = self.take(bytes, link, out)?;
         self.play_if(sid, link, fresh, out)
@@ -132,7 +132,7 @@ impl<'p> Player<'p> {
         ensures write_failed { result ≡ Err PlayFault.WriteFailed → HasRisen (O.faults out.old) (O.faults out.new) }
         ensures deliveries { L.deliveries link.new ≡ L.deliveries link.old }
         ensures progress { (p : Play) (start : Outside) → RepresentsPlay self.old p → R.random fresh.old ≡ Some p.random → Whole start (record { written = O.written out.old; sent = L.sent link.old }) p.steps
-            → CameTo start (record { written = O.written out.new; sent = L.sent link.new }) self.new (R.random fresh.new) (option_map_or (λ s. plays_on s p) sid p) result }
+            → Progressed start (record { written = O.written out.new; sent = L.sent link.new }) self.new (R.random fresh.new) (option_map_or (λ s. plays_on s p) sid p) result }
         ensures joins { OnOk result (KeepsJoins self.old.node self.new.node) }
     {
         match sid {

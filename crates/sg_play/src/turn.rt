@@ -9,7 +9,7 @@ ghost use Rattle.sg_play.specs.Choosing.{is_ready};
 ghost use Rattle.sg_play.specs.Ends.{Outside, Whole};
 ghost use Rattle.sg_play.specs.Played.{Play, plays_on};
 ghost use Rattle.sg_play.specs.Posting.{frames_made};
-ghost use Rattle.sg_play.specs.Representation.{CameActing, CameTo, HasActed, KeepsJoins, RepresentsPlay};
+ghost use Rattle.sg_play.specs.Representation.{ProgressedActing, Progressed, HasActed, KeepsJoins, RepresentsPlay};
 ghost use Rattle.sg_play.specs.Turns.{acted, acted_in, is_sent};
 
 use crate::ask::ask_act;
@@ -36,7 +36,7 @@ impl<'p> Player<'p> {
         ensures write_failed { result ≡ Err PlayFault.WriteFailed → HasRisen (O.faults out.old) (O.faults out.new) }
         ensures deliveries { L.deliveries link.new ≡ L.deliveries link.old }
         ensures progress { (p : Play) (start : Outside) → RepresentsPlay self.old p → R.random fresh.old ≡ Some p.random → Whole start (record { written = O.written out.old; sent = L.sent link.old }) p.steps
-            → CameTo start (record { written = O.written out.new; sent = L.sent link.new }) self.new (R.random fresh.new) (plays_on sid p) result }
+            → Progressed start (record { written = O.written out.new; sent = L.sent link.new }) self.new (R.random fresh.new) (plays_on sid p) result }
         ensures joins { OnOk result (KeepsJoins self.old.node self.new.node) }
     {
         let Some(node) = self.node.turn(sid) else {
@@ -65,7 +65,7 @@ impl<'p> Player<'p> {
         ensures write_failed { result ≡ Err PlayFault.WriteFailed → HasRisen (O.faults out.old) (O.faults out.new) }
         ensures deliveries { L.deliveries link.new ≡ L.deliveries link.old }
         ensures progress { (p : Play) (start : Outside) → RepresentsPlay self.old p → R.random fresh.old ≡ Some p.random → Whole start (record { written = O.written out.old; sent = L.sent link.old }) p.steps
-            → CameActing start (record { written = O.written out.new; sent = L.sent link.new }) self.new (R.random fresh.new) (acted sid node p) result }
+            → ProgressedActing start (record { written = O.written out.new; sent = L.sent link.new }) self.new (R.random fresh.new) (acted sid node p) result }
         ensures joins { OnOk result (KeepsJoins self.old.node self.new.node) }
     {
         let Some(graph) = self.node.graph_of(&sid) else {
@@ -92,12 +92,12 @@ impl<'p> Player<'p> {
         ensures write_failed { result ≡ Err PlayFault.WriteFailed → HasRisen (O.faults out.old) (O.faults out.new) }
         ensures deliveries { L.deliveries link.new ≡ L.deliveries link.old }
         ensures progress { (p : Play) (start : Outside) → RepresentsPlay self.old p → R.random fresh.old ≡ Some p.random → Whole start (record { written = O.written out.old; sent = L.sent link.old }) p.steps
-            → CameActing start (record { written = O.written out.new; sent = L.sent link.new }) self.new (R.random fresh.new) (acted_in sid graph.now node p) result }
+            → ProgressedActing start (record { written = O.written out.new; sent = L.sent link.new }) self.new (R.random fresh.new) (acted_in sid graph.now node p) result }
         ensures joins { OnOk result (KeepsJoins self.old.node self.new.node) }
     {
         match self.try_act(sid, graph, node, fresh)? {
-            Some((outcome, told_by, frame)) => {
-                self.give(None, told_by, &outcome, frame, link, out)?;
+            Some((outcome, reported_by, frame)) => {
+                self.give(None, reported_by, &outcome, frame, link, out)?;
                 Ok(was_sent(&outcome))
             }
             None => Ok(false),

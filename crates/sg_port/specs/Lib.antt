@@ -1,3 +1,3 @@
-pub mod Came
+pub mod Brought
 pub mod Inbox
 pub mod Silence

@@ -2,10 +2,10 @@
 ghost use Rattle.std.specs.Prelude.{◌≡◌, ◌<◌, ◌≤◌, ◌⊎◌, length, map, slice_get, slice_set, option_map, All, IfOk, IfSome, IfNone, IsSomeAnd, IsTrue, IsFalse, Some, None};
 ghost use Rattle.std.specs.Time.{instant_nanos};
 ghost use Rattle.sg_model.specs.Limits.{most_frame_bytes};
-ghost use Rattle.sg_port.specs.Came.{Fits};
+ghost use Rattle.sg_port.specs.Brought.{Fits};
 ghost use Rattle.sg_port.specs.Silence.{silent_since, stream_at, IsQuietest};
 
-use crate::parcel::{Came, Parcel};
+use crate::parcel::{Brought, Parcel};
 use mio::net::TcpStream;
 use sg_base::OutOfMemory;
 use std::alloc::{AllocError, Global};
@@ -97,23 +97,23 @@ impl Table {
     {
         for _ in 0..SLOTS {
             match self.read_next(alloc) {
-                Came::Frame(frame) => return Ok(Some(frame)),
-                Came::OutOfMemory => return Err(AllocError),
-                Came::Nothing | Came::End => {}
+                Brought::Frame(frame) => return Ok(Some(frame)),
+                Brought::OutOfMemory => return Err(AllocError),
+                Brought::Nothing | Brought::End => {}
             }
         }
         Ok(None)
     }
 
     // Reads on in the slot whose turn it is.
-    fn read_next(&mut self, alloc: Global) -> Came
+    fn read_next(&mut self, alloc: Global) -> Brought
         ensures { Fits result }
     {
         let at = self.turn;
         self.turn = behind(at);
         match self.slots.get_mut(at) {
             Some(slot) => read_at(alloc, slot),
-            None => Came::Nothing,
+            None => Brought::Nothing,
         }
     }
 }
@@ -202,20 +202,20 @@ fn has_more(slot: &mut Option<Accepted>) -> bool
 }
 
 // Reads on in a slot. A connection that has ended is closed.
-fn read_at(alloc: Global, slot: &mut Option<Accepted>) -> Came
+fn read_at(alloc: Global, slot: &mut Option<Accepted>) -> Brought
     ensures { Fits result }
 {
     let Some(open) = slot else {
-        return Came::Nothing;
+        return Brought::Nothing;
     };
     if !open.ready {
-        return Came::Nothing;
+        return Brought::Nothing;
     }
     let came = open.parcel.read_on(alloc, &mut open.stream);
     match &came {
-        Came::Nothing => open.ready = false,
-        Came::End => *slot = None,
-        Came::Frame(_) | Came::OutOfMemory => {}
+        Brought::Nothing => open.ready = false,
+        Brought::End => *slot = None,
+        Brought::Frame(_) | Brought::OutOfMemory => {}
     }
     came
 }

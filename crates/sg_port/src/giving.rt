@@ -3,9 +3,9 @@ ghost use Rattle.std.specs.Prelude.{◌≡◌, ◌≤◌, ◌++◌, length, OnOk
 ghost use Rattle.std.specs.Int.{w32, to_be_bytes};
 ghost use Rattle.sg_model.specs.Limits.{most_frame_bytes};
 
+use crate::conns::KeptConns;
 use crate::fault::has_no_room;
 use crate::intake::Intake;
-use crate::kept::Kept;
 use crate::watch::left;
 use mio::net::TcpStream;
 use sg_base::{Failed, OutOfMemory};
@@ -19,7 +19,7 @@ const FIRST_MILLIS: u64 = 200;
 
 /// What came of giving bytes.
 #[derive(Debug, Clone, Copy, PartialEq, Eq)]
-pub(crate) enum Given {
+pub(crate) enum GiveResult {
     /// All were taken.
     Whole,
     /// The connection is broken.
@@ -44,7 +44,7 @@ pub(crate) fn write_message(out: &mut Vec<u8>, frame: &[u8]) -> Result<(), OutOf
 pub(crate) fn connect<R: Net + Clock>(
     rt: &R,
     intake: &mut Intake,
-    kept: &mut Kept,
+    kept: &mut KeptConns,
     to: SocketAddr,
     begun: Instant,
     within: Duration,
@@ -69,7 +69,7 @@ pub(crate) fn connect<R: Net + Clock>(
 fn attempt<R: Net + Clock>(
     rt: &R,
     intake: &mut Intake,
-    kept: &mut Kept,
+    kept: &mut KeptConns,
     to: SocketAddr,
     within: Duration,
 ) -> Result<Option<TcpStream>, Failed> {
@@ -99,7 +99,7 @@ fn attempt<R: Net + Clock>(
 fn begin<R: Net>(
     rt: &R,
     intake: &mut Intake,
-    kept: &mut Kept,
+    kept: &mut KeptConns,
     to: SocketAddr,
 ) -> io::Result<TcpStream> {
     match TcpStream::connect(rt, to) {
@@ -126,11 +126,11 @@ pub(crate) fn give<C: Clock>(
     bytes: &[u8],
     begun: Instant,
     within: Duration,
-) -> Given {
+) -> GiveResult {
     let mut rest = bytes;
     for _ in 0..u64::MAX {
         if rest.is_empty() {
-            return Given::Whole;
+            return GiveResult::Whole;
         }
         match stream.write(rest) {
             Ok(count) if count > 0 && count <= rest.len() => rest = &rest[count..],
@@ -138,11 +138,11 @@ pub(crate) fn give<C: Clock>(
             Err(e) if e.kind() == ErrorKind::WouldBlock => {
                 let most = left(clock, begun, within);
                 if most.is_zero() || !intake.wait(clock, most) {
-                    return Given::Late;
+                    return GiveResult::Late;
                 }
             }
-            _ => return Given::Broken,
+            _ => return GiveResult::Broken,
         }
     }
-    Given::Late
+    GiveResult::Late
 }

@@ -2,9 +2,9 @@
 ghost use Rattle.std.specs.Prelude.{◌<◌};
 
 use crate::accepted::{SLOTS, Table};
+use crate::conns::KeptConns;
 use crate::fault::{has_no_room, is_passing};
 use crate::inbox::Inbox;
-use crate::kept::Kept;
 use crate::watch::{Watch, left, shorter};
 use mio::net::{TcpListener, TcpStream};
 use mio::{Interest, Token};
@@ -91,7 +91,7 @@ impl Intake {
         &mut self,
         clock: &C,
         alloc: Global,
-        kept: &mut Kept,
+        kept: &mut KeptConns,
         within: Option<Duration>,
     ) -> Result<Option<Vec<u8>>, LinkFault> {
         let _ = kept.close_resting(clock);

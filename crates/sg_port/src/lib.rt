@@ -22,11 +22,11 @@
 
 mod accepted;
 mod address;
+mod conns;
 mod fault;
 mod giving;
 mod inbox;
 mod intake;
-mod kept;
 mod parcel;
 mod port;
 #[cfg(test)]

@@ -2,7 +2,7 @@
 ghost use Rattle.std.specs.Prelude.{◌≡◌, ◌<◌, ◌≤◌, length, IfSome};
 ghost use Rattle.std.specs.Int.{w32, to_be_bytes};
 ghost use Rattle.sg_model.specs.Limits.{most_frame_bytes};
-ghost use Rattle.sg_port.specs.Came.{Fits};
+ghost use Rattle.sg_port.specs.Brought.{Fits};
 
 use std::alloc::Global;
 use std::io::{ErrorKind, Read};
@@ -13,7 +13,7 @@ const MOST_BYTES: u32 = 60_000;
 
 /// What a connection brought.
 #[derive(Drop)]
-pub(crate) enum Came {
+pub(crate) enum Brought {
     /// A whole frame.
     Frame(Vec<u8>),
     /// No whole frame yet.
@@ -59,20 +59,20 @@ impl Parcel {
     }
 
     /// Reads on, no further than to the message's end. After a frame the next message begins; if memory is wanting, nothing is lost.
-    pub(crate) fn read_on<S: Read>(&mut self, alloc: Global, stream: &mut S) -> Came
+    pub(crate) fn read_on<S: Read>(&mut self, alloc: Global, stream: &mut S) -> Brought
         ensures { Fits result }
     {
         match fill(stream, &mut self.head, &mut self.headed) {
             Filled::Whole => {}
-            Filled::Part => return Came::Nothing,
-            Filled::End => return Came::End,
+            Filled::Part => return Brought::Nothing,
+            Filled::End => return Brought::End,
         }
         if self.frame.is_empty() {
             let Some(len) = frame_length(self.head) else {
-                return Came::End;
+                return Brought::End;
             };
             let Ok(room) = vec![in alloc; 0u8; len] else {
-                return Came::OutOfMemory;
+                return Brought::OutOfMemory;
             };
             self.frame = room;
             self.filled = 0;
@@ -80,10 +80,10 @@ impl Parcel {
         match fill(stream, self.frame.as_mut_slice(), &mut self.filled) {
             Filled::Whole => {
                 self.headed = 0;
-                Came::Frame(mem::replace(&mut self.frame, Vec::new(alloc)))
+                Brought::Frame(mem::replace(&mut self.frame, Vec::new(alloc)))
             }
-            Filled::Part => Came::Nothing,
-            Filled::End => Came::End,
+            Filled::Part => Brought::Nothing,
+            Filled::End => Brought::End,
         }
     }
 }

@@ -4,9 +4,9 @@ ghost use Rattle.sg_base.specs.Outside.{HasRisen};
 ghost use Rattle.sg_model.specs.Limits.{most_frame_bytes};
 
 use crate::address::socket_addr;
-use crate::giving::{self, Given};
+use crate::conns::{KeptConns, Line};
+use crate::giving::{self, GiveResult};
 use crate::intake::Intake;
-use crate::kept::{Kept, Line};
 use mio::net::TcpListener;
 use sg_base::{Addr, Failed, Link, LinkFault, Sealed};
 use sg_wait::TimedLink;
@@ -34,7 +34,7 @@ const SEND_SECONDS: u64 = 1;
 pub struct TcpPort<R> {
     rt: R,
     intake: Option<Intake>,
-    kept: Kept,
+    kept: KeptConns,
     message: Vec<u8>,
     bound: Option<Addr>,
     faults: u64,
@@ -50,7 +50,7 @@ impl<R: Net + Clock + Alloc<A = Global> + Drop> TcpPort<R> {
         TcpPort {
             rt,
             intake: None,
-            kept: Kept::new(alloc),
+            kept: KeptConns::new(alloc),
             message: Vec::new(alloc),
             bound: None,
             faults: 0,
@@ -126,7 +126,7 @@ fn listen<R: Net + Alloc<A = Global>>(rt: &R, intake: &mut Option<Intake>, at: A
 fn send_frame<R: Net + Clock>(
     rt: &R,
     intake: &mut Intake,
-    kept: &mut Kept,
+    kept: &mut KeptConns,
     message: &mut Vec<u8>,
     to: Addr,
     frame: &[u8],
@@ -143,10 +143,10 @@ fn send_frame<R: Net + Clock>(
     let bytes = message.as_slice();
     let given = match kept.take(to) {
         Some(line) => give_over(rt, intake, kept, line, bytes, begun),
-        None => Given::Broken,
+        None => GiveResult::Broken,
     };
-    if given != Given::Broken {
-        return given == Given::Whole;
+    if given != GiveResult::Broken {
+        return given == GiveResult::Whole;
     }
     let within = Duration::from_secs(SEND_SECONDS);
     match giving::connect(rt, intake, kept, socket_addr(to), begun, within) {
@@ -156,7 +156,7 @@ fn send_frame<R: Net + Clock>(
                 stream,
                 given: 0,
             };
-            give_over(rt, intake, kept, line, bytes, begun) == Given::Whole
+            give_over(rt, intake, kept, line, bytes, begun) == GiveResult::Whole
         }
         Err(_) => false,
     }
@@ -166,14 +166,14 @@ fn send_frame<R: Net + Clock>(
 fn give_over<C: Clock>(
     clock: &C,
     intake: &mut Intake,
-    kept: &mut Kept,
+    kept: &mut KeptConns,
     mut line: Line,
     bytes: &[u8],
     begun: Instant,
-) -> Given {
+) -> GiveResult {
     let within = Duration::from_secs(SEND_SECONDS);
     let given = giving::give(clock, intake, &mut line.stream, bytes, begun, within);
-    if given == Given::Whole {
+    if given == GiveResult::Whole {
         kept.keep(clock, line);
     }
     given

@@ -2,9 +2,9 @@
 ghost use Rattle.std.specs.Prelude.{◌<◌, ◌≤◌, length};
 ghost use Rattle.sg_model.specs.Limits.{most_frame_bytes};
 
-use crate::giving::Given;
+use crate::conns::KeptConns;
+use crate::giving::GiveResult;
 use crate::intake::Intake;
-use crate::kept::Kept;
 use crate::{TcpPort, giving};
 use mio::net::TcpStream;
 use sg_base::{Addr, Link, LinkFault};
@@ -128,10 +128,10 @@ fn who_is_away_or_does_not_answer_ends_nothing(rt: HostRuntime) {
 }
 
 // Gives bytes to a port over a connection of their own, within a second.
-fn give_to(rt: &HostRuntime, intake: &mut Intake, port: u16, bytes: &[u8]) -> Option<Given> {
+fn give_to(rt: &HostRuntime, intake: &mut Intake, port: u16, bytes: &[u8]) -> Option<GiveResult> {
     let within = Duration::from_secs(1);
     let to = crate::address::socket_addr(at(port));
-    let mut kept = Kept::new(rt.alloc());
+    let mut kept = KeptConns::new(rt.alloc());
     let begun = Instant::now(rt).ok()?;
     let mut stream = giving::connect(rt, intake, &mut kept, to, begun, within).ok()?;
     Some(giving::give(rt, intake, &mut stream, bytes, begun, within))
@@ -151,10 +151,10 @@ fn who_takes_no_bytes_ends_nothing(rt: HostRuntime) {
     let bytes = vec![in alloc; 7u8; 67_108_864].expect(&rt, "memory");
     let begun = Instant::now(&rt).expect(&rt, "a time");
     let given = give_to(&rt, &mut intake, 28_750, &bytes);
-    assert!(rt; matches!(given, Some(Given::Late)));
+    assert!(rt; matches!(given, Some(GiveResult::Late)));
     let took = begun.elapsed(&rt).expect(&rt, "a time");
     assert!(rt; took < Duration::from_secs(10));
     let given = give_to(&rt, &mut intake, 28_749, b"\x00\x00\x00\x04ping");
-    assert!(rt; matches!(given, Some(Given::Whole)));
+    assert!(rt; matches!(given, Some(GiveResult::Whole)));
     assert!(rt; comes(alloc, &mut b, b"ping"));
 }

@@ -3,7 +3,7 @@ use Rattle.std.proofs.Common.{◌≡◌, ℕ, ◌≤◌, List, take, Option, Res
 use Rattle.std.proofs.lemmas.Result.{on_ok_weaker}
 use Rattle.sg_base.specs.declared.address.Addr.{Addr}
 use Rattle.sg_base.specs.Outside.{HasRisen}
-use Rattle.sg_keep.specs.Kept.{AllRepresent, Kept}
+use Rattle.sg_keep.specs.KeptRuns.{AllRepresent, HasKept}
 use Rattle.sg_keep.specs.declared.fault.KeepFault.{KeepFault}
 use Rattle.sg_keep.specs.declared.fault.KeepFault.TheVariants as KeepFaults
 use Rattle.sg_keep.proofs.Asking.{not_begun}
@@ -38,7 +38,7 @@ module _ (opened : List Join) (s : Setup) (most : ℕ) (out : Output) (random : 
   pub after_link : (new : Outside) (disk disk' : Disked) (r : Result (Unit {0}) KeepFault) → EndsOver opened s most opened_link new disk disk' r → EndsOver opened s most before new disk disk' r
   after_link new disk disk' r h = record {
     plays = λ ds ws d w. subst
-        (λ (x : Option (List (Addr × List ℕ))). Kept (record { written = out.bytes; sent = x }) (record { written = (new.out).bytes; sent = (new.link).sent }) disk'.may_leave (play_over opened s most ds ws) r) kept_sent
+        (λ (x : Option (List (Addr × List ℕ))). HasKept (record { written = out.bytes; sent = x }) (record { written = (new.out).bytes; sent = (new.link).sent }) disk'.may_leave (play_over opened s most ds ws) r) kept_sent
         (h.plays ds ws (kept ∙ d) w);
     faults = later_tells (counts before disk) (counts opened_link disk) (counts new disk') r (link_took link.faults link1.faults out.faults disk.faults falls) h.faults;
     left = on_ok_weaker r (λ t ds d. t ds (kept ∙ d)) h.left;
@@ -49,7 +49,7 @@ module _ (opened : List Join) (s : Setup) (most : ℕ) (out : Output) (random : 
   pub without_link : (disk : Disked) → HasRisen link.faults link1.faults → AllRepresent disk.may_leave opened → EndsOver opened s most before opened_link disk disk (Err (KeepFaults.Played PlayFaults.LinkFailed))
   without_link disk risen all = record {
     plays = λ ds ws d w. subst
-        (λ (x : Option (List (Addr × List ℕ))). Kept (record { written = out.bytes; sent = link.sent }) (record { written = out.bytes; sent = x }) disk.may_leave (play_over opened s most ds ws) (Err (KeepFaults.Played PlayFaults.LinkFailed))) (sym kept_sent)
+        (λ (x : Option (List (Addr × List ℕ))). HasKept (record { written = out.bytes; sent = link.sent }) (record { written = out.bytes; sent = x }) disk.may_leave (play_over opened s most ds ws) (Err (KeepFaults.Played PlayFaults.LinkFailed))) (sym kept_sent)
         (not_begun (record { written = out.bytes; sent = link.sent }) disk.may_leave s.keys s.programs opened s.script (take most ds) ws all PlayFaults.OutOfMemory refl);
     faults = link_tells link.faults link1.faults out.faults disk.faults falls risen;
     left = tt;

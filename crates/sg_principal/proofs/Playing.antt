@@ -2,7 +2,7 @@
 use Rattle.std.proofs.Common.{◌≡◌, ◌⊎◌, inl, inr, ℕ, List, [], Option, Some, Result, refl, sym, ap, ◌∙◌, subst, arith}
 use Rattle.std.proofs.lemmas.List.{append-nil}
 use Rattle.sg_base.specs.Outside.{Appends}
-use Rattle.sg_play.specs.Ends.{Outside as Given, WholePrefix, Ended}
+use Rattle.sg_play.specs.Ends.{Outside as KnownOutside, WholePrefix, Ended}
 use Rattle.sg_play.specs.Steps.{Step}
 use Rattle.sg_play.specs.declared.fault.PlayFault.{PlayFault}
 use Rattle.sg_base.specs.declared.address.Addr.{Addr}
@@ -16,7 +16,7 @@ appends_none : {A : Type 0} (x y : Option (List A)) → y ≡ x → Appends x y 
 appends_none x y same before h = same ∙ h ∙ ap Some (sym (append-nil before))
 
 -- none of the steps was taken
-pub none_taken : (old new : Given) (steps : List Step) → new.written ≡ old.written → new.sent ≡ old.sent → WholePrefix old new steps
+pub none_taken : (old new : KnownOutside) (steps : List Step) → new.written ≡ old.written → new.sent ≡ old.sent → WholePrefix old new steps
 none_taken old new steps w s = record {
   prefix = [];
   rest = steps;
@@ -38,7 +38,7 @@ opened s most start old new r out deliveries sent random h ds ws d w =
 
 -- nothing was played
 pub unplayed : (s : Setup) (most : ℕ) (old new : Outside) (r : Result (Unit {0}) PlayFault) → (new.out).bytes ≡ (old.out).bytes → (new.link).sent ≡ (old.link).sent
-    → ((o n : Given) (steps : List Step) → WholePrefix o n steps → Ended o n steps r) → Plays s most old new r
+    → ((o n : KnownOutside) (steps : List Step) → WholePrefix o n steps → Ended o n steps r) → Plays s most old new r
 unplayed s most old new r out sent ends ds ws d w =
     ends (record { written = (old.out).bytes; sent = (old.link).sent }) (record { written = (new.out).bytes; sent = (new.link).sent }) (steps_played s most ds ws)
     (none_taken (record { written = (old.out).bytes; sent = (old.link).sent }) (record { written = (new.out).bytes; sent = (new.link).sent }) (steps_played s most ds ws) out sent)
@@ -47,7 +47,7 @@ unplayed s most old new r out sent ends ds ws d w =
 pub ended_as : (s : Setup) (most : ℕ) (old new : Outside) (r q : Result (Unit {0}) PlayFault) → r ≡ q → Plays s most old new r → Plays s most old new q
 ended_as s most old new r q same h = subst (Plays s most old new) same h
 
--- the address that the keys tell is theirs
+-- the address at which the keys wait is theirs
 pub at_address : (a : Addr) (keys : Keyring) → a.ip ≡ keys.ip → a.port ≡ keys.port → a ≡ waits_at keys
 at_address a keys ip port = λ i. record { ip = ip i; port = port i }
 

@@ -2,10 +2,10 @@
 use Rattle.std.specs.Prelude.{◌≡◌, ◌≢◌, ℕ, ◌⊎◌, List, [], take, codes, Option, Some, Result, Ok, Err, OnOk, ⊤}
 use Rattle.sg_base.specs.Outside.{HasRisen}
 use Rattle.sg_keep.specs.Faults.{Counts, TellsFaults}
-use Rattle.sg_keep.specs.Kept.{AllRepresent, Kept}
+use Rattle.sg_keep.specs.KeptRuns.{AllRepresent, HasKept}
 use Rattle.sg_keep.specs.declared.fault.KeepFault.{KeepFault}
 use Rattle.sg_keep.specs.declared.fault.KeepFault.TheVariants as KeepFaults
-use Rattle.sg_ledger.specs.Disk.{Keeps, WhereTold}
+use Rattle.sg_ledger.specs.Disk.{Keeps, IfSeen}
 use Rattle.sg_ledger.specs.Format.{Join, IsLedger, IsFirstBadSlot, Represents}
 use Rattle.sg_play.specs.Played.{Play, played}
 use Rattle.sg_play.specs.declared.fault.PlayFault.TheVariants as PlayFaults
@@ -38,12 +38,12 @@ IsBound file disk disk' ending = (disk'.bound ≡ Some file) ⊎ ((ending ≡ Di
 
 -- the file had no bytes, and each image represents no joins
 abbrev pub IsMade : (disk disk' : Disked) → Type 0
-IsMade disk disk' = WhereTold disk.seen (λ file. file ≡ []) × AllRepresent disk'.may_leave []
+IsMade disk disk' = IfSeen disk.seen (λ file. file ≡ []) × AllRepresent disk'.may_leave []
 
 -- none is made: the file has bytes already, or the disk failed, which its count shows, or memory ran out; a file that has bytes is left
 abbrev pub LacksRoom : (disk disk' : Disked) → Ending → Type 0
-LacksRoom disk disk' LedgerNotEmpty = WhereTold disk.seen (λ file. file ≢ []) × IsLeft disk disk'
-LacksRoom disk disk' DiskFailed = HasRisen disk.faults disk'.faults × WhereTold disk.seen (λ file. file ≢ [] → IsLeft disk disk')
+LacksRoom disk disk' LedgerNotEmpty = IfSeen disk.seen (λ file. file ≢ []) × IsLeft disk disk'
+LacksRoom disk disk' DiskFailed = HasRisen disk.faults disk'.faults × IfSeen disk.seen (λ file. file ≢ [] → IsLeft disk disk')
 LacksRoom disk disk' NoMemory = IsLeft disk disk'
 LacksRoom disk disk' ending = ⊥
 
@@ -57,8 +57,8 @@ Makes file old new disk disk' ending = IsBound file disk disk' ending ×
 
 -- no ledger is opened: the file is none, or this is its first bad slot, or the disk failed, which its count shows, or memory ran out
 abbrev pub LacksLedger : (disk disk' : Disked) → Ending → Type 0
-LacksLedger disk disk' NoLedger = WhereTold disk.seen (λ file. ¬ IsLedger file)
-LacksLedger disk disk' (BadSlot slot) = WhereTold disk.seen (λ file. IsLedger file × IsFirstBadSlot file slot)
+LacksLedger disk disk' NoLedger = IfSeen disk.seen (λ file. ¬ IsLedger file)
+LacksLedger disk disk' (BadSlot slot) = IfSeen disk.seen (λ file. IsLedger file × IsFirstBadSlot file slot)
 LacksLedger disk disk' DiskFailed = HasRisen disk.faults disk'.faults
 LacksLedger disk disk' NoMemory = ⊤
 LacksLedger disk disk' ending = ⊥
@@ -72,7 +72,7 @@ play_over opened s most deliveries random = played s.keys s.programs opened s.sc
 -- if the deliveries and the random bytes are known: what was written and sent is what this play writes and sends, up to where it ended, and what a crash leaves of the disk is the ledger with the joins of the play up to there, among them the session and the sender of each frame that was sent
 abbrev pub PlaysOver : (opened : List Join) → Setup → (most : ℕ) → (old new : Outside) → (disk' : Disked) → Result (Unit {0}) KeepFault → Type 0
 PlaysOver opened s most old new disk' result = (deliveries random : List (List ℕ)) → (old.link).deliveries ≡ Some deliveries → old.random ≡ Some random
-    → Kept (record { written = (old.out).bytes; sent = (old.link).sent }) (record { written = (new.out).bytes; sent = (new.link).sent }) disk'.may_leave (play_over opened s most deliveries random) result
+    → HasKept (record { written = (old.out).bytes; sent = (old.link).sent }) (record { written = (new.out).bytes; sent = (new.link).sent }) disk'.may_leave (play_over opened s most deliveries random) result
 
 -- how the program ends after a play over a ledger
 abbrev pub ending_of_play : Result (Unit {0}) KeepFault → Ending
@@ -96,7 +96,7 @@ pub record EndsOver (opened : List Join) (s : Setup) (most : ℕ) (old new : Out
 -- a setup is played over the ledger that the file of this name is, and over the link at the address of its keys; or the file is none, and nothing is touched
 abbrev pub KeepsSetup : (file : List ℕ) → Setup → (most : ℕ) → (old new : Outside) → (disk disk' : Disked) → Ending → Type 0
 KeepsSetup file s most old new disk disk' ending =
-    ((opened : List Join) × (result : Result (Unit {0}) KeepFault) × (disk'.bound ≡ Some file) × WhereTold disk.seen (λ bytes. Represents bytes opened) × WaitsAt s.keys old new ending × EndsOver opened s most old new disk disk' result × (ending ≡ ending_of_play result))
+    ((opened : List Join) × (result : Result (Unit {0}) KeepFault) × (disk'.bound ≡ Some file) × IfSeen disk.seen (λ bytes. Represents bytes opened) × WaitsAt s.keys old new ending × EndsOver opened s most old new disk disk' result × (ending ≡ ending_of_play result))
     ⊎ (IsUntouched old new × IsLeft disk disk' × IsBound file disk disk' ending × LacksLedger disk disk' ending)
 
 -- a run over the ledger of a file ends so: the files hold a setup, which is played over the ledger, if there is one; or they hold none, and nothing is touched, nor the disk asked

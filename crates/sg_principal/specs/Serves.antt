@@ -3,10 +3,10 @@ use Rattle.std.specs.Prelude.{◌≡◌, ℕ, ◌≤◌, ◌⊎◌, true, false,
 use Rattle.sg_base.specs.Outside.{HasRisen}
 use Rattle.sg_base.specs.declared.address.Addr.{Addr}
 use Rattle.sg_input.specs.Lines.{lines_of}
-use Rattle.sg_ledger.specs.Disk.{WhereTold}
+use Rattle.sg_ledger.specs.Disk.{IfSeen}
 use Rattle.sg_ledger.specs.Format.{Join, Represents}
 use Rattle.sg_serve.specs.Faults.{Counts, TellsFaults}
-use Rattle.sg_serve.specs.Served.{Outside as Given, Served, images_if, opening}
+use Rattle.sg_serve.specs.Served.{Outside as KnownOutside, Served, images_if, opening}
 use Rattle.sg_serve.specs.declared.fault.ServeFault.{ServeFault}
 use Rattle.sg_serve.specs.declared.fault.ServeFault.TheVariants as ServeFaults
 use Rattle.sg_wait.specs.declared.coming.Coming.{Coming}
@@ -63,7 +63,7 @@ pub record IsOpened (at : Addr) (old new : Waited) : Type 0 where
   pub falls : old.faults ≤ new.faults
 
 -- what is known of the sink and the link
-abbrev pub given : Application → Given
+abbrev pub given : Application → KnownOutside
 given o = record { written = (o.out).bytes; sent = (o.link).sent; coming = (o.link).coming; failed = (o.link).faults }
 
 -- if it is known what is to come of the input, the link and the source: what was written and sent is what the lines of the input come to for a principal that joined these pairs before, up to where the run ended, and what a crash leaves of its ledger, if it has one, is the ledger with the joins up to there
@@ -101,7 +101,7 @@ ServesOver kept opened p old new disk disk' ending =
 abbrev pub ServesPrincipal : (ledger : Option (List ℕ)) → Principal → (old new : Application) → (disk disk' : Disked) → Ending → Type 0
 ServesPrincipal None p old new disk disk' ending = ServesOver false [] p old new disk disk' ending × IsNotAsked disk disk'
 ServesPrincipal (Some file) p old new disk disk' ending =
-    ((opened : List Join) × (disk'.bound ≡ Some file) × WhereTold disk.seen (λ bytes. Represents bytes opened) × ServesOver true opened p old new disk disk' ending)
+    ((opened : List Join) × (disk'.bound ≡ Some file) × IfSeen disk.seen (λ bytes. Represents bytes opened) × ServesOver true opened p old new disk disk' ending)
     ⊎ (IsUnasked old new × IsLeft disk disk' × IsBound file disk disk' ending × LacksLedger disk disk' ending)
 
 -- a run for an application ends so: the files hold a principal, which serves; or they hold none, and nothing is touched, nor the disk asked

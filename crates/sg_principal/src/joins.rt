@@ -1,7 +1,7 @@
 //! The ledger in which a run keeps its joins.
 ghost use Rattle.std.specs.Prelude.{◌≡◌, ◌≤◌, ◌⊎◌, [], IfErr, IfOk, OnOk, Some, false, is_some, option_map};
-ghost use Rattle.sg_keep.specs.Kept.{AllRepresent};
-ghost use Rattle.sg_ledger.specs.Disk.{WhereTold};
+ghost use Rattle.sg_keep.specs.KeptRuns.{AllRepresent};
+ghost use Rattle.sg_ledger.specs.Disk.{IfSeen};
 ghost use Rattle.sg_ledger.specs.Format.{Represents};
 ghost use Rattle.sg_ending.specs.Model.{ending_held};
 ghost use Rattle.sg_principal.specs.Ledgers.{IsBound, IsLeft, LacksLedger};
@@ -17,7 +17,7 @@ pub fn open_ledger<D: Disk>(
     disk: &mut D,
 ) -> Result<Ledger, Ending<'static>>
     ensures working { IfOk result (λ ledger. ledger.failed ≡ false) }
-    ensures opened { IfOk result (λ ledger. WhereTold (D.seen disk.old) (λ bytes. Represents bytes ledger.joins)) }
+    ensures opened { IfOk result (λ ledger. IfSeen (D.seen disk.old) (λ bytes. Represents bytes ledger.joins)) }
     ensures represents { IfOk result (λ ledger. AllRepresent (D.may_leave disk.new) ledger.joins) }
     ensures bound { OnOk result (D.bound disk.new ≡ Some file.now) }
     ensures tried { IfErr result (λ ending. IsBound file.now (record { bound = D.bound disk.old; seen = D.seen disk.old; may_leave = D.may_leave disk.old; faults = D.faults disk.old }) (record { bound = D.bound disk.new; seen = D.seen disk.new; may_leave = D.may_leave disk.new; faults = D.faults disk.new }) (ending_held ending)) }

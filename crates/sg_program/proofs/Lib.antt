@@ -1,17 +1,4 @@
-pub mod Accepting
-pub mod Adding
 pub mod Alike
-pub mod Apart
-pub mod Behind
-pub mod Canonical
-pub mod Compiling
-pub mod Lines
-pub mod Once
-pub mod OneTable
-pub mod Only
 pub mod Indices
-pub mod Reading
-pub mod Refusals
 pub mod SameKey
-pub mod Tabled
 pub mod Tables

@@ -1,10 +1,3 @@
-pub mod All
-pub mod Compiled
-pub mod FaultText
 pub mod Model
 pub mod Invariant
-pub mod Laws
-pub mod Loading
-pub mod Refused
-pub mod Text
 pub mod Together

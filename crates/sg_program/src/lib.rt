@@ -1,26 +1,12 @@
 //! Programs: a graph compiled for a role.
 //!
-//! A graph is accepted if its shape is right, only writers write and what is read is known, and no node blinds two roles; `check_graph`
-//! reports the first of these that does not hold. `compile` gives the program of an accepted graph for one of its roles: the graph with its
-//! digest, the table of all views that can reach the role, and for each edge the roles that must be able to check it later.
-//!
-//! A program has one text, which names its version, its role, its graph and the lines of its table. `Program::load` trusts none of it: it
-//! reads the graph, compiles it again, and compares the lines. `Programs` are found by a graph's name, and by its digest and a role.
-//! `laws` says that what is compiled isn't refused, and that the text of a program is of no other and has no fault.
+//! A `Program` is an accepted graph with its digest, the table of all views that can reach the role, and for each edge the roles that must
+//! be able to check it later. `Programs` are found by a graph's name, and by its digest and a role. How they are compiled, written and
+//! loaded stands in `sg_compile`.
 #![tactic(auto)]
 
-mod all;
-mod check;
-mod compiler;
-pub mod laws;
-mod load;
 mod program;
 mod programs;
-mod text;
 
-pub use all::{AllFault, compile_all};
-pub use check::{CompileFault, check_graph};
-pub use compiler::compile;
-pub use load::LoadFault;
 pub use program::Program;
 pub use programs::{AddProgramFault, Programs};

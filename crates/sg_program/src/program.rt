@@ -14,11 +14,11 @@ use std::marker::Model;
 /// must be able to check it later.
 #[derive(Debug, Drop)]
 pub struct Program {
-    pub(crate) graph: Graph,
-    pub(crate) role: Role,
-    pub(crate) digest: [u8; 32],
-    pub(crate) views: ViewTable,
-    pub(crate) targets: TargetTable,
+    graph: Graph,
+    role: Role,
+    digest: [u8; 32],
+    views: ViewTable,
+    targets: TargetTable,
 }
 
 impl Model for Program {
@@ -35,6 +35,27 @@ impl Model for Program {
 }
 
 impl Program {
+    /// The program of an accepted graph for one of its roles, of its parts. It takes no memory.
+    pub fn new(
+        graph: Graph,
+        role: Role,
+        digest: [u8; 32],
+        views: ViewTable,
+        targets: TargetTable,
+    ) -> Program
+        requires program { IsProgram real (record { graph = graph; role = role; digest = digest; views = views_of views; targets = targets }) }
+        requires shown { All (λ s. Shows graph role s.walk s.view) views }
+        ensures { result ≡ record { graph = graph; role = role; digest = digest; views = views_of views; targets = targets } }
+    {
+        Program {
+            graph,
+            role,
+            digest,
+            views,
+            targets,
+        }
+    }
+
     /// The graph. It takes no memory.
     pub fn graph(&self) -> &Graph
         ensures graph { result.now ≡ self.now.graph }

@@ -102,7 +102,7 @@ impl Programs {
     }
 
     /// Adds a program that clashes with none. If memory runs out, the programs are as before, and the program comes back.
-    pub(crate) fn push(&mut self, program: Program) -> Result<(), Program>
+    pub fn push(&mut self, program: Program) -> Result<(), Program>
         requires { list_any (clashes program) self.old ≡ false }
         ensures added { OnOk result (self.new ≡ self.old ++ program ∷ []) }
         ensures err { OnErr result (self.new ≡ self.old) }

@@ -22,7 +22,7 @@ use Rattle.sg_protocol.specs.IsSchedule.{IsProgram}
 use Rattle.sg_protocol.specs.Ranges.{IsCallInRange}
 use Rattle.sg_protocol.specs.Representation.{Held, held, RepresentsWaiting, RepresentsAtTurn, nothing_kept, held_after}
 use Rattle.sg_protocol.specs.Live.{IsSound, IsLive}
-use Rattle.sg_protocol.specs.NodeStates.{NodeState, IsBackedLive, RepresentsLive, RepresentEach, RepresentsIf, RepresentsNode, has_sid, is_held_for, is_spent, unless_spent, still_held, begun, joined_by, replace_held, with_join, with_live, state_taking, state_after, NodeStatesRepresent}
+use Rattle.sg_protocol.specs.NodeStates.{NodeState, IsReachableLive, RepresentsLive, RepresentEach, RepresentsIf, RepresentsNode, has_sid, is_held_for, is_spent, unless_spent, still_held, begun, joined_by, replace_held, with_join, with_live, state_taking, state_after, NodeStatesRepresent}
 use Rattle.sg_protocol.proofs.Course.{node_more}
 use Rattle.sg_protocol.proofs.First.{programs_after}
 use Rattle.sg_protocol.proofs.Live.{node_sound, all_sound}
@@ -246,8 +246,8 @@ module _ (sha : Hash) (hash : IsHash sha) (ps : List Program) where
     each_represents' hs ss e.1 a.1,
   )
 
-after_backed : (sha : Hash) → IsHash sha → (st : NodeState) (n : Node) (c : Call) → AllByRecursion (IsProgram sha) n.programs → AllByRecursion (IsBackedLive sha n.programs) st.live → IsCallInRange c → RepresentsNode st n → RepresentsNode (state_after st c (answer sha n c)) (node_after n c (answer sha n c))
-after_backed sha hash st n c programs reachable good s =
+after_reachable : (sha : Hash) → IsHash sha → (st : NodeState) (n : Node) (c : Call) → AllByRecursion (IsProgram sha) n.programs → AllByRecursion (IsReachableLive sha n.programs) st.live → IsCallInRange c → RepresentsNode st n → RepresentsNode (state_after st c (answer sha n c)) (node_after n c (answer sha n c))
+after_reachable sha hash st n c programs reachable good s =
     let a : Answer = answer sha n c in
     let h : HoldsNode st n = record { keys = s.keys; programs = s.programs; joins = s.joins; live = each_holds n.programs st.live n.live s.live } in
     let r : HoldsNode (state_after st c a) (node_after n c a) = holds_after st n h c a in
@@ -270,7 +270,7 @@ node_states_represent sha hash = record {
   finds_session = λ ps hs ss sid a. found ps (has_sid sid) (λ s. bytes_eq s.sid sid) (same_sid ps sid) hs ss a;
   finds_for_frame = λ ps hs ss f a. found ps (is_held_for f) (is_for f) (same_for ps f) hs ss a;
   after_call = λ st n c programs live good s. after_call sha hash st n c (recursion_from_All (IsProgram sha) n.programs programs) (recursion_from_All (IsLive sha n.programs) n.live live) good s;
-  after_backed = λ st n c programs reachable good s. after_backed sha hash st n c (recursion_from_All (IsProgram sha) n.programs programs) (recursion_from_All (IsBackedLive sha n.programs) st.live reachable) good s;
+  after_reachable = λ st n c programs reachable good s. after_reachable sha hash st n c (recursion_from_All (IsProgram sha) n.programs programs) (recursion_from_All (IsReachableLive sha n.programs) st.live reachable) good s;
   after_past = λ st past c programs good its now s.
       let first : Node = new_node past.keys past.programs past.first in
       let same : (node_of past).programs ≡ past.programs = programs_past first past.calls in

@@ -25,7 +25,7 @@ use Rattle.sg_protocol.specs.Ranges.{AreValues, IsCallInRange}
 use Rattle.sg_protocol.specs.Representation.{Held, held, RepresentsWaiting, RepresentsAtTurn, held_after}
 use Rattle.sg_protocol.specs.Reachable.{IsReachableWaiting, IsReachableAtTurn}
 use Rattle.sg_protocol.specs.Live.{IsSound, IsLive}
-use Rattle.sg_protocol.specs.NodeStates.{RepresentsLive, RepresentEach, IsBackedLive}
+use Rattle.sg_protocol.specs.NodeStates.{RepresentsLive, RepresentEach, IsReachableLive}
 use Rattle.sg_protocol.proofs.Acts as C
 use Rattle.sg_protocol.proofs.Reachable.{states_are_reachable}
 use Rattle.sg_protocol.proofs.Finding.{find_passes}
@@ -134,14 +134,14 @@ module _ (sha : Hash) (hash : IsHash sha) where
       both p (inr w) (inl b) = absurd (clash (at_turn p.graph s) (same_turn p b.session (w.before).holds (b.represents).holds ∙ (b.represents).turn) w.waits)
       both p (inr w) (inr b) = inr (subst (λ z. RepresentsWaiting p.graph z s) (w.before).holds w, subst (IsReachableWaiting sha p) (w.before).holds b)
 
-      one_reached : RepresentsLive ps h s → IsBackedLive sha ps h → ReachedIn ps s
+      one_reached : RepresentsLive ps h s → IsReachableLive sha ps h → ReachedIn ps s
       one_reached st b = go (program_for ps (s.cast).graph s.role) refl st
         where
           go : (o : Option Program) → program_for ps (s.cast).graph s.role ≡ o → IsSomeAnd o (λ p. RepresentsAtTurn p.graph h s ⊎ RepresentsWaiting p.graph h s) → IsSomeAnd o (λ p. Reached p s)
           go None e k = absurd k
           go (Some p) e k = both p k (subst (λ o. IsSomeAnd o (λ p. IsReachableAtTurn sha p h ⊎ IsReachableWaiting sha p h)) (ap (λ (z : Held). program_for ps (z.cast).graph z.role) (holds p k) ∙ e) b)
 
-    pub each_reached : (hs : List Held) (ss : List Session) → RepresentEach ps hs ss → AllByRecursion (IsBackedLive sha ps) hs → AllByRecursion (ReachedIn ps) ss
+    pub each_reached : (hs : List Held) (ss : List Session) → RepresentEach ps hs ss → AllByRecursion (IsReachableLive sha ps) hs → AllByRecursion (ReachedIn ps) ss
     each_reached [] [] e b = tt
     each_reached [] (s ∷ ss) e b = absurd e
     each_reached (h ∷ hs) [] e b = absurd e

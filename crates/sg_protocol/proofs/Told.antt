@@ -31,7 +31,7 @@ use Rattle.sg_protocol.specs.Notes.{notes, notes_of_start, notes_of_read, hashed
 use Rattle.sg_protocol.specs.Past.{is_frame_of}
 use Rattle.sg_protocol.specs.Run.{cast_in}
 use Rattle.sg_protocol.specs.IsSchedule.{IsProgram}
-use Rattle.sg_protocol.specs.Told.{IsTold, AnswersAreTold, GivesVariables, HasNamed, names_numbers}
+use Rattle.sg_protocol.specs.Told.{IsNamed, AnswersAreNamed, GivesVariables, HasNamed, names_numbers}
 use Rattle.sg_protocol.proofs.Acts as C
 use Rattle.sg_protocol.proofs.Bridge.{has_view-Contains}
 use Rattle.sg_protocol.proofs.Entries.{view_last_edge}
@@ -165,7 +165,7 @@ module _ (sha : Hash) (n : Node) (programs : AllByRecursion (IsProgram sha) n.pr
   IsFrom c x = In n.live x ⊎ ((cast_in c ≡ Some x.cast) × (session_id sha x.cast ≡ x.sid) × In (notes sha n c).hashed (session_text_of x.cast))
 
   pub record TellsFrom (c : Call) (a : Answer) : Type 0 where
-    pub told : IsTold sha n c a
+    pub told : IsNamed sha n c a
     pub there : In n.programs told.program
     pub is_from : IsFrom c told.session
 
@@ -430,5 +430,5 @@ module _ (sha : Hash) (n : Node) (programs : AllByRecursion (IsProgram sha) n.pr
   call_told (Abandon sid0) r a e h = abandon_told sid0 a e h
   call_told (Deliver bs) r a e h = deliver_told bs a e h
 
-pub answers_are_told : (sha : Hash) → AnswersAreTold sha
-answers_are_told sha n c programs r h = (call_told sha n (recursion_from_All (IsProgram sha) n.programs programs) c r (answer sha n c) refl h).told
+pub answers_are_named : (sha : Hash) → AnswersAreNamed sha
+answers_are_named sha n c programs r h = (call_told sha n (recursion_from_All (IsProgram sha) n.programs programs) c r (answer sha n c) refl h).told

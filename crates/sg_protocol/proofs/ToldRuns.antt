@@ -32,7 +32,7 @@ use Rattle.sg_protocol.specs.Premises.{hashed, CollisionFree}
 use Rattle.sg_protocol.specs.Beginnings.{first_steps}
 use Rattle.sg_protocol.specs.IsSchedule.{IsProgram, AreCompiled, IsSchedule, IsStep}
 use Rattle.sg_protocol.specs.Headline.{IsOfCast}
-use Rattle.sg_protocol.specs.Told.{IsTold, GivesVariables, IsAnswered, EntriesAreAnswered, EntriesAreTold, EntriesHaveOneGraph, IsOfOneGraph, StepsAreTold, names_numbers}
+use Rattle.sg_protocol.specs.Told.{IsNamed, GivesVariables, IsAnswered, EntriesAreAnswered, EntriesAreNamed, EntriesHaveOneGraph, IsOfOneGraph, StepsAreNamed, names_numbers}
 use Rattle.sg_protocol.proofs.TextLaws as TL
 use Rattle.sg_protocol.proofs.Course.{Suffix, suffix_all, small_values}
 use Rattle.sg_protocol.proofs.Finding.{find_passes}
@@ -44,7 +44,7 @@ use Rattle.sg_protocol.proofs.ReadBack.{read-SpellsFrame}
 use Rattle.sg_protocol.proofs.Roles.{sessions_have_one_cast}
 use Rattle.sg_protocol.proofs.Sendings.{Known, LogsOk, all_logs, new_logs, step_logs, no_entry}
 use Rattle.sg_protocol.proofs.Sent.{FitSession}
-use Rattle.sg_protocol.proofs.Told.{TellsFrom, call_told, answers_are_told}
+use Rattle.sg_protocol.proofs.Told.{TellsFrom, call_told, answers_are_named}
 use Rattle.sg_protocol.proofs.Whole.{FirstCast, find_some, found_in, program_graph, same_name, same_named}
 
 -- ---- the step of an entry
@@ -205,11 +205,11 @@ module _ (sha : Hash) (hash : IsHash sha) (programs : List Program) (s : Schedul
     tells : names_numbers (answer sha n c) ≡ true → TellsFrom sha n are_programs c (answer sha n c)
     tells h = call_told sha n are_programs c (call_small sha s at (1 + length r.before) r.step c good_step r.one.call) (answer sha n c) refl h
 
-pub entries_are_told : (sha : Hash) → IsHash sha → EntriesAreTold sha
-entries_are_told sha hash programs s compiled sched l c i e a h =
+pub entries_are_named : (sha : Hash) → IsHash sha → EntriesAreNamed sha
+entries_are_named sha hash programs s compiled sched l c i e a h =
     let r = run_step sha programs s l c i e in
     let same = same_past sha programs s l c r a in
-    subst (λ p. IsTold sha (node_of p) c (answer sha (node_of p) c)) same
+    subst (λ p. IsNamed sha (node_of p) c (answer sha (node_of p) c)) same
     (tells sha hash programs s compiled sched l c r (subst (λ p. names_numbers (answer sha (node_of p) c) ≡ true) (sym same) h)).told
 
 -- ---- one cast and one graph
@@ -284,7 +284,7 @@ module _ (sha : Hash) (hash : IsHash sha) (programs : List Program) (s : Schedul
       let y = find_some test s.graphs p.graph there ((bytes_eq-Decides (graph_digest sha p.graph) digest).1 (sym ip.digest ∙ sym d)) in
       y.1 ∙ ap (λ z. Some z) (same_digest free y.0 p.graph (found_in test s.graphs y.0 y.1) there (same_bytes (graph_digest sha y.0) digest (find_passes test s.graphs y.0 y.1) ∙ d ∙ ip.digest))
 
-  one_graph : CollisionFree sha (hashed s w) → (u : IsTold sha n' c (answer sha n' c)) → IsOfOneGraph sha s w n' (answer sha n' c) u.program u.session
+  one_graph : CollisionFree sha (hashed s w) → (u : IsNamed sha n' c (answer sha n' c)) → IsOfOneGraph sha s w n' (answer sha n' c) u.program u.session
   one_graph free u =
       let two : Some (t.told.program, t.told.session) ≡ Some (u.program, u.session) = sym t.told.is_session ∙ u.is_session in
       let pair : (t.told.program, t.told.session) ≡ (u.program, u.session) = cc in
@@ -310,12 +310,12 @@ module _ (sha : Hash) (hash : IsHash sha) (programs : List Program) (s : Schedul
 
 -- what is claimed of an entry, with the past of its principal
 abbrev HasOneGraph : (sha : Hash) (programs : List Program) (s : Schedule) (c : Call) → Past → Type 0
-HasOneGraph sha programs s c p = names_numbers (answer sha (node_of p) c) ≡ true → (u : IsTold sha (node_of p) c (answer sha (node_of p) c)) → IsOfOneGraph sha s (run sha programs s) (node_of p) (answer sha (node_of p) c) u.program u.session
+HasOneGraph sha programs s c p = names_numbers (answer sha (node_of p) c) ≡ true → (u : IsNamed sha (node_of p) c (answer sha (node_of p) c)) → IsOfOneGraph sha s (run sha programs s) (node_of p) (answer sha (node_of p) c) u.program u.session
 
 pub entries_have_one_graph : (sha : Hash) → IsHash sha → EntriesHaveOneGraph sha
 entries_have_one_graph sha hash programs s compiled sched free l c i e a =
     let r = run_step sha programs s l c i e in
     subst (HasOneGraph sha programs s c) (same_past sha programs s l c r a) (λ h u. one_graph sha hash programs s compiled sched l c (in_from_Contains (run sha programs s).log l i) e r h free u)
 
-pub steps_are_told : (sha : Hash) → IsHash sha → StepsAreTold sha
-steps_are_told sha hash = record { at_nodes = answers_are_told sha; answered = entries_are_answered sha; told = entries_are_told sha hash; one_graph = entries_have_one_graph sha hash }
+pub steps_are_named : (sha : Hash) → IsHash sha → StepsAreNamed sha
+steps_are_named sha hash = record { at_nodes = answers_are_named sha; answered = entries_are_answered sha; told = entries_are_named sha hash; one_graph = entries_have_one_graph sha hash }

@@ -122,8 +122,8 @@ state_after st (Deliver bytes) (Happened (Received sid r label time values joins
 state_after st call other = st
 
 -- some sound session stands behind what is held, under the program for its graph and role
-abbrev pub IsBackedLive : Hash → List Program → Held → Type 0
-IsBackedLive sha programs h = IsSomeAnd (program_for programs (h.cast).graph h.role) (λ p. IsReachableAtTurn sha p h ⊎ IsReachableWaiting sha p h)
+abbrev pub IsReachableLive : Hash → List Program → Held → Type 0
+IsReachableLive sha programs h = IsSomeAnd (program_for programs (h.cast).graph h.role) (λ p. IsReachableAtTurn sha p h ⊎ IsReachableWaiting sha p h)
 
 -- ---- the laws
 
@@ -134,7 +134,7 @@ pub record NodeStatesRepresent (sha : Hash) : Type 0 where
   pub finds_for_frame : (programs : List Program) (hs : List Held) (ss : List Session) (f : Frame) → RepresentEach programs hs ss → RepresentsIf programs (find (is_held_for f) hs) (session_for ss f)
   pub after_call : (st : NodeState) (n : Node) (c : Call) → All (IsProgram sha) n.programs → All (IsLive sha n.programs) n.live → IsCallInRange c → RepresentsNode st n → RepresentsNode (state_after st c (answer sha n c)) (node_after n c (answer sha n c))
   -- so does it where some sound session stands behind each thing held, whatever the sessions of the node are
-  pub after_backed : (st : NodeState) (n : Node) (c : Call) → All (IsProgram sha) n.programs → All (IsBackedLive sha n.programs) st.live → IsCallInRange c → RepresentsNode st n → RepresentsNode (state_after st c (answer sha n c)) (node_after n c (answer sha n c))
+  pub after_reachable : (st : NodeState) (n : Node) (c : Call) → All (IsProgram sha) n.programs → All (IsReachableLive sha n.programs) st.live → IsCallInRange c → RepresentsNode st n → RepresentsNode (state_after st c (answer sha n c)) (node_after n c (answer sha n c))
   -- and so for each past whose answers are those of the node
   pub after_past : (st : NodeState) (past : Past) (c : Call) → All (IsProgram sha) past.programs → All (λ c. IsCallInRange c.call) past.calls → AreAnswers sha (new_node past.keys past.programs past.first) past.calls → IsCallInRange c →
       RepresentsPast st past → RepresentsPast (state_after st c (answer sha (node_of past) c)) (past_after sha past c)

@@ -68,7 +68,7 @@ HasNamed g c (NotDelivered (BadOpening x)) = x < length g.variables
 HasNamed g c other = ⊤
 
 -- the call is of a session, whose program's graph has what the answer names, and whose sid and role an event has
-pub record IsTold (sha : Hash) (n : Node) (c : Call) (a : Answer) : Type 0 where
+pub record IsNamed (sha : Hash) (n : Node) (c : Call) (a : Answer) : Type 0 where
   pub program : Program
   pub session : Session
   pub is_session : session_of_call sha n c ≡ Some (program, session)
@@ -84,8 +84,8 @@ GivesVariables (Act sid label values confounders) = AllByRecursion (λ x. x < 25
 GivesVariables c = ⊤
 
 -- What any node answers to such a call has its names in the graph of the call, if its programs are programs
-abbrev pub AnswersAreTold : Hash → Type 0
-AnswersAreTold sha = (n : Node) (c : Call) → All (IsProgram sha) n.programs → GivesVariables c → names_numbers (answer sha n c) ≡ true → IsTold sha n c (answer sha n c)
+abbrev pub AnswersAreNamed : Hash → Type 0
+AnswersAreNamed sha = (n : Node) (c : Call) → All (IsProgram sha) n.programs → GivesVariables c → names_numbers (answer sha n c) ≡ true → IsNamed sha n c (answer sha n c)
 
 -- ---- in runs
 
@@ -102,9 +102,9 @@ abbrev pub EntriesAreAnswered : Hash → Type 0
 EntriesAreAnswered sha = (programs : List Program) (s : Schedule) (l : Logged) (c : Call) → Contains (run sha programs s).log l → l.call ≡ Some c → IsAnswered sha programs s l c
 
 -- Each entry of a run that names a role, a label or a variable has its names in the graph of its call
-abbrev pub EntriesAreTold : Hash → Type 0
-EntriesAreTold sha = (programs : List Program) (s : Schedule) → AreCompiled sha s.graphs programs → IsSchedule sha s → (l : Logged) (c : Call) → Contains (run sha programs s).log l → l.call ≡ Some c →
-    (a : IsAnswered sha programs s l c) → names_numbers (answer sha (node_of a.past) c) ≡ true → IsTold sha (node_of a.past) c (answer sha (node_of a.past) c)
+abbrev pub EntriesAreNamed : Hash → Type 0
+EntriesAreNamed sha = (programs : List Program) (s : Schedule) → AreCompiled sha s.graphs programs → IsSchedule sha s → (l : Logged) (c : Call) → Contains (run sha programs s).log l → l.call ≡ Some c →
+    (a : IsAnswered sha programs s l c) → names_numbers (answer sha (node_of a.past) c) ≡ true → IsNamed sha (node_of a.past) c (answer sha (node_of a.past) c)
 
 -- the session and its program are of the graph that the schedule has for its cast, and the cast is the one of its sid, if that has an event, as that of an event and of a live session has
 pub record IsOfOneGraph (sha : Hash) (s : Schedule) (w : World) (n : Node) (a : Answer) (p : Program) (x : Session) : Type 0 where
@@ -118,11 +118,11 @@ abbrev pub EntriesHaveOneGraph : Hash → Type 0
 EntriesHaveOneGraph sha = (programs : List Program) (s : Schedule) → AreCompiled sha s.graphs programs → IsSchedule sha s →
     let w = run sha programs s in
     CollisionFree sha (hashed s w) → (l : Logged) (c : Call) → Contains w.log l → l.call ≡ Some c → (a : IsAnswered sha programs s l c) → names_numbers (answer sha (node_of a.past) c) ≡ true →
-    (t : IsTold sha (node_of a.past) c (answer sha (node_of a.past) c)) → IsOfOneGraph sha s w (node_of a.past) (answer sha (node_of a.past) c) t.program t.session
+    (t : IsNamed sha (node_of a.past) c (answer sha (node_of a.past) c)) → IsOfOneGraph sha s w (node_of a.past) (answer sha (node_of a.past) c) t.program t.session
 
 -- where the entries of a run have their names
-pub record StepsAreTold (sha : Hash) : Type 0 where
-  pub at_nodes : AnswersAreTold sha
+pub record StepsAreNamed (sha : Hash) : Type 0 where
+  pub at_nodes : AnswersAreNamed sha
   pub answered : EntriesAreAnswered sha
-  pub told : EntriesAreTold sha
+  pub told : EntriesAreNamed sha
   pub one_graph : EntriesHaveOneGraph sha

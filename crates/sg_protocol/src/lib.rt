@@ -40,7 +40,7 @@ ghost use Rattle.sg_protocol.specs.Completeness.{DeliveryIsComplete};
 ghost use Rattle.sg_protocol.specs.GoesOn.{SessionsGoOn};
 ghost use Rattle.sg_protocol.specs.Turn.{TurnIsOfSession};
 ghost use Rattle.sg_protocol.specs.Restarts.{RestartsAbandon, NoRestartsNoChange, LivesJoinOnce, ToldJoinOnce, RestartsAreAbandonments, HeadlineOverRestarts, ReceiptsHaveSendsOverRestarts, SessionsHaveOneCastOverRestarts, NoneTakesTwoRolesOverRestarts, FramesShowLastStepsOverRestarts};
-ghost use Rattle.sg_protocol.specs.Told.{StepsAreTold};
+ghost use Rattle.sg_protocol.specs.Told.{StepsAreNamed};
 ghost use Rattle.sg_protocol.specs.Claims.{ClaimsAreKept, EventsStandOnce};
 
 /// What is read from the spelling of a frame is this frame, so no two frames have one spelling.
@@ -261,8 +261,8 @@ pub fn single_steps()
 /// programs. Each entry of a run with a call is what the node of its principal's past, before the step, answers to the call, so
 /// each such entry has its names so. If no two hashed texts of the run have one digest, the graph is the one that the schedule has for
 /// the session's cast, and this is the cast of the sid's first event, if there is one, as for an event and a live session.
-pub fn steps_are_told()
-    ensures { (sha : List ℕ → List ℕ) → IsHash sha → StepsAreTold sha }
+pub fn steps_are_named()
+    ensures { (sha : List ℕ → List ℕ) → IsHash sha → StepsAreNamed sha }
 {}
 
 /// What breaks an assumption first is computed: there is no first forged note exactly if no tag of two honest principals was

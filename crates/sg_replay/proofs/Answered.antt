@@ -11,7 +11,7 @@ use Rattle.sg_audit.specs.Merged.{Log}
 use Rattle.sg_audit.specs.declared.answer.Audit.{Audit}
 use Rattle.sg_audit.specs.declared.answer.Audit.TheVariants.{Yes, Clash, No}
 use Rattle.sg_audit.specs.Sessions.{Session}
-use Rattle.sg_audit.specs.Taken.{session_of}
+use Rattle.sg_audit.specs.TakingLines.{session_of}
 use Rattle.sg_audit.specs.declared.session.SessionLog.{SessionLog}
 use Rattle.sg_replay.specs.Audited.{Answered, AllAnswered, Done, Then}
 

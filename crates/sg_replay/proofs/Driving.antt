@@ -5,7 +5,7 @@ use Rattle.sg_model.specs.Limits.{most_driven, most_steps}
 use Rattle.sg_model.specs.Lists.{range_from}
 use Rattle.sg_model.proofs.Numbers.{length-range_from}
 use Rattle.sg_parse.specs.Grammar.{SpellsGraph}
-use Rattle.sg_program.specs.Compiled.{IsWhole}
+use Rattle.sg_compile.specs.Compiled.{IsWhole}
 use Rattle.sg_protocol.specs.Graph.{Graph}
 use Rattle.sg_protocol.specs.IsSchedule.{AreCompiled}
 use Rattle.sg_protocol.specs.Keyring.{Program}
@@ -15,7 +15,7 @@ use Rattle.sg_protocol.proofs.Joins.{none_joins_twice}
 use Rattle.sg_world.specs.Laws.{RunLaws}
 use Rattle.sg_world.specs.Replay.{Replay, without_steps}
 use Rattle.sg_drive.specs.Faults.{IsGenerateFault}
-use Rattle.sg_drive.specs.Held.{Drive, IsDrive}
+use Rattle.sg_drive.specs.GeneratorModel.{Drive, IsDrive}
 use Rattle.sg_drive.specs.Setup.{numbered_session, setup}
 use Rattle.sg_drive.specs.Summary.{IsSummary}
 use Rattle.sg_drive.specs.declared.fault.GenerateFault.{GenerateFault}

@@ -9,10 +9,10 @@ use Rattle.sg_drive.specs.Going.{Going}
 use Rattle.sg_drive.specs.Laws.{GeneratedIsOne}
 use Rattle.sg_model.specs.Limits.{most_graph_file, most_logs_file, most_schedule_file}
 use Rattle.sg_parse.specs.Grammar.{SpellsGraph}
-use Rattle.sg_program.specs.Compiled.{IsWhole}
-use Rattle.sg_program.specs.declared.check.CompileFault.{CompileFault}
-use Rattle.sg_program.specs.declared.check.CompileFault.TheVariants.{OutOfMemory}
-use Rattle.sg_program.proofs.Refusals.{all_or_refused, one_compilation, one_index}
+use Rattle.sg_compile.specs.Compiled.{IsWhole}
+use Rattle.sg_compile.specs.declared.check.CompileFault.{CompileFault}
+use Rattle.sg_compile.specs.declared.check.CompileFault.TheVariants.{OutOfMemory}
+use Rattle.sg_compile.proofs.Refusals.{all_or_refused, one_compilation, one_index}
 use Rattle.sg_protocol.specs.Graph.{Graph}
 use Rattle.sg_protocol.specs.IsSchedule.{AreCompiled}
 use Rattle.sg_protocol.specs.Keyring.{Program}

@@ -7,7 +7,7 @@ use Rattle.sg_protocol.specs.Keyring.{Program}
 use Rattle.sg_protocol.specs.Schedule.{Schedule}
 use Rattle.sg_protocol.specs.Texts.{real}
 use Rattle.sg_protocol.proofs.Joins.{none_joins_twice}
-use Rattle.sg_program.specs.Compiled.{IsWhole}
+use Rattle.sg_compile.specs.Compiled.{IsWhole}
 use Rattle.sg_report.specs.Report.{IsReport}
 use Rattle.sg_sched.specs.Format.Spells.{SpellsSchedule}
 use Rattle.sg_world.specs.Account.{CanBeNamed, account}

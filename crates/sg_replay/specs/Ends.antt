@@ -10,7 +10,7 @@ use Rattle.sg_parse.specs.Reading.{read as parsed}
 use Rattle.sg_audit.specs.Sessions.{Logs}
 use Rattle.sg_audit.specs.Spells.{SpellsLogs, IsFault}
 use Rattle.sg_audit.specs.declared.fault.LogFault.{LogFault}
-use Rattle.sg_program.specs.Compiled.{IsWhole}
+use Rattle.sg_compile.specs.Compiled.{IsWhole}
 use Rattle.sg_sched.specs.Format.Kinds.{Kind}
 use Rattle.sg_sched.specs.Format.Spells.{SpellsSchedule, IsFirstFault}
 use Rattle.sg_ending.specs.Ending.{Ending, NoGraph, GraphRefused, WrongLine, NoMemory, TooLarge}

@@ -2,8 +2,8 @@
 ghost use Rattle.std.specs.Prelude.{◌≡◌, ◌++◌, ℕ, List, All, IfOk, OnOk, codes, map};
 ghost use Rattle.sg_audit.specs.Agree.{AreLogs};
 ghost use Rattle.sg_audit.specs.Answers.{IsAnswer};
-ghost use Rattle.sg_audit.specs.Model.{logs_of, told_of};
-ghost use Rattle.sg_audit.specs.Taken.{session_of};
+ghost use Rattle.sg_audit.specs.Model.{logs_of, reported_of};
+ghost use Rattle.sg_audit.specs.TakingLines.{session_of};
 ghost use Rattle.sg_protocol.specs.Walk.{IsStoredWalk};
 ghost use Rattle.sg_walk.specs.Model.{steps_of};
 ghost use Rattle.sg_replay.specs.Audited.{AllAnswered, Answered, answer_text, clash_text, said_text, yes_text};
@@ -21,7 +21,7 @@ pub fn answers_text(
     graph: &Graph,
     sessions: &[SessionLog],
 ) -> Result<Vec<u8>, OutOfMemory>
-    requires { All (λ s. AreLogs graph.now (logs_of s) (told_of s)) sessions.now }
+    requires { All (λ s. AreLogs graph.now (logs_of s) (reported_of s)) sessions.now }
     ensures { IfOk result (λ text. AllAnswered graph.now (map session_of sessions.now) text.items) }
 {
     let mut text = ByteOut::new(alloc);
@@ -38,7 +38,7 @@ fn put_session(
     graph: &Graph,
     session: &SessionLog,
 ) -> Result<(), OutOfMemory>
-    requires { AreLogs graph.now (logs_of session.now) (told_of session.now) }
+    requires { AreLogs graph.now (logs_of session.now) (reported_of session.now) }
     ensures { OnOk result ((text : List ℕ) × Answered graph.now (session_of session.now) text × (out.new ≡ out.old ++ text)) }
 {
     let answer = audit(alloc, graph, session)?;
@@ -53,8 +53,8 @@ fn put_answer(
     session: &SessionLog,
     answer: &Audit,
 ) -> Result<(), OutOfMemory>
-    requires logs { AreLogs graph.now (logs_of session.now) (told_of session.now) }
-    requires answer { IsAnswer graph.now (logs_of session.now) (told_of session.now) answer.now }
+    requires logs { AreLogs graph.now (logs_of session.now) (reported_of session.now) }
+    requires answer { IsAnswer graph.now (logs_of session.now) (reported_of session.now) answer.now }
     ensures { OnOk result (out.new ≡ out.old ++ answer_text graph.now (session_of session.now) answer.now) }
 {
     match answer {
@@ -71,7 +71,7 @@ fn put_yes(
     session: &SessionLog,
     walk: &StoredWalk,
 ) -> Result<(), OutOfMemory>
-    requires logs { AreLogs graph.now (logs_of session.now) (told_of session.now) }
+    requires logs { AreLogs graph.now (logs_of session.now) (reported_of session.now) }
     requires walk { IsStoredWalk graph.now (steps_of walk.now) }
     ensures { OnOk result (out.new ≡ out.old ++ yes_text graph.now (session_of session.now) (steps_of walk.now)) }
 {

@@ -3,11 +3,11 @@ ghost use Rattle.std.specs.Prelude.{◌≡◌, ◌≤◌, ◌∷◌, [], All, le
 ghost use Rattle.sg_model.specs.Limits.{most_logs_file};
 ghost use Rattle.sg_protocol.specs.IsSchedule.{AreCompiled};
 ghost use Rattle.sg_protocol.specs.Texts.{real};
-ghost use Rattle.sg_program.specs.Compiled.{IsWhole};
+ghost use Rattle.sg_compile.specs.Compiled.{IsWhole};
 ghost use Rattle.sg_audit.specs.Agree.{AreLogs};
-ghost use Rattle.sg_audit.specs.Model.{logs_of, told_of};
+ghost use Rattle.sg_audit.specs.Model.{logs_of, reported_of};
 ghost use Rattle.sg_audit.specs.Spells.{SpellsLogs};
-ghost use Rattle.sg_audit.specs.Taken.{logs_held, session_of};
+ghost use Rattle.sg_audit.specs.TakingLines.{logs_held, session_of};
 ghost use Rattle.sg_ending.specs.Files.{OnFile};
 ghost use Rattle.sg_ending.specs.Model.{ending_held};
 ghost use Rattle.sg_replay.specs.Ends.{Audits};
@@ -16,9 +16,10 @@ ghost use Rattle.sg_replay.specs.Faults.{ending_of_logs};
 use crate::answer::answers_text;
 use sg_audit::{LogFault, Logs, SessionLog, read_logs};
 use sg_base::{Files, Sink, write_all};
+use sg_compile::{AllFault, compile_all};
 use sg_ending::{Ending, Wrong, read_file};
 use sg_graph::Graph;
-use sg_program::{AllFault, Programs, compile_all};
+use sg_program::Programs;
 use std::alloc::Global;
 use std::slice;
 
@@ -78,7 +79,7 @@ fn refused(fault: LogFault) -> Ending<'static>
 // Audits the logs that the bytes spell.
 fn audit_logs<O: Sink>(alloc: Global, bytes: &[u8], logs: Logs, out: &mut O) -> Ending<'static>
     requires spelled { SpellsLogs bytes.now (logs_held logs) }
-    requires fit { All (λ s. AreLogs logs.graph (logs_of s) (told_of s)) logs.sessions }
+    requires fit { All (λ s. AreLogs logs.graph (logs_of s) (reported_of s)) logs.sessions }
     ensures { Audits bytes.now (record { bytes = O.written out.old; faults = O.faults out.old }) (record { bytes = O.written out.new; faults = O.faults out.new }) (ending_held result) }
 {
     let Logs { graph, sessions } = logs;
@@ -95,7 +96,7 @@ fn audit_sessions<O: Sink>(
 ) -> Ending<'static>
     requires spelled { SpellsLogs bytes.now (record { graph = graph; sessions = map session_of sessions.now }) }
     requires two { 2 ≤ length graph.roles }
-    requires fit { All (λ s. AreLogs graph (logs_of s) (told_of s)) sessions.now }
+    requires fit { All (λ s. AreLogs graph (logs_of s) (reported_of s)) sessions.now }
     ensures { Audits bytes.now (record { bytes = O.written out.old; faults = O.faults out.old }) (record { bytes = O.written out.new; faults = O.faults out.new }) (ending_held result) }
 {
     match compile_all(alloc, slice::from_ref(&graph)) {
@@ -115,7 +116,7 @@ fn say_answers<O: Sink>(
     out: &mut O,
 ) -> Ending<'static>
     requires spelled { SpellsLogs bytes.now (record { graph = graph.now; sessions = map session_of sessions.now }) }
-    requires fit { All (λ s. AreLogs graph.now (logs_of s) (told_of s)) sessions.now }
+    requires fit { All (λ s. AreLogs graph.now (logs_of s) (reported_of s)) sessions.now }
     requires compiled { AreCompiled real (graph.now ∷ []) programs.now }
     requires few { All IsWhole programs.now }
     ensures { Audits bytes.now (record { bytes = O.written out.old; faults = O.faults out.old }) (record { bytes = O.written out.new; faults = O.faults out.new }) (ending_held result) }

@@ -7,17 +7,18 @@ ghost use Rattle.sg_model.specs.Limits.{most_driven, most_graph_file};
 ghost use Rattle.sg_protocol.specs.IsSchedule.{AreCompiled};
 ghost use Rattle.sg_protocol.specs.Texts.{real};
 ghost use Rattle.sg_parse.specs.Grammar.{SpellsGraph};
-ghost use Rattle.sg_program.specs.Compiled.{IsWhole};
+ghost use Rattle.sg_compile.specs.Compiled.{IsWhole};
 ghost use Rattle.sg_ending.specs.Files.{OnFile};
 ghost use Rattle.sg_ending.specs.Model.{ending_held};
 ghost use Rattle.sg_replay.specs.Driven.{StopsDrive, Sums};
 ghost use Rattle.sg_replay.specs.Ends.{Drives};
 
 use sg_base::{Files, Sink, write_all};
+use sg_compile::{AllFault, compile_all};
 use sg_drive::{GenerateFault, generate, summary};
 use sg_ending::{Ending, MOST_GRAPH_BYTES, graph_of, read_file};
 use sg_graph::Graph;
-use sg_program::{AllFault, Programs, compile_all};
+use sg_program::Programs;
 use std::alloc::Global;
 use std::{mem, slice};
 

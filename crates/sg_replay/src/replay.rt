@@ -4,12 +4,12 @@
 //! a send, frames show the last steps of honest senders, and a frame that is awaited and delivered is received (`sg_world::laws`).
 ghost use Rattle.std.specs.Prelude.{◌≡◌, ◌<◌, ◌≤◌, true, All, IfErr, IfOk, OnOk, length};
 ghost use Rattle.sg_model.specs.Limits.{most_schedule_file, most_steps};
-ghost use Rattle.sg_program.specs.All.{IsAllFault};
-ghost use Rattle.sg_program.specs.Compiled.{IsWhole};
+ghost use Rattle.sg_compile.specs.All.{IsAllFault};
+ghost use Rattle.sg_compile.specs.Compiled.{IsWhole};
 ghost use Rattle.sg_protocol.specs.IsSchedule.{AreCompiled};
 ghost use Rattle.sg_protocol.specs.Steps.{is_taken};
 ghost use Rattle.sg_protocol.specs.Texts.{real};
-ghost use Rattle.sg_sched_text.specs.Taken.{kind_of};
+ghost use Rattle.sg_sched_text.specs.TakingLines.{kind_of};
 ghost use Rattle.sg_world.specs.Faults.{IsFull};
 ghost use Rattle.sg_sched.specs.Steps.{CanBeTaken};
 ghost use Rattle.sg_world.specs.Replay.{with_taken};
@@ -23,9 +23,10 @@ ghost use Rattle.sg_replay.specs.Faults.{ending_of_fault, ending_of_line};
 ghost use Rattle.sg_replay.specs.Replayed.{CanBeReplayed, HasNoRoom, Reports, Stops};
 
 use sg_base::{Files, Sink, write_all};
+use sg_compile::{AllFault, compile_all};
 use sg_ending::{Ending, Wrong, read_file};
 use sg_graph::Graph;
-use sg_program::{AllFault, Programs, compile_all};
+use sg_program::Programs;
 use sg_sched::{Kind, LineFault, Schedule, Step};
 use sg_sched_text::read_schedule;
 use sg_world::laws::runs_of_replays;

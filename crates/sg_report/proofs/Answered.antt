@@ -16,7 +16,7 @@ use Rattle.sg_protocol.specs.Run.{frame_in}
 
 -- the answer is one that sends nothing, and this is reported of it
 abbrev pub SendsNothing : ℕ → Answer → Option Reported → Type 0
-SendsNothing number a told = (told ≡ Some (reported_answer number a)) × (None ≡ frame_in a)
+SendsNothing number a reported = (reported ≡ Some (reported_answer number a)) × (None ≡ frame_in a)
 
 -- a fault that is not `OutOfMemory`
 abbrev pub Given : {F : Type 0} → Option F → Type 0
@@ -25,9 +25,9 @@ Given {F} o = (f : F) × (o ≡ Some f)
 -- what is reported of a fault
 refused : {F : Type 0} (number : ℕ) (a : Answer) (g : F → Answer) (t : F → Reported) (o : Option F) → ((f : F) → reported_answer number (g f) ≡ t f) → ((f : F) → frame_in (g f) ≡ None) → Given o
     → IsAnswer a (option_map g o) → SendsNothing number a (option_map t o)
-refused number a g t o told frame f h =
+refused number a g t o reported frame f h =
     let is : a ≡ g f.0 = subst (λ z. IsAnswer a (option_map g z)) f.1 h in
-    (ap (option_map t) f.1 ∙ ap (λ (z : Reported). Some z) (sym (told f.0) ∙ ap (reported_answer number) (sym is)), sym (ap frame_in is ∙ frame f.0))
+    (ap (option_map t) f.1 ∙ ap (λ (z : Reported). Some z) (sym (reported f.0) ∙ ap (reported_answer number) (sym is)), sym (ap frame_in is ∙ frame f.0))
 
 -- no fault is `OutOfMemory`, but that one
 start_given : (fault : StartFault) → fault ≢ starting.OutOfMemory → Given (start_fault fault)
@@ -77,7 +77,7 @@ not_delivered number a fault ne h = refused number a Protocol.NotDelivered NotDe
 
 -- an answer without a frame
 pub quiet : (number : ℕ) (a given : Answer) (t : Reported) → reported_answer number given ≡ t → frame_in given ≡ None → a ≡ given → SendsNothing number a (Some t)
-quiet number a given t told frame is = (ap (λ (z : Reported). Some z) (sym told ∙ ap (reported_answer number) (sym is)), sym (ap frame_in is ∙ frame))
+quiet number a given t reported frame is = (ap (λ (z : Reported). Some z) (sym reported ∙ ap (reported_answer number) (sym is)), sym (ap frame_in is ∙ frame))
 
 -- what failed so failed by one error
 pub err_same : {A E : Type 0} (r : Result A E) (d e : E) → r ≡ Err d → r ≡ Err e → d ≡ e

@@ -6,9 +6,9 @@ use Rattle.sg_protocol.specs.Told.{names_numbers}
 use Rattle.sg_report.specs.Reported.{CanBeReported, reported_answer}
 
 -- an answer that names no number has its names in any graph, or in none
-pub told-without_numbers : (graph : Option Graph) (n : ℕ) (a : Answer) → names_numbers a ≡ false → CanBeReported graph (reported_answer n a)
-told-without_numbers graph n (Happened e) h = absurd (true≢false h)
-told-without_numbers graph n (Sends e to f) h = absurd (true≢false h)
-told-without_numbers graph n (NotActed (ActFault.Send (SendFault.BadValues x))) h = absurd (true≢false h)
-told-without_numbers graph n (NotDelivered (Refusal.BadOpening x)) h = absurd (true≢false h)
-told-without_numbers graph n other h = tt
+pub reported-without_numbers : (graph : Option Graph) (n : ℕ) (a : Answer) → names_numbers a ≡ false → CanBeReported graph (reported_answer n a)
+reported-without_numbers graph n (Happened e) h = absurd (true≢false h)
+reported-without_numbers graph n (Sends e to f) h = absurd (true≢false h)
+reported-without_numbers graph n (NotActed (ActFault.Send (SendFault.BadValues x))) h = absurd (true≢false h)
+reported-without_numbers graph n (NotDelivered (Refusal.BadOpening x)) h = absurd (true≢false h)
+reported-without_numbers graph n other h = tt

@@ -26,8 +26,8 @@ reported_text session g NoFrame = codes "refused no-frame"
 -- the principal whose step it was, and a space. A craft is nobody's
 abbrev pub by_whom : Name → Reported → List ℕ
 by_whom who (Crafted frame) = []
-by_whom who told = who ++ 32 ∷ []
+by_whom who reported = who ++ 32 ∷ []
 
 -- the line of step k of a principal
 abbrev pub line_text : (session : List ℕ) → Graph → ℕ → (who : Name) → Reported → List ℕ
-line_text session g k who told = decimal k ++ 32 ∷ by_whom who told ++ reported_text session g told ++ 10 ∷ []
+line_text session g k who reported = decimal k ++ 32 ∷ by_whom who reported ++ reported_text session g reported ++ 10 ∷ []

@@ -18,7 +18,7 @@ pub record StepLine : Type 0 where
   pub who : Option Name
   pub session : Option (List ℕ)
   pub graph : Option Graph
-  pub told : Reported
+  pub reported : Reported
 
 -- a tag of two honest principals that was found right in a step, and that nobody had made
 pub record Forgery : Type 0 where
@@ -48,7 +48,7 @@ name_in m sid = session_name 120 m sid
 
 -- the line of step k
 abbrev pub line : KnownSessions → ℕ → StepLine → List ℕ
-line m k l = line_text (option_map_or (name_in m) l.session []) (graph_or_none l.graph) k (unwrap_or l.who []) l.told
+line m k l = line_text (option_map_or (name_in m) l.session []) (graph_or_none l.graph) k (unwrap_or l.who []) l.reported
 
 -- the lines of these steps, the first of number k
 abbrev pub lines_from : KnownSessions → ℕ → List StepLine → List ℕ

@@ -54,7 +54,7 @@ event_reported other = None
 
 -- the session of the event that is reported
 abbrev pub sid_reported : Reported → Option (List ℕ)
-sid_reported told = option_map sid_of (event_reported told)
+sid_reported reported = option_map sid_of (event_reported reported)
 
 -- the session that a call gives up
 abbrev pub sid_left : Call → Option (List ℕ)
@@ -64,7 +64,7 @@ sid_left other = None
 -- the session that a line names: that of its event, or the one that was left
 abbrev pub session_reported : (left : Option (List ℕ)) → Reported → Option (List ℕ)
 session_reported left Abandoned = left
-session_reported left told = sid_reported told
+session_reported left reported = sid_reported reported
 
 -- if a role, a label or a variable is named by its number, a graph is given that has it
 abbrev pub CanBeReported : Option Graph → Reported → Type 0

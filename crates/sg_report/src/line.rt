@@ -1,5 +1,5 @@
 //! The line of a step.
-ghost use Rattle.std.specs.Prelude.{◌≡◌, ◌++◌, IfOk, IfSome, IsSomeAnd, OnOk, codes};
+ghost use Rattle.std.specs.Prelude.{◌≡◌, ◌++◌, IfOk, IfSome, IsSomeAnd, OnErr, OnOk, codes, length, take};
 ghost use Rattle.std.specs.Option.{option_copied};
 ghost use Rattle.sg_text.specs.Events.{event_text, event_values, sent_to};
 ghost use Rattle.sg_protocol.specs.Told.{HasEvent};
@@ -28,14 +28,15 @@ pub fn report_line(
     outcome: &Outcome,
 ) -> Result<Vec<u8>, OutOfMemory>
     requires { IfSome (outcome_of outcome.now) (CanBeReported (option_copied graph)) }
-    ensures { IfOk result (λ text. IsSomeAnd (outcome_of outcome.now) (λ told. text.items ≡ line_text session.now (graph_or_none (option_copied graph.entry)) step who told)) }
+    ensures { IfOk result (λ text. IsSomeAnd (outcome_of outcome.now) (λ reported. text.items ≡ line_text session.now (graph_or_none (option_copied graph.entry)) step who reported)) }
 {
     let mut out = ByteOut::new(alloc);
     put_line(&mut out, step, who.as_bytes(), session, graph, outcome)?;
     Ok(out.done())
 }
 
-/// Appends the line of a step to what is written.
+/// Appends the line of a step to what is written. If memory runs out, what was written still stands first, with a part of the line
+/// after it or nothing.
 pub fn put_line(
     out: &mut ByteOut,
     step: u64,
@@ -45,7 +46,8 @@ pub fn put_line(
     outcome: &Outcome,
 ) -> Result<(), OutOfMemory>
     requires { IfSome (outcome_of outcome.now) (CanBeReported (option_copied graph)) }
-    ensures { OnOk result (IsSomeAnd (outcome_of outcome.now) (λ told. out.new ≡ out.old ++ line_text session.now (graph_or_none (option_copied graph.entry)) step who.now told)) }
+    ensures ok { OnOk result (IsSomeAnd (outcome_of outcome.now) (λ reported. out.new ≡ out.old ++ line_text session.now (graph_or_none (option_copied graph.entry)) step who.now reported)) }
+    ensures prefix { OnErr result (take (length out.old) out.new ≡ out.old) }
 {
     out.decimal(step)?;
     out.u8(b' ')?;
@@ -56,7 +58,8 @@ pub fn put_line(
 
 // Writes the principal whose step it was, and nothing for a craft.
 fn put_whom(out: &mut ByteOut, who: &[u8], outcome: &Outcome) -> Result<(), OutOfMemory>
-    ensures { OnOk result (IfSome (outcome_of outcome.now) (λ told. out.new ≡ out.old ++ by_whom who.now told)) }
+    ensures ok { OnOk result (IfSome (outcome_of outcome.now) (λ reported. out.new ≡ out.old ++ by_whom who.now reported)) }
+    ensures prefix { take (length out.old) out.new ≡ out.old }
 {
     match outcome {
         Outcome::Crafted { .. } => Ok(()),
@@ -75,7 +78,8 @@ fn put_reported(
     outcome: &Outcome,
 ) -> Result<(), OutOfMemory>
     requires { IfSome (outcome_of outcome.now) (CanBeReported (option_copied graph)) }
-    ensures { OnOk result (IsSomeAnd (outcome_of outcome.now) (λ told. out.new ≡ out.old ++ reported_text session.now (graph_or_none (option_copied graph.entry)) told)) }
+    ensures ok { OnOk result (IsSomeAnd (outcome_of outcome.now) (λ reported. out.new ≡ out.old ++ reported_text session.now (graph_or_none (option_copied graph.entry)) reported)) }
+    ensures prefix { OnErr result (take (length out.old) out.new ≡ out.old) }
 {
     match outcome {
         Outcome::Started(event) => put_happened(out, session, graph, event),
@@ -109,7 +113,8 @@ fn put_happened(
     event: &Event,
 ) -> Result<(), OutOfMemory>
     requires { CanBeReported (option_copied graph) (Happened (event_of event.now)) }
-    ensures { OnOk result (out.new ≡ out.old ++ reported_text session.now (graph_or_none (option_copied graph.entry)) (Happened (event_of event.now))) }
+    ensures ok { OnOk result (out.new ≡ out.old ++ reported_text session.now (graph_or_none (option_copied graph.entry)) (Happened (event_of event.now))) }
+    ensures prefix { OnErr result (take (length out.old) out.new ≡ out.old) }
 {
     match graph {
         Some(graph) => put_of_graph(out, session, graph, event),
@@ -124,7 +129,8 @@ fn put_of_graph(
     event: &Event,
 ) -> Result<(), OutOfMemory>
     requires { HasEvent graph.now (event_of event.now) }
-    ensures { OnOk result (out.new ≡ out.old ++ reported_text session.now graph.now (Happened (event_of event.now))) }
+    ensures ok { OnOk result (out.new ≡ out.old ++ reported_text session.now graph.now (Happened (event_of event.now))) }
+    ensures prefix { OnErr result (take (length out.old) out.new ≡ out.old) }
 {
     put_event(out, session, graph, event)?;
     put_event_values(out, graph, event)
@@ -139,7 +145,8 @@ fn put_sending(
     frame: u32,
 ) -> Result<(), OutOfMemory>
     requires { CanBeReported (option_copied graph) (Sends (event_of event.now) to.now frame) }
-    ensures { OnOk result (out.new ≡ out.old ++ reported_text session.now (graph_or_none (option_copied graph.entry)) (Sends (event_of event.now) to.now frame)) }
+    ensures ok { OnOk result (out.new ≡ out.old ++ reported_text session.now (graph_or_none (option_copied graph.entry)) (Sends (event_of event.now) to.now frame)) }
+    ensures prefix { OnErr result (take (length out.old) out.new ≡ out.old) }
 {
     match graph {
         Some(graph) => put_sending_of(out, session, graph, event, to, frame),
@@ -156,7 +163,8 @@ fn put_sending_of(
     frame: u32,
 ) -> Result<(), OutOfMemory>
     requires { HasEvent graph.now (event_of event.now) }
-    ensures { OnOk result (out.new ≡ out.old ++ reported_text session.now graph.now (Sends (event_of event.now) to.now frame)) }
+    ensures ok { OnOk result (out.new ≡ out.old ++ reported_text session.now graph.now (Sends (event_of event.now) to.now frame)) }
+    ensures prefix { OnErr result (take (length out.old) out.new ≡ out.old) }
 {
     put_event(out, session, graph, event)?;
     put_sent_to(out, to, frame)?;
@@ -164,7 +172,8 @@ fn put_sending_of(
 }
 
 fn put_abandoned(out: &mut ByteOut, session: &[u8]) -> Result<(), OutOfMemory>
-    ensures { OnOk result (out.new ≡ out.old ++ (session.now ++ codes " abandoned")) }
+    ensures ok { OnOk result (out.new ≡ out.old ++ (session.now ++ codes " abandoned")) }
+    ensures prefix { OnErr result (take (length out.old) out.new ≡ out.old) }
 {
     out.bytes(session)?;
     out.bytes(b" abandoned")
@@ -173,7 +182,8 @@ fn put_abandoned(out: &mut ByteOut, session: &[u8]) -> Result<(), OutOfMemory>
 ghost use Rattle.std.specs.Fmt.{decimal};
 
 fn put_crafted(out: &mut ByteOut, frame: u32) -> Result<(), OutOfMemory>
-    ensures { OnOk result (out.new ≡ out.old ++ (codes "crafted f" ++ decimal frame)) }
+    ensures ok { OnOk result (out.new ≡ out.old ++ (codes "crafted f" ++ decimal frame)) }
+    ensures prefix { OnErr result (take (length out.old) out.new ≡ out.old) }
 {
     out.bytes(b"crafted f")?;
     out.decimal(frame as u64)

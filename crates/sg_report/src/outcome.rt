@@ -45,7 +45,7 @@ pub enum Outcome {
 
 /// The session of the event of an outcome, if it has one.
 pub fn sid_reported(outcome: &Outcome) -> Option<Sid>
-    ensures told { result ≡ option_and_then sid_reported (outcome_of outcome.now) }
+    ensures reported { result ≡ option_and_then sid_reported (outcome_of outcome.now) }
     ensures event { result ≡ option_map sid_of (option_and_then event_reported (outcome_of outcome.now)) }
 {
     match outcome {

@@ -1,5 +1,5 @@
 //! The lines of the two assumptions.
-ghost use Rattle.std.specs.Prelude.{◌≡◌, ◌++◌, ◌∷◌, [], OnOk, Some, codes};
+ghost use Rattle.std.specs.Prelude.{◌≡◌, ◌++◌, ◌∷◌, [], OnErr, OnOk, Some, codes, length, take};
 ghost use Rattle.std.specs.Option.{option_copied, option_map};
 ghost use Rattle.sg_report.specs.Model.{forgery_of};
 ghost use Rattle.sg_report.specs.Report.{collision_line, premise_lines, unforged_line};
@@ -18,13 +18,15 @@ pub struct Forgery {
     pub two: Name,
 }
 
-/// Writes the two lines that say whether the assumptions hold.
+/// Appends the two lines that say whether the assumptions hold. If memory runs out, what was written still stands first, with a part of
+/// them after it or nothing.
 pub fn put_premises(
     out: &mut ByteOut,
     forged: Option<&Forgery>,
     collision_free: bool,
 ) -> Result<(), OutOfMemory>
-    ensures { OnOk result (out.new ≡ out.old ++ premise_lines (option_map forgery_of (option_copied forged.entry)) collision_free) }
+    ensures ok { OnOk result (out.new ≡ out.old ++ premise_lines (option_map forgery_of (option_copied forged.entry)) collision_free) }
+    ensures prefix { OnErr result (take (length out.old) out.new ≡ out.old) }
 {
     match forged {
         None => out.bytes(b"premise unforged holds\n")?,
@@ -38,14 +40,16 @@ pub fn put_premises(
 }
 
 fn put_forged(out: &mut ByteOut, forgery: &Forgery) -> Result<(), OutOfMemory>
-    ensures { OnOk result (out.new ≡ out.old ++ unforged_line (Some (forgery_of forgery.now))) }
+    ensures ok { OnOk result (out.new ≡ out.old ++ unforged_line (Some (forgery_of forgery.now))) }
+    ensures prefix { OnErr result (take (length out.old) out.new ≡ out.old) }
 {
     put_number(out, b"premise unforged broken at step ", forgery.step)?;
     put_pair(out, &forgery.one, &forgery.two)
 }
 
 fn put_pair(out: &mut ByteOut, one: &Name, two: &Name) -> Result<(), OutOfMemory>
-    ensures { OnOk result (out.new ≡ out.old ++ (codes " for " ++ one.now ++ codes " and " ++ two.now ++ 10 ∷ [])) }
+    ensures ok { OnOk result (out.new ≡ out.old ++ (codes " for " ++ one.now ++ codes " and " ++ two.now ++ 10 ∷ [])) }
+    ensures prefix { OnErr result (take (length out.old) out.new ≡ out.old) }
 {
     out.bytes(b" for ")?;
     out.bytes(one.as_bytes())?;

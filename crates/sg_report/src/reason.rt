@@ -1,5 +1,5 @@
 //! Why a step was refused, in words.
-ghost use Rattle.std.specs.Prelude.{◌≡◌, ◌<◌, ◌++◌, IfSome, IsSomeAnd, OnOk, codes, length};
+ghost use Rattle.std.specs.Prelude.{◌≡◌, ◌<◌, ◌++◌, IfSome, IsSomeAnd, OnErr, OnOk, codes, length, take};
 ghost use Rattle.std.specs.Fmt.{decimal};
 ghost use Rattle.std.specs.Option.{option_copied};
 ghost use Rattle.sg_node.specs.Faults.{act_fault, refusal, send_fault, start_fault};
@@ -10,14 +10,15 @@ ghost use Rattle.sg_report.specs.Reasons.{act_text, refusal_text, send_text, sta
 ghost use Rattle.sg_report.specs.Reported.{CanBeReported, NotActed, NotDelivered};
 
 use sg_base::{ByteOut, Name, OutOfMemory, Time, Var};
-use sg_graph::{Graph, put_var};
+use sg_graph::Graph;
 use sg_node::{ActFault, Refusal, StartFault};
 use sg_role::SendFault;
 use std::alloc::AllocError;
 
 /// Writes why a start was refused. `OutOfMemory` is passed on.
 pub(crate) fn put_start_fault(out: &mut ByteOut, fault: StartFault) -> Result<(), OutOfMemory>
-    ensures { OnOk result (IsSomeAnd (start_fault fault) (λ f. out.new ≡ out.old ++ start_text f)) }
+    ensures ok { OnOk result (IsSomeAnd (start_fault fault) (λ f. out.new ≡ out.old ++ start_text f)) }
+    ensures prefix { OnErr result (take (length out.old) out.new ≡ out.old) }
 {
     match fault {
         StartFault::UnknownGraph => out.bytes(b"unknown-graph"),
@@ -37,7 +38,8 @@ pub(crate) fn put_act_fault(
     fault: ActFault,
 ) -> Result<(), OutOfMemory>
     requires { IfSome (act_fault fault) (λ f. CanBeReported (option_copied graph) (NotActed f)) }
-    ensures { OnOk result (IsSomeAnd (act_fault fault) (λ f. out.new ≡ out.old ++ act_text (graph_or_none (option_copied graph.entry)) f)) }
+    ensures ok { OnOk result (IsSomeAnd (act_fault fault) (λ f. out.new ≡ out.old ++ act_text (graph_or_none (option_copied graph.entry)) f)) }
+    ensures prefix { OnErr result (take (length out.old) out.new ≡ out.old) }
 {
     match fault {
         ActFault::UnknownSession => out.bytes(b"unknown-session"),
@@ -54,7 +56,8 @@ fn put_send_fault(
     fault: SendFault,
 ) -> Result<(), OutOfMemory>
     requires { IfSome (send_fault fault) (λ f. CanBeReported (option_copied graph) (NotActed (Send f))) }
-    ensures { OnOk result (IsSomeAnd (send_fault fault) (λ f. out.new ≡ out.old ++ send_text (graph_or_none (option_copied graph.entry)) f)) }
+    ensures ok { OnOk result (IsSomeAnd (send_fault fault) (λ f. out.new ≡ out.old ++ send_text (graph_or_none (option_copied graph.entry)) f)) }
+    ensures prefix { OnErr result (take (length out.old) out.new ≡ out.old) }
 {
     match fault {
         SendFault::NoSuchLabel => out.bytes(b"no-such-label"),
@@ -71,7 +74,8 @@ pub(crate) fn put_refusal(
     why: Refusal,
 ) -> Result<(), OutOfMemory>
     requires { IfSome (refusal why) (λ w. CanBeReported (option_copied graph) (NotDelivered w)) }
-    ensures { OnOk result (IsSomeAnd (refusal why) (λ w. out.new ≡ out.old ++ refusal_text (graph_or_none (option_copied graph.entry)) w)) }
+    ensures ok { OnOk result (IsSomeAnd (refusal why) (λ w. out.new ≡ out.old ++ refusal_text (graph_or_none (option_copied graph.entry)) w)) }
+    ensures prefix { OnErr result (take (length out.old) out.new ≡ out.old) }
 {
     match why {
         Refusal::Malformed { at } => put_number(out, b"malformed at ", at),
@@ -94,7 +98,8 @@ pub(crate) fn put_refusal(
 }
 
 fn put_unknown_peer(out: &mut ByteOut, name: &Name) -> Result<(), OutOfMemory>
-    ensures { OnOk result (out.new ≡ out.old ++ (codes "unknown-peer " ++ name.now)) }
+    ensures ok { OnOk result (out.new ≡ out.old ++ (codes "unknown-peer " ++ name.now)) }
+    ensures prefix { OnErr result (take (length out.old) out.new ≡ out.old) }
 {
     out.bytes(b"unknown-peer ")?;
     out.bytes(name.as_bytes())
@@ -102,14 +107,16 @@ fn put_unknown_peer(out: &mut ByteOut, name: &Name) -> Result<(), OutOfMemory>
 
 /// Writes words and a number.
 pub(crate) fn put_number(out: &mut ByteOut, words: &[u8], number: u32) -> Result<(), OutOfMemory>
-    ensures { OnOk result (out.new ≡ out.old ++ (words.now ++ decimal number)) }
+    ensures ok { OnOk result (out.new ≡ out.old ++ (words.now ++ decimal number)) }
+    ensures prefix { OnErr result (take (length out.old) out.new ≡ out.old) }
 {
     out.bytes(words)?;
     out.decimal(number as u64)
 }
 
 fn put_bad_time(out: &mut ByteOut, item: u32, got: Time, least: Time) -> Result<(), OutOfMemory>
-    ensures { OnOk result (out.new ≡ out.old ++ (codes "bad-time item " ++ decimal item ++ codes " got " ++ decimal got ++ codes " least " ++ decimal least)) }
+    ensures ok { OnOk result (out.new ≡ out.old ++ (codes "bad-time item " ++ decimal item ++ codes " got " ++ decimal got ++ codes " least " ++ decimal least)) }
+    ensures prefix { OnErr result (take (length out.old) out.new ≡ out.old) }
 {
     put_number(out, b"bad-time item ", item)?;
     put_number(out, b" got ", got.0)?;
@@ -123,7 +130,8 @@ fn put_of_var(
     var: Var,
 ) -> Result<(), OutOfMemory>
     requires { IsSomeAnd (option_copied graph) (λ g. var < length g.variables) }
-    ensures { OnOk result (out.new ≡ out.old ++ (words.now ++ variable_name (graph_or_none (option_copied graph.entry)) var)) }
+    ensures ok { OnOk result (out.new ≡ out.old ++ (words.now ++ variable_name (graph_or_none (option_copied graph.entry)) var)) }
+    ensures prefix { OnErr result (take (length out.old) out.new ≡ out.old) }
 {
     match graph {
         Some(graph) => put_word_and_var(out, words, graph, var),
@@ -138,8 +146,9 @@ fn put_word_and_var(
     var: Var,
 ) -> Result<(), OutOfMemory>
     requires { var < length graph.now.variables }
-    ensures { OnOk result (out.new ≡ out.old ++ (words.now ++ variable_name graph.now var)) }
+    ensures ok { OnOk result (out.new ≡ out.old ++ (words.now ++ variable_name graph.now var)) }
+    ensures prefix { OnErr result (take (length out.old) out.new ≡ out.old) }
 {
     out.bytes(words)?;
-    put_var(out, graph, var)
+    out.bytes(graph.var_name(var).as_bytes())
 }

@@ -5,13 +5,13 @@ use Rattle.std.proofs.lemmas.Slice.Eq.{bytes_eq-Decides}
 use Rattle.sg_model.specs.Names.{Name, is_name}
 use Rattle.sg_model.proofs.Small.{some_same}
 use Rattle.sg_base.specs.Words.{name, number}
-use Rattle.sg_sched.specs.Format.Said.{Word, Assignment, given_word}
-use Rattle.sg_sched.specs.Format.Reading.{WordsLeft, word, after, ended, givens}
+use Rattle.sg_sched.specs.Format.LineContents.{Word, Assignment, assignment_word}
+use Rattle.sg_sched.specs.Format.Reading.{WordsLeft, word, after, ended, assignments}
 use Rattle.sg_sched.specs.Format.CraftReading.{cast}
 use Rattle.sg_sched.proofs.FormatWords.{both}
 use Rattle.sg_sched.proofs.FormLaws.{none_some, step, ended_is, line_up, name_is}
 use Rattle.sg_sched.proofs.NumberLaws.{number_is}
-use Rattle.sg_sched.proofs.PartLaws.{givens_are}
+use Rattle.sg_sched.proofs.PartLaws.{assignments_are}
 use Rattle.sg_request.specs.declared.request.Request.{Request}
 use Rattle.sg_request.specs.declared.request.Request.TheVariants.{Start, Act, Abandon, Receive, Again, Turn, Id, Quit}
 use Rattle.sg_request.specs.Request.{session, version, start_form, act_form, receive_form, session_form, quit_form, short_form, form, request_words, session_word, is_request, is_session}
@@ -41,16 +41,16 @@ start_sound ws r h =
 act_sound : (ws : WordsLeft) (r : Request) → act_form ws ≡ Some r → Says (codes "act" ∷ ws) r
 unfolding act_form
 act_sound ws r h =
-    let a = step session (λ n. after (word name) λ label. λ ws. option_map (Act n label) (givens ws)) ws r h in
-    let b = step name (λ label. λ ws. option_map (Act a.value label) (givens ws)) a.rest r a.more in
+    let a = step session (λ n. after (word name) λ label. λ ws. option_map (Act n label) (assignments ws)) ws r h in
+    let b = step name (λ label. λ ws. option_map (Act a.value label) (assignments ws)) a.rest r a.more in
     let s = session_is a.first a.value a.was in
     let l = name_is b.first b.value b.was in
-    by a.value b.value b.rest (λ (t : WordsLeft) e. ap (λ t. codes "act" ∷ t) (line_up a.all s.0 (line_up b.all l.same e))) (both s.1 l.name) (givens b.rest) refl b.more
+    by a.value b.value b.rest (λ (t : WordsLeft) e. ap (λ t. codes "act" ∷ t) (line_up a.all s.0 (line_up b.all l.same e))) (both s.1 l.name) (assignments b.rest) refl b.more
   where
     by : (n : ℕ) (label : Name) (rest : WordsLeft) → ((t : WordsLeft) → rest ≡ t → (codes "act" ∷ ws) ≡ codes "act" ∷ session_word n ∷ label ∷ t) → (is_session n && is_name label) ≡ true
-        → (o : Option (List Assignment)) → givens rest ≡ o → option_map (Act n label) o ≡ Some r → Says (codes "act" ∷ ws) r
+        → (o : Option (List Assignment)) → assignments rest ≡ o → option_map (Act n label) o ≡ Some r → Says (codes "act" ∷ ws) r
     by n label rest w p None e h = none_some h
-    by n label rest w p (Some vs) e h = let g = givens_are rest vs e in says {r = Act n label vs} (w (map given_word vs) g.0) (both p g.1) h
+    by n label rest w p (Some vs) e h = let g = assignments_are rest vs e in says {r = Act n label vs} (w (map assignment_word vs) g.0) (both p g.1) h
 
 receive_sound : (ws : WordsLeft) (r : Request) → receive_form ws ≡ Some r → Says (codes "recv" ∷ ws) r
 unfolding receive_form

@@ -8,7 +8,7 @@ use Rattle.std.proofs.lemmas.Slice.Eq.{bytes_eq-Decides}
 use Rattle.sg_model.specs.Names.{Name, is_name}
 use Rattle.sg_model.proofs.Small.{and_left, and_right, some_same}
 use Rattle.sg_base.specs.Words.{number, from_one}
-use Rattle.sg_sched.specs.Format.Said.{Word, joined_names}
+use Rattle.sg_sched.specs.Format.LineContents.{Word, joined_names}
 use Rattle.sg_sched.specs.Format.Forms.{are_names}
 use Rattle.sg_sched.specs.Format.CraftReading.{all_names, name_list, sixteen, cast}
 use Rattle.sg_sched.proofs.FormatWords.{both, name_list as pieces, name_list-joined}

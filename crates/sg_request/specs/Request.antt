@@ -6,9 +6,9 @@ use Rattle.sg_model.specs.Limits.{most_roles}
 use Rattle.sg_model.specs.Names.{Name, is_name}
 use Rattle.sg_base.specs.Words.{name, number, from_one}
 use Rattle.sg_sched.specs.Text.{words, without_last}
-use Rattle.sg_sched.specs.Format.Said.{Word, given_word, joined_names}
-use Rattle.sg_sched.specs.Format.Forms.{are_names, is_given}
-use Rattle.sg_sched.specs.Format.Reading.{WordsLeft, word, after, ended, givens}
+use Rattle.sg_sched.specs.Format.LineContents.{Word, assignment_word, joined_names}
+use Rattle.sg_sched.specs.Format.Forms.{are_names, is_assignment}
+use Rattle.sg_sched.specs.Format.Reading.{WordsLeft, word, after, ended, assignments}
 use Rattle.sg_sched.specs.Format.CraftReading.{cast}
 use Rattle.sg_request.specs.declared.request.Request.{Request}
 use Rattle.sg_request.specs.declared.request.Request.TheVariants.{Start, Act, Abandon, Receive, Again, Turn, Id, Quit}
@@ -43,7 +43,7 @@ unfoldable pub act_form : WordsLeft → Option Request
 act_form =
     after (word session) λ n.
     after (word name) λ label.
-    λ ws. option_map (Act n label) (givens ws)
+    λ ws. option_map (Act n label) (assignments ws)
 
 -- MS, or nothing
 unfoldable pub receive_form : WordsLeft → Option Request
@@ -98,7 +98,7 @@ session_word n = 115 ∷ decimal n
 -- the words of a request
 abbrev pub request_words : Request → List Word
 request_words (Start graph version names) = codes "start" ∷ graph ∷ decimal version ∷ joined_names names ∷ []
-request_words (Act n label values) = codes "act" ∷ session_word n ∷ label ∷ map given_word values
+request_words (Act n label values) = codes "act" ∷ session_word n ∷ label ∷ map assignment_word values
 request_words (Abandon n) = codes "abandon" ∷ session_word n ∷ []
 request_words (Receive None) = codes "recv" ∷ []
 request_words (Receive (Some ms)) = codes "recv" ∷ decimal ms ∷ []
@@ -118,7 +118,7 @@ is_cast names = nat_le 2 (length names) && nat_le (length names) most_roles && a
 -- each field of a request holds what it may hold
 abbrev pub is_request : Request → Bool
 is_request (Start graph version names) = is_name graph && (version == 1 || version == 2) && is_cast names
-is_request (Act n label values) = is_session n && is_name label && list_all is_given values
+is_request (Act n label values) = is_session n && is_name label && list_all is_assignment values
 is_request (Abandon n) = is_session n
 is_request (Receive None) = true
 is_request (Receive (Some ms)) = nat_le ms 86400000

@@ -8,16 +8,16 @@ use Rattle.sg_model.specs.Names.{Name, is_name, reserved}
 use Rattle.sg_model.specs.Lists.{has_text, all_differ}
 use Rattle.sg_model.proofs.Small.{and_left, and_right}
 use Rattle.sg_sched.specs.Words.{names}
-use Rattle.sg_sched.specs.Format.Said.{Word, Assignment, SaidEdge, SaidKey, SaidSession, SaidAct, joined_names, given_word, version_words}
-use Rattle.sg_sched.specs.Format.Forms.{is_form, is_given, is_wide, are_names}
+use Rattle.sg_sched.specs.Format.LineContents.{Word, Assignment, EdgeLine, KeyLine, SessionLine, ActLine, joined_names, assignment_word, version_words}
+use Rattle.sg_sched.specs.Format.Forms.{is_form, is_assignment, is_wide, are_names}
 use Rattle.sg_sched.specs.Format.Values.{is_hex_of}
 use Rattle.sg_sched.specs.Format.Reading.{word, edge_form, edge_of, key_form, session_form, version, act_form}
 use Rattle.sg_sched.proofs.FormatWords.{name_list, name_list-joined}
 use Rattle.sg_sched.proofs.FormLaws.{name_ok, hex_ok}
 use Rattle.sg_sched.proofs.NumberLaws.{number_ok, is_wide_of}
-use Rattle.sg_sched.proofs.PartLaws.{givens_ok}
+use Rattle.sg_sched.proofs.PartLaws.{assignments_ok}
 
-pub edge_complete : (label : Name) (from to : ℕ) → is_form (SaidEdge label from to) ≡ true → edge_form (label ∷ decimal from ∷ decimal to ∷ []) ≡ Some (SaidEdge label from to)
+pub edge_complete : (label : Name) (from to : ℕ) → is_form (EdgeLine label from to) ≡ true → edge_form (label ∷ decimal from ∷ decimal to ∷ []) ≡ Some (EdgeLine label from to)
 unfolding edge_form word
 edge_complete label from to h =
     let a1 = is_name label && not (has_text label reserved) in
@@ -34,7 +34,7 @@ edge_complete label from to h =
       not-true (from % 2 == to % 2) (and_right a3 (not (from % 2 == to % 2)) h),
     ) refl
 
-pub key_complete : (one two : Name) (ds : Word) → is_form (SaidKey one two ds) ≡ true → key_form (one ∷ two ∷ ds ∷ []) ≡ Some (SaidKey one two ds)
+pub key_complete : (one two : Name) (ds : Word) → is_form (KeyLine one two ds) ≡ true → key_form (one ∷ two ∷ ds ∷ []) ≡ Some (KeyLine one two ds)
 unfolding key_form word
 key_complete one two ds h =
     let a1 = is_name one && is_name two in
@@ -65,14 +65,14 @@ version_ok v h = by (v == 2) refl
     by false e = ap (λ (n : ℕ). Some (n, [])) (sym (eqb-true v 1 (one (v == 1) (v == 2) h e)))
 
 session_with : (name graph : Name) (nonce : ℕ) (ns : List Name) (v : ℕ) → is_name name ≡ true → is_name graph ≡ true → is_wide nonce ≡ true → nat_le 1 (length ns) ≡ true → are_names ns ≡ true → all_differ ns ≡ true → (v == 1 || v == 2) ≡ true
-    → session_form (name ∷ graph ∷ decimal nonce ∷ joined_names ns ∷ version_words v) ≡ Some (SaidSession name graph nonce ns v)
+    → session_form (name ∷ graph ∷ decimal nonce ∷ joined_names ns ∷ version_words v) ≡ Some (SessionLine name graph nonce ns v)
 unfolding session_form word
 session_with name graph nonce [] v a b c some d e f = absurd (cc)
 session_with name graph nonce (n ∷ ns) v a b c some d e f =
     rw (name_ok name a, name_ok graph b, number_ok 18446744073709551615 nonce (omega arith) (is_wide_of nonce c), names_ok n ns d e, version_ok v f) refl
 
-pub session_complete : (name graph : Name) (nonce : ℕ) (ns : List Name) (v : ℕ) → is_form (SaidSession name graph nonce ns v) ≡ true
-    → session_form (name ∷ graph ∷ decimal nonce ∷ joined_names ns ∷ version_words v) ≡ Some (SaidSession name graph nonce ns v)
+pub session_complete : (name graph : Name) (nonce : ℕ) (ns : List Name) (v : ℕ) → is_form (SessionLine name graph nonce ns v) ≡ true
+    → session_form (name ∷ graph ∷ decimal nonce ∷ joined_names ns ∷ version_words v) ≡ Some (SessionLine name graph nonce ns v)
 session_complete name graph nonce ns v h =
     let a1 = is_name name && is_name graph in
     let a2 = a1 && is_wide nonce in
@@ -87,15 +87,15 @@ session_complete name graph nonce ns v h =
     session_with name graph nonce ns v (and_left (is_name name) (is_name graph) h1) (and_right (is_name name) (is_name graph) h1) (and_right a1 (is_wide nonce) h2) (and_right a2 (nat_le 1 (length ns)) h3)
     (and_right a3 (are_names ns) h4) (and_right a4 (all_differ ns) h5) (and_right a5 (v == 1 || v == 2) h)
 
-pub act_complete : (who session label : Name) (vs : List Assignment) → is_form (SaidAct who session label vs) ≡ true → act_form (who ∷ session ∷ label ∷ map given_word vs) ≡ Some (SaidAct who session label vs)
+pub act_complete : (who session label : Name) (vs : List Assignment) → is_form (ActLine who session label vs) ≡ true → act_form (who ∷ session ∷ label ∷ map assignment_word vs) ≡ Some (ActLine who session label vs)
 unfolding act_form word
 act_complete who session label vs h =
-    let n = and_left (are_names (who ∷ session ∷ label ∷ [])) (list_all is_given vs) h in
+    let n = and_left (are_names (who ∷ session ∷ label ∷ [])) (list_all is_assignment vs) h in
     let m = and_right (is_name who) (is_name session && (is_name label && true)) n in
     let l = and_right (is_name session) (is_name label && true) m in
     rw (
       name_ok who (and_left (is_name who) (is_name session && (is_name label && true)) n),
       name_ok session (and_left (is_name session) (is_name label && true) m),
       name_ok label (and_left (is_name label) true l),
-      givens_ok vs (and_right (are_names (who ∷ session ∷ label ∷ [])) (list_all is_given vs) h),
+      assignments_ok vs (and_right (are_names (who ∷ session ∷ label ∷ [])) (list_all is_assignment vs) h),
     ) refl

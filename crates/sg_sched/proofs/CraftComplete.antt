@@ -12,7 +12,7 @@ use Rattle.sg_model.proofs.Small.{and_left, and_right}
 use Rattle.sg_protocol.specs.Schedule.{CraftJoin}
 use Rattle.sg_base.specs.Words.{name, number}
 use Rattle.sg_sched.specs.Words.{frame}
-use Rattle.sg_sched.specs.Format.Said.{Word, Committed, TagSource, FromKey, FromItem, FromSeal, FromZero, ItemContent, CraftContent, LineContent, SaidMake, committed_word, from_words, tag_words, item_words, join_words, list_words, option_words, joined_names}
+use Rattle.sg_sched.specs.Format.LineContents.{Word, Committed, TagSource, FromKey, FromItem, FromSeal, FromZero, ItemContent, CraftContent, LineContent, MakeLine, committed_word, from_words, tag_words, item_words, join_words, list_words, option_words, joined_names}
 use Rattle.sg_sched.specs.Format.Forms.{is_committed, is_source, is_tag, is_item, are_committed, is_join, is_wide, is_short, is_frame, are_names, is_craft, is_form}
 use Rattle.sg_sched.specs.Format.Values.{is_value}
 use Rattle.sg_sched.specs.Format.Reading.{WordsLeft, Taker, word, after, ended, split_at}

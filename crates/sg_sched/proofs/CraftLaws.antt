@@ -12,7 +12,7 @@ use Rattle.sg_model.proofs.Small.{some_same}
 use Rattle.sg_protocol.specs.Schedule.{CraftJoin}
 use Rattle.sg_base.specs.Words.{name, number}
 use Rattle.sg_sched.specs.Words.{frame}
-use Rattle.sg_sched.specs.Format.Said.{Word, Committed, TagSource, ItemContent, CraftContent, LineContent, SaidMake, committed_word, from_words, item_words, join_words, list_words, option_words, joined_names, craft_words}
+use Rattle.sg_sched.specs.Format.LineContents.{Word, Committed, TagSource, ItemContent, CraftContent, LineContent, MakeLine, committed_word, from_words, item_words, join_words, list_words, option_words, joined_names, craft_words}
 use Rattle.sg_sched.specs.Format.Forms.{is_committed, is_source, is_item, are_committed, is_join, is_wide, are_names, is_craft, is_form}
 use Rattle.sg_sched.specs.Format.Reading.{WordsLeft, Taker, word, after, ended}
 use Rattle.sg_sched.specs.Format.CraftReading.{run, few, some_of, listed, source, repeated, item, all_names, name_list, sixteen, cast, optional, join_parts, join, opened, exactly, ends, ends_of, seal_form, some_items, craft_form}
@@ -186,17 +186,17 @@ made e j know items openings seal = record { session = e.0; from = e.1; to = e.2
 
 -- the openings and the seal, behind the items
 abbrev ending : Ends → Option CraftJoin → List Committed → List ItemContent → WordsLeft → Option LineContent
-ending e j know items = after opened λ openings. λ ws. option_map (λ seal. SaidMake (made e j know items openings seal)) (seal_form ws)
+ending e j know items = after opened λ openings. λ ws. option_map (λ seal. MakeLine (made e j know items openings seal)) (seal_form ws)
 
 record Sealed (e : Ends) (j : Option CraftJoin) (know : List Committed) (items : List ItemContent) (openings : List Committed) (ws : WordsLeft) (s : LineContent) : Type 0 where
   pub seal : TagSource
   pub is : SealIs ws seal
-  pub said : Some (SaidMake (made e j know items openings seal)) ≡ Some s
+  pub said : Some (MakeLine (made e j know items openings seal)) ≡ Some s
 
-sealed : (e : Ends) (j : Option CraftJoin) (know : List Committed) (items : List ItemContent) (openings : List Committed) (ws : WordsLeft) (s : LineContent) → option_map (λ seal. SaidMake (made e j know items openings seal)) (seal_form ws) ≡ Some s → Sealed e j know items openings ws s
+sealed : (e : Ends) (j : Option CraftJoin) (know : List Committed) (items : List ItemContent) (openings : List Committed) (ws : WordsLeft) (s : LineContent) → option_map (λ seal. MakeLine (made e j know items openings seal)) (seal_form ws) ≡ Some s → Sealed e j know items openings ws s
 sealed e j know items openings ws s h = by (seal_form ws) refl h
   where
-    by : (o : Option TagSource) → seal_form ws ≡ o → option_map (λ seal. SaidMake (made e j know items openings seal)) o ≡ Some s → Sealed e j know items openings ws s
+    by : (o : Option TagSource) → seal_form ws ≡ o → option_map (λ seal. MakeLine (made e j know items openings seal)) o ≡ Some s → Sealed e j know items openings ws s
     by None q h = none_some h
     by (Some seal) q h = record { seal = seal; is = seal_is ws seal q; said = h }
 
@@ -212,7 +212,7 @@ craft_sound ws s h =
     let c = taken_is (listed (codes "know")) (λ know. after (repeated (codes "item") item 65535) λ is. some_items is (ending a.value b.value know is)) b.rest s b.more in
     let d = taken_is (repeated (codes "item") item 65535) (λ is. some_items is (ending a.value b.value c.value is)) c.rest s c.more in
     let n = some_there d.value (ending a.value b.value c.value d.value) d.rest s d.more in
-    let f = taken_is opened (λ openings. λ ws. option_map (λ seal. SaidMake (made a.value b.value c.value d.value openings seal)) (seal_form ws)) d.rest s n.1 in
+    let f = taken_is opened (λ openings. λ ws. option_map (λ seal. MakeLine (made a.value b.value c.value d.value openings seal)) (seal_form ws)) d.rest s n.1 in
     let g = sealed a.value b.value c.value d.value f.value f.rest s f.more in
     let ea = ends_are ws a.value a.rest a.was in
     let jb = join_is a.rest b.value b.rest b.was in
@@ -221,6 +221,6 @@ craft_sound ws s h =
     let of = opened_is d.rest f.value f.rest f.was in
     let tail : b.rest ≡ list_words (codes "know") c.value ++ (flat_map item_words d.value ++ (list_words (codes "open") f.value ++ codes "seal" ∷ from_words g.seal)) =
     kc.words ∙ ap (λ (r : WordsLeft). list_words (codes "know") c.value ++ r) (id.words ∙ ap (λ (r : WordsLeft). flat_map item_words d.value ++ r) (of.words ∙ ap (λ (r : WordsLeft). list_words (codes "open") f.value ++ r) g.is.words)) in
-    fits {s = SaidMake (made a.value b.value c.value d.value f.value g.seal)}
+    fits {s = MakeLine (made a.value b.value c.value d.value f.value g.seal)}
     (ap (λ (r : WordsLeft). codes "craft" ∷ r) (ea.words ∙ ap (λ (r : WordsLeft). ends_print a.value ++ r) (jb.words ∙ ap (λ (r : WordsLeft). join_words b.value ++ r) tail)))
     (both (both (both (both (both (both (both ea.form jb.form) kc.form) n.0) (le-leb (length d.value) 65535 id.few)) id.form) of.form) g.is.form) g.said

@@ -12,7 +12,7 @@ use Rattle.sg_model.specs.Lists.{has_text, all_differ}
 use Rattle.sg_model.proofs.Small.{and_left, and_right, some_same}
 use Rattle.sg_base.specs.Words.{name, number, up_to}
 use Rattle.sg_sched.specs.Words.{frame}
-use Rattle.sg_sched.specs.Format.Said.{Word, LineContent, SaidBlock, SaidEdge, SaidHonest, SaidKey, SaidStart, SaidAbandon, line_words}
+use Rattle.sg_sched.specs.Format.LineContents.{Word, LineContent, BlockLine, EdgeLine, HonestLine, KeyLine, StartLine, AbandonLine, line_words}
 use Rattle.sg_sched.specs.Format.Forms.{is_form, are_names}
 use Rattle.sg_sched.specs.Format.Values.{is_hex_of}
 use Rattle.sg_sched.specs.Format.Reading.{WordsLeft, Taker, word, after, ended, hex_of, block_form, honest_form, key_form, key_of, start_form, abandon_form}
@@ -82,40 +82,40 @@ fits {ws} w f h = subst (λ s. Fits ws s) (some_same h) (record { words = w; for
 pub honest_sound : (ws : WordsLeft) (s : LineContent) → honest_form ws ≡ Some s → Fits (codes "honest" ∷ ws) s
 unfolding honest_form
 honest_sound ws s h =
-    let a = step name (λ who. ended (Some (SaidHonest who))) ws s h in
-    let e = ended_is (Some (SaidHonest a.value)) a.rest s a.more in
+    let a = step name (λ who. ended (Some (HonestLine who))) ws s h in
+    let e = ended_is (Some (HonestLine a.value)) a.rest s a.more in
     let n = name_is a.first a.value a.was in
-    fits {s = SaidHonest a.value} (ap (λ r. codes "honest" ∷ r) (line_up a.all n.same e.0)) n.name e.1
+    fits {s = HonestLine a.value} (ap (λ r. codes "honest" ∷ r) (line_up a.all n.same e.0)) n.name e.1
 
-pub honest_complete : (who : Name) → is_form (SaidHonest who) ≡ true → honest_form (who ∷ []) ≡ Some (SaidHonest who)
+pub honest_complete : (who : Name) → is_form (HonestLine who) ≡ true → honest_form (who ∷ []) ≡ Some (HonestLine who)
 unfolding honest_form word
 honest_complete who h = rw (name_ok who h) refl
 
 pub start_sound : (ws : WordsLeft) (s : LineContent) → start_form ws ≡ Some s → Fits (codes "start" ∷ ws) s
 unfolding start_form
 start_sound ws s h =
-    let a = step name (λ who. after (word name) λ session. ended (Some (SaidStart who session))) ws s h in
-    let b = step name (λ session. ended (Some (SaidStart a.value session))) a.rest s a.more in
-    let e = ended_is (Some (SaidStart a.value b.value)) b.rest s b.more in
+    let a = step name (λ who. after (word name) λ session. ended (Some (StartLine who session))) ws s h in
+    let b = step name (λ session. ended (Some (StartLine a.value session))) a.rest s a.more in
+    let e = ended_is (Some (StartLine a.value b.value)) b.rest s b.more in
     let m = name_is a.first a.value a.was in
     let n = name_is b.first b.value b.was in
-    fits {s = SaidStart a.value b.value} (ap (λ r. codes "start" ∷ r) (line_up a.all m.same (line_up b.all n.same e.0))) (both m.name (both n.name refl)) e.1
+    fits {s = StartLine a.value b.value} (ap (λ r. codes "start" ∷ r) (line_up a.all m.same (line_up b.all n.same e.0))) (both m.name (both n.name refl)) e.1
 
 pub abandon_sound : (ws : WordsLeft) (s : LineContent) → abandon_form ws ≡ Some s → Fits (codes "abandon" ∷ ws) s
 unfolding abandon_form
 abandon_sound ws s h =
-    let a = step name (λ who. after (word name) λ session. ended (Some (SaidAbandon who session))) ws s h in
-    let b = step name (λ session. ended (Some (SaidAbandon a.value session))) a.rest s a.more in
-    let e = ended_is (Some (SaidAbandon a.value b.value)) b.rest s b.more in
+    let a = step name (λ who. after (word name) λ session. ended (Some (AbandonLine who session))) ws s h in
+    let b = step name (λ session. ended (Some (AbandonLine a.value session))) a.rest s a.more in
+    let e = ended_is (Some (AbandonLine a.value b.value)) b.rest s b.more in
     let m = name_is a.first a.value a.was in
     let n = name_is b.first b.value b.was in
-    fits {s = SaidAbandon a.value b.value} (ap (λ r. codes "abandon" ∷ r) (line_up a.all m.same (line_up b.all n.same e.0))) (both m.name (both n.name refl)) e.1
+    fits {s = AbandonLine a.value b.value} (ap (λ r. codes "abandon" ∷ r) (line_up a.all m.same (line_up b.all n.same e.0))) (both m.name (both n.name refl)) e.1
 
-pub start_complete : (who session : Name) → is_form (SaidStart who session) ≡ true → start_form (who ∷ session ∷ []) ≡ Some (SaidStart who session)
+pub start_complete : (who session : Name) → is_form (StartLine who session) ≡ true → start_form (who ∷ session ∷ []) ≡ Some (StartLine who session)
 unfolding start_form word
 start_complete who session h = rw (name_ok who (and_left (is_name who) (is_name session && true) h), name_ok session (and_left (is_name session) true (and_right (is_name who) (is_name session && true) h))) refl
 
-pub abandon_complete : (who session : Name) → is_form (SaidAbandon who session) ≡ true → abandon_form (who ∷ session ∷ []) ≡ Some (SaidAbandon who session)
+pub abandon_complete : (who session : Name) → is_form (AbandonLine who session) ≡ true → abandon_form (who ∷ session ∷ []) ≡ Some (AbandonLine who session)
 unfolding abandon_form word
 abandon_complete who session h = rw (name_ok who (and_left (is_name who) (is_name session && true) h), name_ok session (and_left (is_name session) true (and_right (is_name who) (is_name session && true) h))) refl
 
@@ -124,10 +124,10 @@ unfolding block_form
 block_sound [] s h = none_some h
 block_sound (w ∷ ws) s h = by (bytes_eq w (codes "{")) refl h
   where
-    by : (b : Bool) → bytes_eq w (codes "{") ≡ b → (if b then ended (Some SaidBlock) ws else None) ≡ Some s → Fits (codes "graph" ∷ w ∷ ws) s
+    by : (b : Bool) → bytes_eq w (codes "{") ≡ b → (if b then ended (Some BlockLine) ws else None) ≡ Some s → Fits (codes "graph" ∷ w ∷ ws) s
     by true e h =
-        let end = ended_is (Some SaidBlock) ws s h in
-        fits {s = SaidBlock} (ap (λ r. codes "graph" ∷ r) (line_up refl ((bytes_eq-Decides w (codes "{")).0 e) end.0)) refl end.1
+        let end = ended_is (Some BlockLine) ws s h in
+        fits {s = BlockLine} (ap (λ r. codes "graph" ∷ r) (line_up refl ((bytes_eq-Decides w (codes "{")).0 e) end.0)) refl end.1
     by false e h = none_some h
 
 -- ---- keys
@@ -157,6 +157,6 @@ key_sound ws s h =
     by a.value b.value d.value (ap (λ r. codes "key" ∷ r) (line_up a.all m.same (line_up b.all n.same (line_up d.all x.0 e.0)))) m.name n.name x.1 (bytes_eq a.value b.value) refl e.1
   where
     by : (one two digits : Word) → codes "key" ∷ ws ≡ codes "key" ∷ one ∷ two ∷ digits ∷ [] → is_name one ≡ true → is_name two ≡ true → is_hex_of 32 digits ≡ true
-        → (same : Bool) → bytes_eq one two ≡ same → (if same then None else Some (SaidKey one two digits)) ≡ Some s → Fits (codes "key" ∷ ws) s
+        → (same : Bool) → bytes_eq one two ≡ same → (if same then None else Some (KeyLine one two digits)) ≡ Some s → Fits (codes "key" ∷ ws) s
     by one two digits w m n x true q h = none_some h
-    by one two digits w m n x false q h = fits {s = SaidKey one two digits} w (both {a = is_name one && is_name two && not (bytes_eq one two)} (both {a = is_name one && is_name two} (both m n) (ap not q)) x) h
+    by one two digits w m n x false q h = fits {s = KeyLine one two digits} w (both {a = is_name one && is_name two && not (bytes_eq one two)} (both {a = is_name one && is_name two} (both m n) (ap not q)) x) h

@@ -10,10 +10,10 @@ use Rattle.sg_parse.specs.Reading.{read}
 use Rattle.sg_parse.specs.declared.fault.ParseFault.{ParseFault}
 use Rattle.sg_parse.proofs.GivesGraph.{spells-read}
 use Rattle.sg_sched.specs.Pair.{graphs_of}
-use Rattle.sg_sched.specs.Format.Said.{SaidBlock}
+use Rattle.sg_sched.specs.Format.LineContents.{BlockLine}
 use Rattle.sg_sched.specs.Format.Forms.{SaysLine, is_skipped}
 use Rattle.sg_sched.specs.Format.Items.{Item, blocks, edges, graphs, graph_names}
-use Rattle.sg_sched.specs.Format.Made.{made}
+use Rattle.sg_sched.specs.Format.Numbered.{made}
 use Rattle.sg_sched.specs.Format.Kinds.{Kind}
 use Rattle.sg_sched.specs.Format.Faults.{fault}
 use Rattle.sg_sched.specs.Format.Spells.{Line, closes, IsBlock, Add, Skip, Say, Show, IsWrong, OfNoForm, OfAForm, NotClosed, NoGraph, SameGraph}
@@ -68,15 +68,15 @@ pub add_or_wrong : (before : List Item) (more these rest rest' : List Line) (new
 add_or_wrong before _ _ rest rest' _ kind (Skip {line = l} s) (OfNoForm {line = m} no_skip none) e = contradicts s (ap is_skipped (head_same e) ∙ no_skip)
 add_or_wrong before _ _ rest rest' _ kind (Say {line = l} {said = t} says right makes) (OfNoForm {line = m} no_skip none) e = none t (subst (λ l. SaysLine l t) (head_same e) says)
 add_or_wrong before more _ rest rest' _ kind (Show {text = text} b spells fresh) (OfNoForm {line = m} no_skip none) e =
-    none SaidBlock (subst (λ l. SaysLine l SaidBlock) (head_same (sym (laid before more rest text b) ∙ e)) b.opened.opens)
+    none BlockLine (subst (λ l. SaysLine l BlockLine) (head_same (sym (laid before more rest text b) ∙ e)) b.opened.opens)
 add_or_wrong before _ _ rest rest' _ kind (Skip {line = l} s) (OfAForm {line = m} {said = t} says wrong) e = not_skipped m t says (subst (λ l. is_skipped l ≡ true) (head_same e) s)
 add_or_wrong before _ _ rest rest' _ kind (Say {line = l} {said = s} says right makes) (OfAForm {line = m} {said = t} says' wrong) e =
     no_fault wrong (ap (fault before) (sym (says_one m s t (subst (λ l. SaysLine l s) (head_same e) says) says')) ∙ right)
 add_or_wrong before more _ rest rest' _ kind (Show {text = text} b spells fresh) (OfAForm {line = m} {said = t} says' wrong) e =
-    no_fault wrong (ap (fault before) (sym (says_one m SaidBlock t (subst (λ l. SaysLine l SaidBlock) (head_same (sym (laid before more rest text b) ∙ e)) b.opened.opens) says')) ∙ b.opened.in_group)
-add_or_wrong before _ _ rest _ _ _ (Skip {line = l} s) (NotClosed {opening = o} {inner = i} op) e = not_skipped o SaidBlock op.opens (subst (λ l. is_skipped l ≡ true) (head_same e) s)
+    no_fault wrong (ap (fault before) (sym (says_one m BlockLine t (subst (λ l. SaysLine l BlockLine) (head_same (sym (laid before more rest text b) ∙ e)) b.opened.opens) says')) ∙ b.opened.in_group)
+add_or_wrong before _ _ rest _ _ _ (Skip {line = l} s) (NotClosed {opening = o} {inner = i} op) e = not_skipped o BlockLine op.opens (subst (λ l. is_skipped l ≡ true) (head_same e) s)
 add_or_wrong before _ _ rest _ _ _ (Say {line = l} {said = s} says right makes) (NotClosed {opening = o} {inner = i} op) e =
-    none_some (ap (made before) (sym (says_one o s SaidBlock (subst (λ l. SaysLine l s) (head_same e) says) op.opens)) ∙ makes)
+    none_some (ap (made before) (sym (says_one o s BlockLine (subst (λ l. SaysLine l s) (head_same e) says) op.opens)) ∙ makes)
   where
     none_some : {i : Item} → None ≡ Some i → ⊥
     none_some p = cc

@@ -9,7 +9,7 @@ use Rattle.std.proofs.lemmas.Fmt.{decimal_is_IsNumeral}
 use Rattle.std.proofs.lemmas.Str.Parse.{digit_from_value}
 use Rattle.sg_model.specs.Names.{Name, is_name}
 use Rattle.sg_model.proofs.Small.{and_left, and_right}
-use Rattle.sg_sched.specs.Format.Said.{Word, Committed, TagSource, FromKey, FromItem, FromSeal, FromZero, committed_word, from_words, tag_words}
+use Rattle.sg_sched.specs.Format.LineContents.{Word, Committed, TagSource, FromKey, FromItem, FromSeal, FromZero, committed_word, from_words, tag_words}
 use Rattle.sg_sched.specs.Format.Forms.{is_committed, is_source, is_tag, is_wide, is_short, is_frame}
 use Rattle.sg_sched.specs.Format.Values.{is_value}
 use Rattle.sg_sched.proofs.FormatWords.{both, lacks, name_lacks, equal_split, equal_split-at, number_word, number_decimal, frame_number, frame_is_wide, short_is_wide, wide}

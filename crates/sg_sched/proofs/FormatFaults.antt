@@ -3,7 +3,7 @@ use Rattle.std.specs.Prelude.{◌≡◌, ℕ, List, [], ◌∷◌, ◌++◌, map
 use Rattle.sg_model.specs.Lists.{below}
 use Rattle.sg_protocol.specs.Schedule.{StartStep}
 use Rattle.sg_sched.specs.Pair.{edge, node}
-use Rattle.sg_sched.specs.Format.Said.{LineContent, SaidBlock, SaidEdge, SaidHonest, SaidKey, SaidSession, SaidStart, SaidAct, SaidAbandon, SaidDeliver, SaidMake, TheFrame, FromKey, FromItem, FromZero, Committed, TagSource}
+use Rattle.sg_sched.specs.Format.LineContents.{LineContent, BlockLine, EdgeLine, HonestLine, KeyLine, SessionLine, StartLine, ActLine, AbandonLine, DeliverLine, MakeLine, TheFrame, FromKey, FromItem, FromZero, Committed, TagSource}
 use Rattle.sg_sched.specs.Format.Items.{Item, GraphItem, EdgeItem, HonestItem, StepItem}
 use Rattle.sg_sched.specs.Format.Kinds.{Kind, Form, Unknown, Twice, NotHonest, TooManySteps, TooManySessions}
 use Rattle.sg_sched.specs.Format.Faults.{fault, blank_frame}
@@ -23,101 +23,101 @@ blocked = GraphItem (record { name = codes "pair"; roles = codes "a" ∷ codes "
 
 late_edge : WrongLine (HonestItem (codes "a") ∷ []) (codes "edge Request 0 1\n") Form
 unfolding on_literals
-late_edge = OfAForm {said = SaidEdge (codes "Request") 0 1} (record { spelled = refl; form = refl }) refl
+late_edge = OfAForm {said = EdgeLine (codes "Request") 0 1} (record { spelled = refl; form = refl }) refl
 
 late_block : WrongLine (HonestItem (codes "a") ∷ []) (codes "graph {\n") Form
-late_block = OfAForm {said = SaidBlock} (record { spelled = refl; form = refl }) refl
+late_block = OfAForm {said = BlockLine} (record { spelled = refl; form = refl }) refl
 
 late_honest : WrongLine (head_p []) (codes "honest a\n") Form
-late_honest = OfAForm {said = SaidHonest (codes "a")} (record { spelled = refl; form = refl }) refl
+late_honest = OfAForm {said = HonestLine (codes "a")} (record { spelled = refl; form = refl }) refl
 
 late_session : WrongLine (head_p (codes "a" ∷ []) ++ StepItem (StartStep (codes "a") 0) ∷ []) (codes "session s2 nothing 1 a,b\n") Form
 unfolding on_literals
-late_session = OfAForm {said = SaidSession (codes "s2") (codes "nothing") 1 (codes "a" ∷ codes "b" ∷ []) 1} (record { spelled = refl; form = refl }) refl
+late_session = OfAForm {said = SessionLine (codes "s2") (codes "nothing") 1 (codes "a" ∷ codes "b" ∷ []) 1} (record { spelled = refl; form = refl }) refl
 
 -- ---- edges
 
 edge_twice : WrongLine pair_items (codes "edge Reply 0 3\n") Twice
 unfolding on_literals
-edge_twice = OfAForm {said = SaidEdge (codes "Reply") 0 3} (record { spelled = refl; form = refl }) refl
+edge_twice = OfAForm {said = EdgeLine (codes "Reply") 0 3} (record { spelled = refl; form = refl }) refl
 
 pair_twice : WrongLine blocked (codes "edge Request 0 1\n") Twice
 unfolding on_literals
-pair_twice = OfAForm {said = SaidEdge (codes "Request") 0 1} (record { spelled = refl; form = refl }) refl
+pair_twice = OfAForm {said = EdgeLine (codes "Request") 0 1} (record { spelled = refl; form = refl }) refl
 
 -- one edge too many has no form, and is no repetition
 edge_513 : WrongLine (replicate 512 (EdgeItem (edge (codes "L") 0 1))) (codes "edge L 0 1\n") Form
 unfolding on_literals
-edge_513 = OfAForm {said = SaidEdge (codes "L") 0 1} (record { spelled = refl; form = refl }) refl
+edge_513 = OfAForm {said = EdgeLine (codes "L") 0 1} (record { spelled = refl; form = refl }) refl
 
 -- ---- declarations
 
 honest_twice : WrongLine (HonestItem (codes "a") ∷ []) (codes "honest a\n") Twice
-honest_twice = OfAForm {said = SaidHonest (codes "a")} (record { spelled = refl; form = refl }) refl
+honest_twice = OfAForm {said = HonestLine (codes "a")} (record { spelled = refl; form = refl }) refl
 
 -- the same pair, the other way round
 key_twice : WrongLine (key_item (codes "a") (codes "b") 17 ∷ []) (codes "key b a " ++ sixty_four 49) Twice
 unfolding on_literals
-key_twice = OfAForm {said = SaidKey (codes "b") (codes "a") (sixty_four 49)} (record { spelled = refl; form = refl }) refl
+key_twice = OfAForm {said = KeyLine (codes "b") (codes "a") (sixty_four 49)} (record { spelled = refl; form = refl }) refl
 
 name_twice : WrongLine (head_p []) (codes "session s1 pair 2 a,b\n") Twice
 unfolding on_literals
-name_twice = OfAForm {said = SaidSession (codes "s1") (codes "pair") 2 (codes "a" ∷ codes "b" ∷ []) 1} (record { spelled = refl; form = refl }) refl
+name_twice = OfAForm {said = SessionLine (codes "s1") (codes "pair") 2 (codes "a" ∷ codes "b" ∷ []) 1} (record { spelled = refl; form = refl }) refl
 
 session_unknown : WrongLine pair_items (codes "session s1 shop 1 a,b\n") Unknown
 unfolding on_literals
-session_unknown = OfAForm {said = SaidSession (codes "s1") (codes "shop") 1 (codes "a" ∷ codes "b" ∷ []) 1} (record { spelled = refl; form = refl }) refl
+session_unknown = OfAForm {said = SessionLine (codes "s1") (codes "shop") 1 (codes "a" ∷ codes "b" ∷ []) 1} (record { spelled = refl; form = refl }) refl
 
 -- the number of names waits for the graph
 names_wait : WrongLine pair_items (codes "session s1 shop 1 a,b,c\n") Unknown
 unfolding on_literals
-names_wait = OfAForm {said = SaidSession (codes "s1") (codes "shop") 1 (codes "a" ∷ codes "b" ∷ codes "c" ∷ []) 1} (record { spelled = refl; form = refl }) refl
+names_wait = OfAForm {said = SessionLine (codes "s1") (codes "shop") 1 (codes "a" ∷ codes "b" ∷ codes "c" ∷ []) 1} (record { spelled = refl; form = refl }) refl
 
 names_wrong : WrongLine (head_p []) (codes "session s1 pair 1 a,b,c\n") Form
 unfolding on_literals
-names_wrong = OfAForm {said = SaidSession (codes "s1") (codes "pair") 1 (codes "a" ∷ codes "b" ∷ codes "c" ∷ []) 1} (record { spelled = refl; form = refl }) refl
+names_wrong = OfAForm {said = SessionLine (codes "s1") (codes "pair") 1 (codes "a" ∷ codes "b" ∷ codes "c" ∷ []) 1} (record { spelled = refl; form = refl }) refl
 
 -- the graph, nonce and cast of another session
 cast_twice : WrongLine (head_p []) (codes "session s2 pair 1 a,b\n") Twice
 unfolding on_literals
-cast_twice = OfAForm {said = SaidSession (codes "s2") (codes "pair") 1 (codes "a" ∷ codes "b" ∷ []) 1} (record { spelled = refl; form = refl }) refl
+cast_twice = OfAForm {said = SessionLine (codes "s2") (codes "pair") 1 (codes "a" ∷ codes "b" ∷ []) 1} (record { spelled = refl; form = refl }) refl
 
 session_100001 : WrongLine (pair_items ++ replicate 100000 (session_item (codes "s1") 1 (codes "a" ∷ codes "b" ∷ []))) (codes "session s2 shop 1 a,b\n") TooManySessions
 unfolding on_literals
-session_100001 = OfAForm {said = SaidSession (codes "s2") (codes "shop") 1 (codes "a" ∷ codes "b" ∷ []) 1} (record { spelled = refl; form = refl }) refl
+session_100001 = OfAForm {said = SessionLine (codes "s2") (codes "shop") 1 (codes "a" ∷ codes "b" ∷ []) 1} (record { spelled = refl; form = refl }) refl
 
 -- ---- steps
 
 start_unknown : WrongLine (head_p []) (codes "start a s2\n") Unknown
-start_unknown = OfAForm {said = SaidStart (codes "a") (codes "s2")} (record { spelled = refl; form = refl }) refl
+start_unknown = OfAForm {said = StartLine (codes "a") (codes "s2")} (record { spelled = refl; form = refl }) refl
 
 start_not_honest : WrongLine (head_p (codes "b" ∷ [])) (codes "start a s1\n") NotHonest
-start_not_honest = OfAForm {said = SaidStart (codes "a") (codes "s1")} (record { spelled = refl; form = refl }) refl
+start_not_honest = OfAForm {said = StartLine (codes "a") (codes "s1")} (record { spelled = refl; form = refl }) refl
 
 deliver_not_honest : WrongLine (head_p (codes "b" ∷ [])) (codes "deliver a f1\n") NotHonest
 unfolding on_literals
-deliver_not_honest = OfAForm {said = SaidDeliver (codes "a") (TheFrame 1)} (record { spelled = refl; form = refl }) refl
+deliver_not_honest = OfAForm {said = DeliverLine (codes "a") (TheFrame 1)} (record { spelled = refl; form = refl }) refl
 
 label_unknown : WrongLine (head_p (codes "a" ∷ [])) (codes "act a s1 Again\n") Unknown
-label_unknown = OfAForm {said = SaidAct (codes "a") (codes "s1") (codes "Again") []} (record { spelled = refl; form = refl }) refl
+label_unknown = OfAForm {said = ActLine (codes "a") (codes "s1") (codes "Again") []} (record { spelled = refl; form = refl }) refl
 
 variable_unknown : WrongLine alice_carl (codes "act alice s1 Order r=5 r=5\n") Unknown
 unfolding on_literals
-variable_unknown = OfAForm {said = SaidAct (codes "alice") (codes "s1") (codes "Order") (given (codes "r") (codes "5") ∷ given (codes "r") (codes "5") ∷ [])} (record { spelled = refl; form = refl }) refl
+variable_unknown = OfAForm {said = ActLine (codes "alice") (codes "s1") (codes "Order") (given (codes "r") (codes "5") ∷ given (codes "r") (codes "5") ∷ [])} (record { spelled = refl; form = refl }) refl
 
 -- twice comes before not honest
 variable_twice : WrongLine alice_carl (codes "act bob s1 Order q=5 q=6\n") Twice
 unfolding on_literals
-variable_twice = OfAForm {said = SaidAct (codes "bob") (codes "s1") (codes "Order") (given (codes "q") (codes "5") ∷ given (codes "q") (codes "6") ∷ [])} (record { spelled = refl; form = refl }) refl
+variable_twice = OfAForm {said = ActLine (codes "bob") (codes "s1") (codes "Order") (given (codes "q") (codes "5") ∷ given (codes "q") (codes "6") ∷ [])} (record { spelled = refl; form = refl }) refl
 
 step_200001 : WrongLine (replicate 200000 (StepItem (StartStep (codes "a") 0))) (codes "abandon a s1\n") TooManySteps
-step_200001 = OfAForm {said = SaidAbandon (codes "a") (codes "s1")} (record { spelled = refl; form = refl }) refl
+step_200001 = OfAForm {said = AbandonLine (codes "a") (codes "s1")} (record { spelled = refl; form = refl }) refl
 
 -- ---- crafts
 
 -- a frame of one item without commitments, and a list that is known
 abbrev crafted : List Committed → List ℕ → List Committed → List (List ℕ × TagSource) → List Committed → TagSource → LineContent
-crafted know label delta tags openings seal = SaidMake (record {
+crafted know label delta tags openings seal = MakeLine (record {
   session = codes "s1";
   from = codes "p";
   to = codes "c";
@@ -159,7 +159,7 @@ role_unknown = OfAForm {said = crafted [] (codes "Pass") [] ((codes "c", FromIte
 
 -- a craft of n items without commitments
 abbrev long : ℕ → LineContent
-long n = SaidMake (record {
+long n = MakeLine (record {
   session = codes "s1";
   from = codes "p";
   to = codes "c";

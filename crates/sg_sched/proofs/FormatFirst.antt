@@ -6,7 +6,7 @@ use Rattle.sg_parse.specs.Reading.{read, up_to}
 use Rattle.sg_parse.specs.declared.fault.ParseFault.TheVariants.{BadByte}
 use Rattle.sg_parse.proofs.TookGraph.{read-spells}
 use Rattle.sg_sched.specs.Pair.{edge}
-use Rattle.sg_sched.specs.Format.Said.{SaidEdge, SaidHonest, SaidStart}
+use Rattle.sg_sched.specs.Format.LineContents.{EdgeLine, HonestLine, StartLine}
 use Rattle.sg_sched.specs.Format.Items.{GraphItem, EdgeItem}
 use Rattle.sg_sched.specs.Format.Kinds.{Form, Unknown, Twice, Graph as BadGraph}
 use Rattle.sg_sched.specs.Format.Spells.{Line, Skip, Say, Show, Nothing, Next, OfNoForm, OfAForm, NotClosed, NoGraph, SameGraph, IsFirstFault, AtIt, AtEdge}
@@ -29,8 +29,8 @@ third_line = AtIt (record {
   rest = codes "honest 9\n" ∷ [];
   items = _;
   all = refl;
-  declared = Next (Next Nothing (Say {line = codes "honest a\n"} {said = SaidHonest (codes "a")} (record { spelled = refl; form = refl }) refl refl)) (Skip {line = codes "\n"} refl);
-  wrong = OfAForm {said = SaidStart (codes "b") (codes "s1")} (record { spelled = refl; form = refl }) refl;
+  declared = Next (Next Nothing (Say {line = codes "honest a\n"} {said = HonestLine (codes "a")} (record { spelled = refl; form = refl }) refl refl)) (Skip {line = codes "\n"} refl);
+  wrong = OfAForm {said = StartLine (codes "b") (codes "s1")} (record { spelled = refl; form = refl }) refl;
   number = refl;
 })
 
@@ -143,7 +143,7 @@ pair_behind = AtEdge (record {
   from = 0;
   to = 1;
   is_edge = record { spelled = refl; form = refl };
-  declared_later = Next (Next Nothing (Skip {line = codes "# edges\n"} refl)) (Say {line = codes "edge L 0 1\n"} {said = SaidEdge (codes "L") 0 1} (record { spelled = refl; form = refl }) refl refl);
+  declared_later = Next (Next Nothing (Skip {line = codes "# edges\n"} refl)) (Say {line = codes "edge L 0 1\n"} {said = EdgeLine (codes "L") 0 1} (record { spelled = refl; form = refl }) refl refl);
   is_block = record {
     opening = codes "graph {\n";
     inner = pair_text ∷ [];

@@ -7,7 +7,7 @@ use Rattle.hex.specs.Hex.{decode_pairs}
 use Rattle.sg_sched.proofs.FormatGraphs.{shop, relay}
 use Rattle.sg_base.specs.Words.{number}
 use Rattle.sg_sched.specs.Pair.{edge}
-use Rattle.sg_sched.specs.Format.Said.{Word, Assignment, Committed}
+use Rattle.sg_sched.specs.Format.LineContents.{Word, Assignment, Committed}
 use Rattle.sg_sched.specs.Format.Items.{Item, GraphItem, EdgeItem, HonestItem, KeyItem, SessionItem}
 
 -- what the check of a literal line unfolds

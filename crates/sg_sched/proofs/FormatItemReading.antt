@@ -5,7 +5,7 @@ use Rattle.std.proofs.Common.{arith, append_assoc}
 use Rattle.std.proofs.lemmas.Bool.{leb-true}
 use Rattle.sg_model.specs.Names.{Name, is_name}
 use Rattle.sg_model.proofs.Small.{and_left, and_right}
-use Rattle.sg_sched.specs.Format.Said.{Word, Committed, TagSource, ItemContent, committed_word, tag_words, item_words}
+use Rattle.sg_sched.specs.Format.LineContents.{Word, Committed, TagSource, ItemContent, committed_word, tag_words, item_words}
 use Rattle.sg_sched.specs.Format.Forms.{is_committed, are_committed, is_tag, is_item}
 use Rattle.sg_sched.proofs.FormatWords.{number_word, number_decimal, time_is_wide}
 use Rattle.sg_sched.proofs.FormatCraftReading.{committed_said, run, run_complete, tags_said, tags_complete}

@@ -5,7 +5,7 @@ use Rattle.std.proofs.Common.{sym, ◌∙◌, ap, subst, arith}
 use Rattle.std.proofs.lemmas.Bool.{eqb-true}
 use Rattle.sg_model.proofs.Small.{and_left, and_right, contradicts, zero_less}
 use Rattle.sg_sched.specs.Text.{content, words}
-use Rattle.sg_sched.specs.Format.Said.{Word, LineContent, SaidBlock, SaidEdge, SaidHonest, SaidKey, SaidSession, SaidStart, SaidAct, SaidAbandon, SaidDeliver, SaidMake, line_words}
+use Rattle.sg_sched.specs.Format.LineContents.{Word, LineContent, BlockLine, EdgeLine, HonestLine, KeyLine, SessionLine, StartLine, ActLine, AbandonLine, DeliverLine, MakeLine, line_words}
 use Rattle.sg_sched.specs.Format.Forms.{SaysLine, is_comment, is_skipped}
 use Rattle.sg_sched.specs.Format.Spells.{Line, closes}
 
@@ -21,16 +21,16 @@ first_hash ([] ∷ ws) = false
 first_hash ((c ∷ cs) ∷ ws) = c == 35
 
 no_hash : (said : LineContent) → first_hash (line_words said) ≡ false
-no_hash SaidBlock = refl
-no_hash (SaidEdge label from to) = refl
-no_hash (SaidHonest who) = refl
-no_hash (SaidKey one two ds) = refl
-no_hash (SaidSession name graph n names version) = refl
-no_hash (SaidStart who session) = refl
-no_hash (SaidAct who session label values) = refl
-no_hash (SaidAbandon who session) = refl
-no_hash (SaidDeliver who what) = refl
-no_hash (SaidMake c) = refl
+no_hash BlockLine = refl
+no_hash (EdgeLine label from to) = refl
+no_hash (HonestLine who) = refl
+no_hash (KeyLine one two ds) = refl
+no_hash (SessionLine name graph n names version) = refl
+no_hash (StartLine who session) = refl
+no_hash (ActLine who session label values) = refl
+no_hash (AbandonLine who session) = refl
+no_hash (DeliverLine who what) = refl
+no_hash (MakeLine c) = refl
 
 -- no word
 abbrev is_empty : List Word → Bool
@@ -49,16 +49,16 @@ empty_is [] e = refl
 empty_is (w ∷ ws) e = absurd (contradicts e (suc_zero (length ws)))
 
 some_word : (said : LineContent) → is_empty (line_words said) ≡ false
-some_word SaidBlock = refl
-some_word (SaidEdge label from to) = refl
-some_word (SaidHonest who) = refl
-some_word (SaidKey one two ds) = refl
-some_word (SaidSession name graph n names version) = refl
-some_word (SaidStart who session) = refl
-some_word (SaidAct who session label values) = refl
-some_word (SaidAbandon who session) = refl
-some_word (SaidDeliver who what) = refl
-some_word (SaidMake c) = refl
+some_word BlockLine = refl
+some_word (EdgeLine label from to) = refl
+some_word (HonestLine who) = refl
+some_word (KeyLine one two ds) = refl
+some_word (SessionLine name graph n names version) = refl
+some_word (StartLine who session) = refl
+some_word (ActLine who session label values) = refl
+some_word (AbandonLine who session) = refl
+some_word (DeliverLine who what) = refl
+some_word (MakeLine c) = refl
 
 hash_first : (text : List ℕ) → is_comment text ≡ true → first_hash (words text) ≡ true
 hash_first [] h = absurd (cc)

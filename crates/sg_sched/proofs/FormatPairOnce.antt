@@ -14,10 +14,10 @@ use Rattle.sg_parse.specs.declared.fault.ParseFault.{ParseFault}
 use Rattle.sg_parse.proofs.GivesGraph.{spells-read}
 use Rattle.sg_sched.specs.Text.{lines}
 use Rattle.sg_sched.specs.Pair.{edge, graphs_of}
-use Rattle.sg_sched.specs.Format.Said.{SaidEdge}
+use Rattle.sg_sched.specs.Format.LineContents.{EdgeLine}
 use Rattle.sg_sched.specs.Format.Forms.{SaysLine, is_skipped}
 use Rattle.sg_sched.specs.Format.Items.{Item, GraphItem, EdgeItem, HonestItem, KeyItem, SessionItem, StepItem, blocks, edges, graphs, graph_names}
-use Rattle.sg_sched.specs.Format.Made.{made}
+use Rattle.sg_sched.specs.Format.Numbered.{made}
 use Rattle.sg_sched.specs.Format.Spells.{Line, IsBlock, Skip, Say, Show, SpellsSchedule, IsPairAt}
 use Rattle.sg_sched.proofs.FormatReading.{says_one}
 use Rattle.sg_sched.proofs.FormatOnce.{not_skipped, head_same}
@@ -73,16 +73,16 @@ pair_named is h = ap (has_text (codes "pair")) (names_append (blocks is) (graphs
     ∙ later_text (codes "pair") (graph_names (blocks is)) (graph_names (graphs_of (edges is))) (pair_of is h)
 
 -- the item of an edge line
-edge_then : (before all : List Item) (ls more : List Line) (line : Line) (label : Name) (from to : ℕ) → Prefix before ls all → SaysLine line (SaidEdge label from to) → ls ≡ line ∷ more → some_edge all ≡ true
+edge_then : (before all : List Item) (ls more : List Line) (line : Line) (label : Name) (from to : ℕ) → Prefix before ls all → SaysLine line (EdgeLine label from to) → ls ≡ line ∷ more → some_edge all ≡ true
 edge_then before all _ more line label from to Done says e = absurd (never e)
   where
     never : {x : Line} {xs : List Line} → [] ≡ x ∷ xs → ⊥
     never p = cc
-edge_then before all _ more line label from to (More {rest = r} (Skip {line = l} s) f) says e = absurd (not_skipped line (SaidEdge label from to) says (subst (λ l. is_skipped l ≡ true) (head_same e) s))
+edge_then before all _ more line label from to (More {rest = r} (Skip {line = l} s) f) says e = absurd (not_skipped line (EdgeLine label from to) says (subst (λ l. is_skipped l ≡ true) (head_same e) s))
 edge_then before all _ more line label from to (More {rest = r} (Show {block = block} {text = text} b spells fresh) f) says e =
-    absurd (say_or_show before line (SaidEdge label from to) (EdgeItem (edge label from to)) block more r text says refl b (sym e))
+    absurd (say_or_show before line (EdgeLine label from to) (EdgeItem (edge label from to)) block more r text says refl b (sym e))
 edge_then before all _ more line label from to (More {rest = r} (Say {line = l} {said = t} {item = i} says' right makes) f) says e =
-    let same : t ≡ SaidEdge label from to = says_one line t (SaidEdge label from to) (subst (λ l. SaysLine l t) (head_same e) says') says in
+    let same : t ≡ EdgeLine label from to = says_one line t (EdgeLine label from to) (subst (λ l. SaysLine l t) (head_same e) says') says in
     let item : Some i ≡ Some (EdgeItem (edge label from to)) = sym makes ∙ ap (made before) same in
     prefix_edge f (ap (λ o. some_edge (before ++ inside i o ∷ [])) item ∙ edge_last before (edge label from to))
   where

@@ -8,10 +8,10 @@ use Rattle.sg_parse.specs.Grammar.{SpellsGraph}
 use Rattle.sg_parse.specs.Reading.{read}
 use Rattle.sg_parse.specs.declared.fault.ParseFault.{ParseFault}
 use Rattle.sg_parse.proofs.GivesGraph.{spells-read}
-use Rattle.sg_sched.specs.Format.Said.{LineContent, SaidBlock}
+use Rattle.sg_sched.specs.Format.LineContents.{LineContent, BlockLine}
 use Rattle.sg_sched.specs.Format.Forms.{SaysLine, is_skipped}
 use Rattle.sg_sched.specs.Format.Items.{Item, GraphItem}
-use Rattle.sg_sched.specs.Format.Made.{made}
+use Rattle.sg_sched.specs.Format.Numbered.{made}
 use Rattle.sg_sched.specs.Format.Spells.{Line, IsBlock, Add, Skip, Say, Show}
 use Rattle.sg_sched.proofs.FormatReading.{says_one}
 use Rattle.sg_sched.proofs.FormatOnce.{not_skipped, head_same, tail_same, first_closing}
@@ -54,14 +54,14 @@ pub say_or_show : (before : List Item) (line : Line) (said : LineContent) (item 
     → line ∷ rest ≡ block ++ rest' → ⊥
 say_or_show before line said item block rest rest' text says makes b e =
     let opens : line ≡ b.opening = head_same (e ∙ laid before block rest' text b) in
-    let same : said ≡ SaidBlock = says_one b.opening said SaidBlock (subst (λ l. SaysLine l said) opens says) b.opened.opens in
+    let same : said ≡ BlockLine = says_one b.opening said BlockLine (subst (λ l. SaysLine l said) opens says) b.opened.opens in
     none_some (ap (made before) (sym same) ∙ makes)
 
 -- a skipped line doesn't open a block
 pub skip_or_show : (before : List Item) (line : Line) (block rest rest' : List Line) (text : List ℕ) → is_skipped line ≡ true → IsBlock before block text → line ∷ rest ≡ block ++ rest' → ⊥
 skip_or_show before line block rest rest' text skipped b e =
     let opens : line ≡ b.opening = head_same (e ∙ laid before block rest' text b) in
-    not_skipped b.opening SaidBlock b.opened.opens (subst (λ l. is_skipped l ≡ true) opens skipped)
+    not_skipped b.opening BlockLine b.opened.opens (subst (λ l. is_skipped l ≡ true) opens skipped)
 
 -- the lines at the front that add items, and these items, are one
 pub one_add : (before : List Item) (these those : List Line) (new new' : List Item) (rest rest' : List Line) → Add before these new → Add before those new' → these ++ rest ≡ those ++ rest'

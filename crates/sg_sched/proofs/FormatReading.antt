@@ -8,65 +8,65 @@ use Rattle.sg_model.specs.Lists.{has_text, all_differ}
 use Rattle.sg_model.specs.Names.{Name, is_name, reserved}
 use Rattle.sg_model.proofs.Small.{and_left, and_right}
 use Rattle.sg_sched.specs.Text.{content, words}
-use Rattle.sg_sched.specs.Format.Said.{Word, LineContent, SaidBlock, SaidEdge, SaidHonest, SaidKey, SaidSession, SaidStart, SaidAct, SaidAbandon, SaidDeliver, SaidMake, Delivered, TheFrame, TheFlipped, TheCut, TheBytes, line_words, joined_names, delivered_words, version_words}
-use Rattle.sg_sched.specs.Format.Forms.{is_form, SaysLine, is_wide, is_short, is_frame, is_given, is_delivered, are_names}
+use Rattle.sg_sched.specs.Format.LineContents.{Word, LineContent, BlockLine, EdgeLine, HonestLine, KeyLine, SessionLine, StartLine, ActLine, AbandonLine, DeliverLine, MakeLine, Delivered, TheFrame, TheFlipped, TheCut, TheBytes, line_words, joined_names, delivered_words, version_words}
+use Rattle.sg_sched.specs.Format.Forms.{is_form, SaysLine, is_wide, is_short, is_frame, is_assignment, is_delivered, are_names}
 use Rattle.sg_sched.proofs.FormatWholeCraft.{craft_said, craft_complete}
-use Rattle.sg_sched.proofs.FormatWords.{number_word, number_decimal, name_list, name_list-joined, givens_said, givens_complete, frame_number, short_is_wide, frame_is_wide, byte_is_wide, wide}
+use Rattle.sg_sched.proofs.FormatWords.{number_word, number_decimal, name_list, name_list-joined, assignments_said, assignments_complete, frame_number, short_is_wide, frame_is_wide, byte_is_wide, wide}
 
 -- ---- the forms, from behind the first word
 
 -- graph {
 abbrev pub block_said : List Word → Option LineContent
-block_said (b ∷ []) = if bytes_eq b (codes "{") then Some SaidBlock else None
+block_said (b ∷ []) = if bytes_eq b (codes "{") then Some BlockLine else None
 block_said other = None
 
 -- edge LABEL FROM TO
 abbrev pub edge_said : List Word → Option LineContent
-edge_said (label ∷ a ∷ b ∷ []) = option_and_then (λ x. option_map (λ y. SaidEdge label x y) (number_word b)) (number_word a)
+edge_said (label ∷ a ∷ b ∷ []) = option_and_then (λ x. option_map (λ y. EdgeLine label x y) (number_word b)) (number_word a)
 edge_said other = None
 
 -- honest NAME
 abbrev pub honest_said : List Word → Option LineContent
-honest_said (who ∷ []) = Some (SaidHonest who)
+honest_said (who ∷ []) = Some (HonestLine who)
 honest_said other = None
 
 -- key NAME NAME HEX
 abbrev pub key_said : List Word → Option LineContent
-key_said (one ∷ two ∷ ds ∷ []) = Some (SaidKey one two ds)
+key_said (one ∷ two ∷ ds ∷ []) = Some (KeyLine one two ds)
 key_said other = None
 
 -- session NAME GRAPH NONCE NAME,NAME,.. and v2
 abbrev pub session_said : List Word → Option LineContent
-session_said (name ∷ graph ∷ n ∷ names ∷ []) = option_map (λ n. SaidSession name graph n (name_list names) 1) (number_word n)
-session_said (name ∷ graph ∷ n ∷ names ∷ v ∷ []) = if bytes_eq v (codes "v2") then option_map (λ n. SaidSession name graph n (name_list names) 2) (number_word n) else None
+session_said (name ∷ graph ∷ n ∷ names ∷ []) = option_map (λ n. SessionLine name graph n (name_list names) 1) (number_word n)
+session_said (name ∷ graph ∷ n ∷ names ∷ v ∷ []) = if bytes_eq v (codes "v2") then option_map (λ n. SessionLine name graph n (name_list names) 2) (number_word n) else None
 session_said other = None
 
 -- start NAME SESSION
 abbrev pub start_said : List Word → Option LineContent
-start_said (who ∷ session ∷ []) = Some (SaidStart who session)
+start_said (who ∷ session ∷ []) = Some (StartLine who session)
 start_said other = None
 
 -- act NAME SESSION LABEL VAR=VALUE ..
 abbrev pub act_said : List Word → Option LineContent
-act_said (who ∷ session ∷ label ∷ ws) = option_map (λ vs. SaidAct who session label vs) (givens_said ws)
+act_said (who ∷ session ∷ label ∷ ws) = option_map (λ vs. ActLine who session label vs) (assignments_said ws)
 act_said other = None
 
 -- abandon NAME SESSION
 abbrev pub abandon_said : List Word → Option LineContent
-abandon_said (who ∷ session ∷ []) = Some (SaidAbandon who session)
+abandon_said (who ∷ session ∷ []) = Some (AbandonLine who session)
 abandon_said other = None
 
 -- a frame that is changed
 abbrev pub changed_said : Name → Word → ℕ → ℕ → Option LineContent
 changed_said who change n i =
-    if bytes_eq change (codes "flip") then Some (SaidDeliver who (TheFlipped n i))
-    else if bytes_eq change (codes "cut") then Some (SaidDeliver who (TheCut n i))
+    if bytes_eq change (codes "flip") then Some (DeliverLine who (TheFlipped n i))
+    else if bytes_eq change (codes "cut") then Some (DeliverLine who (TheCut n i))
     else None
 
 -- deliver NAME fN, deliver NAME fN flip I, deliver NAME fN cut I, deliver NAME hex HEX
 abbrev pub deliver_said : List Word → Option LineContent
-deliver_said (who ∷ f ∷ []) = option_map (λ n. SaidDeliver who (TheFrame n)) (frame_number f)
-deliver_said (who ∷ f ∷ ds ∷ []) = if bytes_eq f (codes "hex") then Some (SaidDeliver who (TheBytes ds)) else None
+deliver_said (who ∷ f ∷ []) = option_map (λ n. DeliverLine who (TheFrame n)) (frame_number f)
+deliver_said (who ∷ f ∷ ds ∷ []) = if bytes_eq f (codes "hex") then Some (DeliverLine who (TheBytes ds)) else None
 deliver_said (who ∷ f ∷ change ∷ i ∷ []) = option_and_then (λ n. option_and_then (λ i. changed_said who change n i) (number_word i)) (frame_number f)
 deliver_said other = None
 
@@ -93,11 +93,11 @@ said_of (w ∷ ws) = said_by w ws
 -- ---- nothing is left out
 
 session_complete : (name graph n : Word) (nonce : ℕ) (ns : List Name) (version : ℕ) → nonce < 2 ^ 64 → nat_le 1 (length ns) ≡ true → list_all is_name ns ≡ true → (version == 1 || version == 2) ≡ true
-    → session_said (name ∷ graph ∷ decimal nonce ∷ joined_names ns ∷ version_words version) ≡ Some (SaidSession name graph nonce ns version)
+    → session_said (name ∷ graph ∷ decimal nonce ∷ joined_names ns ∷ version_words version) ≡ Some (SessionLine name graph nonce ns version)
 session_complete name graph n nonce [] version small some names v = absurd (cc)
 session_complete name graph n nonce (m ∷ ms) version small some names v = by (version == 2) refl
   where
-    by : (b : Bool) → (version == 2) ≡ b → session_said (name ∷ graph ∷ decimal nonce ∷ joined_names (m ∷ ms) ∷ (if b then codes "v2" ∷ [] else [])) ≡ Some (SaidSession name graph nonce (m ∷ ms) version)
+    by : (b : Bool) → (version == 2) ≡ b → session_said (name ∷ graph ∷ decimal nonce ∷ joined_names (m ∷ ms) ∷ (if b then codes "v2" ∷ [] else [])) ≡ Some (SessionLine name graph nonce (m ∷ ms) version)
     by true e = rw (number_decimal nonce small, name_list-joined m ms names, eqb-true version 2 e)
     by false e = rw (number_decimal nonce small, name_list-joined m ms names, eqb-true version 1 (first (version == 1) (version == 2) v e))
       where
@@ -105,7 +105,7 @@ session_complete name graph n nonce (m ∷ ms) version small some names v = by (
         first true b p q = refl
         first false b p q = cc
 
-deliver_complete : (who : Name) (what : Delivered) → is_delivered what ≡ true → deliver_said (who ∷ delivered_words what) ≡ Some (SaidDeliver who what)
+deliver_complete : (who : Name) (what : Delivered) → is_delivered what ≡ true → deliver_said (who ∷ delivered_words what) ≡ Some (DeliverLine who what)
 deliver_complete who (TheFrame n) h = rw (number_decimal n (frame_is_wide n h))
 deliver_complete who (TheFlipped n i) h = rw (number_decimal n (frame_is_wide n (and_left (is_frame n) (is_short i) h)), number_decimal i (short_is_wide i (and_right (is_frame n) (is_short i) h)))
 deliver_complete who (TheCut n i) h = rw (number_decimal n (frame_is_wide n (and_left (is_frame n) (is_short i) h)), number_decimal i (short_is_wide i (and_right (is_frame n) (is_short i) h)))
@@ -113,15 +113,15 @@ deliver_complete who (TheBytes ds) h = refl
 
 -- a line of a form is found by its words
 pub complete : (said : LineContent) → is_form said ≡ true → said_of (line_words said) ≡ Some said
-complete SaidBlock h = refl
-complete (SaidEdge label a b) h =
+complete BlockLine h = refl
+complete (EdgeLine label a b) h =
     let ends = and_left (is_name label && not (has_text label reserved) && nat_le a 255 && nat_le b 255) (not (a % 2 == b % 2)) h in
     let first = and_right (is_name label && not (has_text label reserved)) (nat_le a 255) (and_left (is_name label && not (has_text label reserved) && nat_le a 255) (nat_le b 255) ends) in
     let second = and_right (is_name label && not (has_text label reserved) && nat_le a 255) (nat_le b 255) ends in
     rw (number_decimal a (byte_is_wide a first), number_decimal b (byte_is_wide b second))
-complete (SaidHonest who) h = refl
-complete (SaidKey one two ds) h = refl
-complete (SaidSession name graph nonce ns version) h =
+complete (HonestLine who) h = refl
+complete (KeyLine one two ds) h = refl
+complete (SessionLine name graph nonce ns version) h =
     let v = and_right (is_name name && is_name graph && is_wide nonce && nat_le 1 (length ns) && are_names ns && all_differ ns) (version == 1 || version == 2) h in
     let h1 = and_left (is_name name && is_name graph && is_wide nonce && nat_le 1 (length ns) && are_names ns && all_differ ns) (version == 1 || version == 2) h in
     let h2 = and_left (is_name name && is_name graph && is_wide nonce && nat_le 1 (length ns) && are_names ns) (all_differ ns) h1 in
@@ -130,11 +130,11 @@ complete (SaidSession name graph nonce ns version) h =
     let some = and_right (is_name name && is_name graph && is_wide nonce) (nat_le 1 (length ns)) h3 in
     let small = and_right (is_name name && is_name graph) (is_wide nonce) (and_left (is_name name && is_name graph && is_wide nonce) (nat_le 1 (length ns)) h3) in
     session_complete name graph name nonce ns version (wide nonce small) some names v
-complete (SaidStart who session) h = refl
-complete (SaidAct who session label vs) h = rw (givens_complete vs (and_right (are_names (who ∷ session ∷ label ∷ [])) (list_all is_given vs) h))
-complete (SaidAbandon who session) h = refl
-complete (SaidDeliver who what) h = deliver_complete who what (and_right (is_name who) (is_delivered what) h)
-complete (SaidMake c) h = craft_complete c h
+complete (StartLine who session) h = refl
+complete (ActLine who session label vs) h = rw (assignments_complete vs (and_right (are_names (who ∷ session ∷ label ∷ [])) (list_all is_assignment vs) h))
+complete (AbandonLine who session) h = refl
+complete (DeliverLine who what) h = deliver_complete who what (and_right (is_name who) (is_delivered what) h)
+complete (MakeLine c) h = craft_complete c h
 
 -- the words say nothing that is of a form
 abbrev pub rejects : Option LineContent → Bool

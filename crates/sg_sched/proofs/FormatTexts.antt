@@ -8,7 +8,7 @@ use Rattle.sg_parse.specs.Reading.{read, up_to}
 use Rattle.sg_parse.proofs.TookGraph.{read-spells}
 use Rattle.sg_sched.specs.Text.{lines}
 use Rattle.sg_sched.specs.Pair.{edge, pair_graph}
-use Rattle.sg_sched.specs.Format.Said.{SaidEdge, SaidHonest, SaidKey, SaidSession, SaidStart, SaidAct, SaidDeliver, TheFrame}
+use Rattle.sg_sched.specs.Format.LineContents.{EdgeLine, HonestLine, KeyLine, SessionLine, StartLine, ActLine, DeliverLine, TheFrame}
 use Rattle.sg_sched.specs.Format.Items.{GraphItem, StepItem}
 use Rattle.sg_sched.specs.Format.Spells.{Line, IsBlock, Add, Skip, Say, Show, Declare, Nothing, Next, SpellsSchedule}
 use Rattle.sg_sched.proofs.FormatHeads.{on_literals, sixty_four, head_p}
@@ -25,17 +25,17 @@ exchange_lines : Declare (lines exchange) (head_p (codes "a" ∷ codes "b" ∷ [
 unfolding on_literals exchange
 exchange_lines =
     Next (Next (Next (Next (Next (Next (Next (Next (Next (Next (Next Nothing
-    (Say {line = codes "edge Request 0 1\n"} {said = SaidEdge (codes "Request") 0 1} (record { spelled = refl; form = refl }) refl refl))
-    (Say {line = codes "edge Reply 1 2\n"} {said = SaidEdge (codes "Reply") 1 2} (record { spelled = refl; form = refl }) refl refl))
-    (Say {line = codes "honest a\n"} {said = SaidHonest (codes "a")} (record { spelled = refl; form = refl }) refl refl))
-    (Say {line = codes "honest b\n"} {said = SaidHonest (codes "b")} (record { spelled = refl; form = refl }) refl refl))
-    (Say {line = codes "key a b " ++ sixty_four 49 ++ 10 ∷ []} {said = SaidKey (codes "a") (codes "b") (sixty_four 49)} (record { spelled = refl; form = refl }) refl refl))
-    (Say {line = codes "session s1 pair 1 a,b\n"} {said = SaidSession (codes "s1") (codes "pair") 1 (codes "a" ∷ codes "b" ∷ []) 1} (record { spelled = refl; form = refl }) refl refl))
+    (Say {line = codes "edge Request 0 1\n"} {said = EdgeLine (codes "Request") 0 1} (record { spelled = refl; form = refl }) refl refl))
+    (Say {line = codes "edge Reply 1 2\n"} {said = EdgeLine (codes "Reply") 1 2} (record { spelled = refl; form = refl }) refl refl))
+    (Say {line = codes "honest a\n"} {said = HonestLine (codes "a")} (record { spelled = refl; form = refl }) refl refl))
+    (Say {line = codes "honest b\n"} {said = HonestLine (codes "b")} (record { spelled = refl; form = refl }) refl refl))
+    (Say {line = codes "key a b " ++ sixty_four 49 ++ 10 ∷ []} {said = KeyLine (codes "a") (codes "b") (sixty_four 49)} (record { spelled = refl; form = refl }) refl refl))
+    (Say {line = codes "session s1 pair 1 a,b\n"} {said = SessionLine (codes "s1") (codes "pair") 1 (codes "a" ∷ codes "b" ∷ []) 1} (record { spelled = refl; form = refl }) refl refl))
     (Skip {line = codes "\n"} refl))
     (Skip {line = codes "# the steps\n"} refl))
-    (Say {line = codes "start a s1\n"} {said = SaidStart (codes "a") (codes "s1")} (record { spelled = refl; form = refl }) refl refl))
-    (Say {line = codes "act a s1 Request\n"} {said = SaidAct (codes "a") (codes "s1") (codes "Request") []} (record { spelled = refl; form = refl }) refl refl))
-    (Say {line = codes "deliver b f1"} {said = SaidDeliver (codes "b") (TheFrame 1)} (record { spelled = refl; form = refl }) refl refl)
+    (Say {line = codes "start a s1\n"} {said = StartLine (codes "a") (codes "s1")} (record { spelled = refl; form = refl }) refl refl))
+    (Say {line = codes "act a s1 Request\n"} {said = ActLine (codes "a") (codes "s1") (codes "Request") []} (record { spelled = refl; form = refl }) refl refl))
+    (Say {line = codes "deliver b f1"} {said = DeliverLine (codes "b") (TheFrame 1)} (record { spelled = refl; form = refl }) refl refl)
 
 -- the graph of its edge lines
 abbrev pair : Graph

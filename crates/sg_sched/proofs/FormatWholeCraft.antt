@@ -8,7 +8,7 @@ use Rattle.std.proofs.lemmas.Bool.{leb-true}
 use Rattle.sg_model.specs.Names.{Name}
 use Rattle.sg_model.proofs.Small.{and_left, and_right}
 use Rattle.sg_protocol.specs.Schedule.{CraftJoin}
-use Rattle.sg_sched.specs.Format.Said.{Word, Committed, TagSource, ItemContent, CraftContent, LineContent, SaidMake, committed_word, from_words, item_words, join_words, list_words, option_words, joined_names}
+use Rattle.sg_sched.specs.Format.LineContents.{Word, Committed, TagSource, ItemContent, CraftContent, LineContent, MakeLine, committed_word, from_words, item_words, join_words, list_words, option_words, joined_names}
 use Rattle.sg_sched.specs.Format.Forms.{is_committed, are_committed, is_source, is_item, is_join, is_wide, are_names, is_craft}
 use Rattle.sg_sched.proofs.FormatWords.{same_self, number_word, number_decimal, name_list, name_list-joined, wide}
 use Rattle.sg_sched.proofs.FormatCraftReading.{committed_said, run, run_complete, source_said, source_complete}
@@ -100,7 +100,7 @@ behind_join n session from to join ws =
     option_and_then (λ (know : List Committed × List Word).
     option_and_then (λ (is : List ItemContent × List Word).
     option_and_then (λ (opened : List Committed × List Word).
-    option_map (λ seal. SaidMake (record { session = session; from = from; to = to; join = join; know = know.0; items = is.0; openings = opened.0; seal = seal }))
+    option_map (λ seal. MakeLine (record { session = session; from = from; to = to; join = join; know = know.0; items = is.0; openings = opened.0; seal = seal }))
     (end_said opened.1)) (list_said (codes "open") is.1)) (items_said n know.1)) (list_said (codes "know") ws)
 
 -- SESSION from ROLE to ROLE and what follows, with up to n items
@@ -170,7 +170,7 @@ craft_facts c h =
 
 -- a craft of a form, with up to n items, is found by its words
 found_of : (n : ℕ) (c : CraftContent) (is : List ItemContent) → CraftFacts c → nat_le 1 (length is) ≡ true → length is ≤ n → list_all is_item is ≡ true
-    → craft_said n (craft_rest (record c { items = is })) ≡ Some (SaidMake (record c { items = is }))
+    → craft_said n (craft_rest (record c { items = is })) ≡ Some (MakeLine (record c { items = is }))
 found_of n c [] f s l a = absurd (cc)
 found_of n c (i ∷ is) f s l a =
     rw (
@@ -182,5 +182,5 @@ found_of n c (i ∷ is) f s l a =
     )
 
 -- a craft of a form is found by its words
-pub craft_complete : (c : CraftContent) → is_craft c ≡ true → craft_said 65535 (craft_rest c) ≡ Some (SaidMake c)
+pub craft_complete : (c : CraftContent) → is_craft c ≡ true → craft_said 65535 (craft_rest c) ≡ Some (MakeLine c)
 craft_complete c h = let f = craft_facts c h in found_of 65535 c c.items f f.some f.count f.items

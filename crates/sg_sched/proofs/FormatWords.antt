@@ -10,8 +10,8 @@ use Rattle.std.proofs.lemmas.Slice.Eq.{bytes_eq-Decides}
 use Rattle.sg_model.specs.Names.{Name, is_letter, is_name, is_name_byte}
 use Rattle.sg_model.proofs.Small.{and_left, and_right}
 use Rattle.sg_protocol.proofs.GraphText.{letter_byte}
-use Rattle.sg_sched.specs.Format.Said.{Word, Assignment, joined_names, given_word}
-use Rattle.sg_sched.specs.Format.Forms.{is_wide, is_short, is_frame, is_given}
+use Rattle.sg_sched.specs.Format.LineContents.{Word, Assignment, joined_names, assignment_word}
+use Rattle.sg_sched.specs.Format.Forms.{is_wide, is_short, is_frame, is_assignment}
 
 -- ---- tests
 
@@ -113,19 +113,19 @@ equal_split-at (c ∷ cs) v h = by (c == 61) (equal_split-at cs v (and_right (no
     by true ih l = absurd (cc)
 
 -- a word as VAR=VALUE
-abbrev pub given_said : Word → Option Assignment
-given_said w = option_map (λ (p : Word × Word). record { variable = p.0; value = p.1 }) (equal_split w)
+abbrev pub assignment_read : Word → Option Assignment
+assignment_read w = option_map (λ (p : Word × Word). record { variable = p.0; value = p.1 }) (equal_split w)
 
 -- every word as VAR=VALUE
-abbrev pub givens_said : List Word → Option (List Assignment)
-givens_said [] = Some []
-givens_said (w ∷ ws) = option_and_then (λ v. option_map (λ vs. v ∷ vs) (givens_said ws)) (given_said w)
+abbrev pub assignments_said : List Word → Option (List Assignment)
+assignments_said [] = Some []
+assignments_said (w ∷ ws) = option_and_then (λ v. option_map (λ vs. v ∷ vs) (assignments_said ws)) (assignment_read w)
 
-pub givens_complete : (vs : List Assignment) → list_all is_given vs ≡ true → givens_said (map given_word vs) ≡ Some vs
-givens_complete [] h = refl
-givens_complete (v ∷ vs) h = rw (
-  equal_split-at v.variable v.value (name_lacks 61 v.variable refl (and_left (is_name v.variable) _ (and_left (is_given v) _ h))),
-  givens_complete vs (and_right (is_given v) _ h),
+pub assignments_complete : (vs : List Assignment) → list_all is_assignment vs ≡ true → assignments_said (map assignment_word vs) ≡ Some vs
+assignments_complete [] h = refl
+assignments_complete (v ∷ vs) h = rw (
+  equal_split-at v.variable v.value (name_lacks 61 v.variable refl (and_left (is_name v.variable) _ (and_left (is_assignment v) _ h))),
+  assignments_complete vs (and_right (is_assignment v) _ h),
 )
 
 -- ---- frames

@@ -12,7 +12,7 @@ use Rattle.sg_model.proofs.Small.{some_same}
 use Rattle.sg_protocol.specs.Schedule.{CraftJoin}
 use Rattle.sg_base.specs.Words.{name, number}
 use Rattle.sg_sched.specs.Words.{frame}
-use Rattle.sg_sched.specs.Format.Said.{Word, Committed, TagSource, ItemContent, CraftContent, LineContent, SaidMake, committed_word, from_words, tag_words, item_words, join_words, list_words, option_words, joined_names, craft_words}
+use Rattle.sg_sched.specs.Format.LineContents.{Word, Committed, TagSource, ItemContent, CraftContent, LineContent, MakeLine, committed_word, from_words, tag_words, item_words, join_words, list_words, option_words, joined_names, craft_words}
 use Rattle.sg_sched.specs.Format.Forms.{is_committed, is_source, is_tag, is_item, are_committed, is_join, is_wide, are_names, is_craft, is_form}
 use Rattle.sg_sched.specs.Format.Reading.{WordsLeft, Taker, word, after, ended}
 use Rattle.sg_sched.specs.Format.CraftReading.{time, run, few, some_of, listed, source, repeated, tag, item, is_next, all_names, name_list, sixteen, cast, optional, join_parts, join, opened, exactly, ends, ends_of, seal_form, some_items, craft_form}

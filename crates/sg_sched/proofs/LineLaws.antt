@@ -2,7 +2,7 @@
 use Rattle.std.specs.Prelude.{◌≡◌, ℕ, Bool, true, false, if◌then◌else◌, List, [], ◌∷◌, ◌++◌, map, codes, bytes_eq, refl, Option, Some, None, option_map, MatchOption}
 use Rattle.std.proofs.Common.{sym, ◌∙◌, ap}
 use Rattle.std.proofs.lemmas.Slice.Eq.{bytes_eq-Decides}
-use Rattle.sg_sched.specs.Format.Said.{Word, LineContent, SaidBlock, SaidEdge, SaidHonest, SaidKey, SaidSession, SaidStart, SaidAct, SaidAbandon, SaidDeliver, SaidMake, line_words}
+use Rattle.sg_sched.specs.Format.LineContents.{Word, LineContent, BlockLine, EdgeLine, HonestLine, KeyLine, SessionLine, StartLine, ActLine, AbandonLine, DeliverLine, MakeLine, line_words}
 use Rattle.sg_sched.specs.Format.Forms.{is_form, SaysLine}
 use Rattle.sg_sched.specs.Format.Model.{said}
 use Rattle.sg_sched.specs.declared.line.Line.{Line}
@@ -46,16 +46,16 @@ form_sound (w ∷ ws) s h =
 
 pub form_complete : (s : LineContent) → is_form s ≡ true → form (line_words s) ≡ Some s
 unfolding form block_form
-form_complete SaidBlock h = refl
-form_complete (SaidEdge label from to) h = edge_complete label from to h
-form_complete (SaidHonest who) h = honest_complete who h
-form_complete (SaidKey one two ds) h = key_complete one two ds h
-form_complete (SaidSession name graph nonce ns v) h = session_complete name graph nonce ns v h
-form_complete (SaidStart who session) h = start_complete who session h
-form_complete (SaidAct who session label vs) h = act_complete who session label vs h
-form_complete (SaidAbandon who session) h = abandon_complete who session h
-form_complete (SaidDeliver who what) h = deliver_complete who what h
-form_complete (SaidMake c) h = craft_reads c h
+form_complete BlockLine h = refl
+form_complete (EdgeLine label from to) h = edge_complete label from to h
+form_complete (HonestLine who) h = honest_complete who h
+form_complete (KeyLine one two ds) h = key_complete one two ds h
+form_complete (SessionLine name graph nonce ns v) h = session_complete name graph nonce ns v h
+form_complete (StartLine who session) h = start_complete who session h
+form_complete (ActLine who session label vs) h = act_complete who session label vs h
+form_complete (AbandonLine who session) h = abandon_complete who session h
+form_complete (DeliverLine who what) h = deliver_complete who what h
+form_complete (MakeLine c) h = craft_reads c h
 
 -- ---- lines
 

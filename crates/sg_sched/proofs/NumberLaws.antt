@@ -11,7 +11,7 @@ use Rattle.std.proofs.lemmas.Str.Parse.{IsNumeralModel, IsDigitsTest, numerals_b
 use Rattle.sg_model.proofs.Small.{and_left, and_right, some_same}
 use Rattle.sg_base.specs.Words.{number, from_one, up_to, value, is_digit, has_needless_zero}
 use Rattle.sg_sched.specs.Words.{frame}
-use Rattle.sg_sched.specs.Format.Said.{Word, frame_word}
+use Rattle.sg_sched.specs.Format.LineContents.{Word, frame_word}
 use Rattle.sg_sched.specs.Format.Forms.{is_short, is_wide, is_frame}
 use Rattle.sg_sched.proofs.FormLaws.{none_some}
 use Rattle.sg_sched.proofs.FormatWords.{both}

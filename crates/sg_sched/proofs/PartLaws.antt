@@ -12,10 +12,10 @@ use Rattle.sg_model.specs.Lists.{has_text, all_differ}
 use Rattle.sg_model.proofs.Small.{and_left, and_right, some_same}
 use Rattle.sg_base.specs.Words.{name, number}
 use Rattle.sg_sched.specs.Words.{names, frame}
-use Rattle.sg_sched.specs.Format.Said.{Word, Assignment, LineContent, SaidEdge, SaidSession, SaidAct, SaidDeliver, TheFrame, TheFlipped, TheCut, TheBytes, line_words, joined_names, given_word, version_words}
-use Rattle.sg_sched.specs.Format.Forms.{is_form, is_given, is_wide, is_short, are_names}
+use Rattle.sg_sched.specs.Format.LineContents.{Word, Assignment, LineContent, EdgeLine, SessionLine, ActLine, DeliverLine, TheFrame, TheFlipped, TheCut, TheBytes, line_words, joined_names, assignment_word, version_words}
+use Rattle.sg_sched.specs.Format.Forms.{is_form, is_assignment, is_wide, is_short, are_names}
 use Rattle.sg_sched.specs.Format.Values.{is_value, is_hex}
-use Rattle.sg_sched.specs.Format.Reading.{WordsLeft, Taker, word, after, ended, edge_form, edge_of, session_form, version, act_form, given, given_of, givens, split_at, split_step, hex, short, frame_form, what_form, deliver_form}
+use Rattle.sg_sched.specs.Format.Reading.{WordsLeft, Taker, word, after, ended, edge_form, edge_of, session_form, version, act_form, given, assignment_of, assignments, split_at, split_step, hex, short, frame_form, what_form, deliver_form}
 use Rattle.sg_sched.proofs.FormatWords.{both, same_self, lacks, name_lacks, name_list, name_list-joined}
 use Rattle.sg_sched.proofs.FormLaws.{none_some, step, ended_is, line_up, name_is, name_ok, Fits, fits}
 use Rattle.sg_sched.proofs.NumberLaws.{number_is, number_ok, frame_is, frame_ok, short_is, is_short_of, wide_is, is_wide_of}
@@ -23,10 +23,10 @@ use Rattle.sg_sched.proofs.NumberLaws.{number_is, number_ok, frame_is, frame_ok,
 -- ---- edges
 
 edge_by : (ws : WordsLeft) (label : Name) (from to : ℕ) (s : LineContent) → ws ≡ label ∷ decimal from ∷ decimal to ∷ [] → is_name label ≡ true → nat_le from 255 ≡ true → nat_le to 255 ≡ true
-    → (taken same : Bool) → has_text label reserved ≡ taken → (from % 2 == to % 2) ≡ same → (if taken then None else if same then None else Some (SaidEdge label from to)) ≡ Some s → Fits (codes "edge" ∷ ws) s
+    → (taken same : Bool) → has_text label reserved ≡ taken → (from % 2 == to % 2) ≡ same → (if taken then None else if same then None else Some (EdgeLine label from to)) ≡ Some s → Fits (codes "edge" ∷ ws) s
 edge_by ws label from to s w n f t true same p q h = none_some h
 edge_by ws label from to s w n f t false true p q h = none_some h
-edge_by ws label from to s w n f t false false p q h = fits {s = SaidEdge label from to} (ap (λ r. codes "edge" ∷ r) w) (both (both (both (both n (ap not p)) f) t) (ap not q)) h
+edge_by ws label from to s w n f t false false p q h = fits {s = EdgeLine label from to} (ap (λ r. codes "edge" ∷ r) w) (both (both (both (both n (ap not p)) f) t) (ap not q)) h
 
 pub edge_sound : (ws : WordsLeft) (s : LineContent) → edge_form ws ≡ Some s → Fits (codes "edge" ∷ ws) s
 unfolding edge_form
@@ -125,17 +125,17 @@ nothing_behind xs e h = e ∙ ap (λ (r : WordsLeft). xs ++ r) h ∙ append-nil 
 pub session_sound : (ws : WordsLeft) (s : LineContent) → session_form ws ≡ Some s → Fits (codes "session" ∷ ws) s
 unfolding session_form
 session_sound ws s h =
-    let a = step name (λ session. after (word name) λ graph. after (word (number 18446744073709551615)) λ nonce. after (word names) λ cast. after version λ version. ended (Some (SaidSession session graph nonce cast version))) ws s h in
-    let b = step name (λ graph. after (word (number 18446744073709551615)) λ nonce. after (word names) λ cast. after version λ version. ended (Some (SaidSession a.value graph nonce cast version))) a.rest s a.more in
-    let d = step (number 18446744073709551615) (λ nonce. after (word names) λ cast. after version λ version. ended (Some (SaidSession a.value b.value nonce cast version))) b.rest s b.more in
-    let f = step names (λ cast. after version λ version. ended (Some (SaidSession a.value b.value d.value cast version))) d.rest s d.more in
-    let v = versioned (λ version. ended (Some (SaidSession a.value b.value d.value f.value version))) f.rest s f.more in
-    let e = ended_is (Some (SaidSession a.value b.value d.value f.value v.version)) v.rest s v.more in
+    let a = step name (λ session. after (word name) λ graph. after (word (number 18446744073709551615)) λ nonce. after (word names) λ cast. after version λ version. ended (Some (SessionLine session graph nonce cast version))) ws s h in
+    let b = step name (λ graph. after (word (number 18446744073709551615)) λ nonce. after (word names) λ cast. after version λ version. ended (Some (SessionLine a.value graph nonce cast version))) a.rest s a.more in
+    let d = step (number 18446744073709551615) (λ nonce. after (word names) λ cast. after version λ version. ended (Some (SessionLine a.value b.value nonce cast version))) b.rest s b.more in
+    let f = step names (λ cast. after version λ version. ended (Some (SessionLine a.value b.value d.value cast version))) d.rest s d.more in
+    let v = versioned (λ version. ended (Some (SessionLine a.value b.value d.value f.value version))) f.rest s f.more in
+    let e = ended_is (Some (SessionLine a.value b.value d.value f.value v.version)) v.rest s v.more in
     let m = name_is a.first a.value a.was in
     let n = name_is b.first b.value b.was in
     let k = number_is 18446744073709551615 d.first d.value (omega arith) d.was in
     let ns = names_are f.first f.value f.was in
-    fits {s = SaidSession a.value b.value d.value f.value v.version}
+    fits {s = SessionLine a.value b.value d.value f.value v.version}
     (ap (λ r. codes "session" ∷ r) (line_up a.all m.same (line_up b.all n.same (line_up d.all k.same (line_up f.all ns.same (nothing_behind (version_words v.version) v.is.all e.0))))))
     (both (both (both (both (both (both m.name n.name) (wide_is d.value k.within)) ns.some) ns.names) ns.differ) v.is.known) e.1
 
@@ -169,53 +169,53 @@ split_ok mark (c ∷ cs) v h = by (c == mark) refl (split_ok mark cs v (and_righ
     by false e ih l = ap (λ b. if b then found_first (cs ++ mark ∷ v) else option_map (in_front c) (split_at mark (cs ++ mark ∷ v))) e ∙ ap (option_map (in_front c)) ih
     by true e ih l = absurd (true≢false (sym l ∙ ap not e))
 
-pub given_is : (w : Word) (v : Assignment) → given w ≡ Some v → (w ≡ given_word v) × (is_given v ≡ true)
+pub assignment_is : (w : Word) (v : Assignment) → given w ≡ Some v → (w ≡ assignment_word v) × (is_assignment v ≡ true)
 unfolding given
-given_is w v h = found (split_at 61 w) refl h
+assignment_is w v h = found (split_at 61 w) refl h
   where
-    by : (p : Word × Word) → split_at 61 w ≡ Some p → (b : Bool) → (is_name p.0 && is_value p.1) ≡ b → (if b then Some (record { variable = p.0; value = p.1 }) else None) ≡ Some v → (w ≡ given_word v) × (is_given v ≡ true)
-    by p e true q h = subst (λ (v : Assignment). (w ≡ given_word v) × (is_given v ≡ true)) (some_same h) (split_is 61 w p.0 p.1 e, q)
+    by : (p : Word × Word) → split_at 61 w ≡ Some p → (b : Bool) → (is_name p.0 && is_value p.1) ≡ b → (if b then Some (record { variable = p.0; value = p.1 }) else None) ≡ Some v → (w ≡ assignment_word v) × (is_assignment v ≡ true)
+    by p e true q h = subst (λ (v : Assignment). (w ≡ assignment_word v) × (is_assignment v ≡ true)) (some_same h) (split_is 61 w p.0 p.1 e, q)
     by p e false q h = none_some h
 
-    found : (o : Option (Word × Word)) → split_at 61 w ≡ o → option_and_then given_of o ≡ Some v → (w ≡ given_word v) × (is_given v ≡ true)
+    found : (o : Option (Word × Word)) → split_at 61 w ≡ o → option_and_then assignment_of o ≡ Some v → (w ≡ assignment_word v) × (is_assignment v ≡ true)
     found None e h = none_some h
     found (Some p) e h = by p e (is_name p.0 && is_value p.1) refl h
 
-pub given_ok : (v : Assignment) → is_given v ≡ true → given (given_word v) ≡ Some v
+pub assignment_ok : (v : Assignment) → is_assignment v ≡ true → given (assignment_word v) ≡ Some v
 unfolding given
-given_ok v h = ap (option_and_then given_of) (split_ok 61 v.variable v.value (name_lacks 61 v.variable refl (and_left (is_name v.variable) (is_value v.value) h))) ∙ ap (λ b. if b then Some v else None) h
+assignment_ok v h = ap (option_and_then assignment_of) (split_ok 61 v.variable v.value (name_lacks 61 v.variable refl (and_left (is_name v.variable) (is_value v.value) h))) ∙ ap (λ b. if b then Some v else None) h
 
-pub givens_are : (ws : WordsLeft) (vs : List Assignment) → givens ws ≡ Some vs → (ws ≡ map given_word vs) × (list_all is_given vs ≡ true)
-givens_are [] vs h = subst (λ (vs : List Assignment). ([] ≡ map given_word vs) × (list_all is_given vs ≡ true)) (some_same h) (refl, refl)
-givens_are (w ∷ ws) vs h = first (given w) refl (λ us f. givens_are ws us f) h
+pub assignments_are : (ws : WordsLeft) (vs : List Assignment) → assignments ws ≡ Some vs → (ws ≡ map assignment_word vs) × (list_all is_assignment vs ≡ true)
+assignments_are [] vs h = subst (λ (vs : List Assignment). ([] ≡ map assignment_word vs) × (list_all is_assignment vs ≡ true)) (some_same h) (refl, refl)
+assignments_are (w ∷ ws) vs h = first (given w) refl (λ us f. assignments_are ws us f) h
   where
-    rest : ((us : List Assignment) → givens ws ≡ Some us → (ws ≡ map given_word us) × (list_all is_given us ≡ true)) → (v : Assignment) → given w ≡ Some v → (o : Option (List Assignment)) → givens ws ≡ o → option_map (λ vs. v ∷ vs) o ≡ Some vs → ((w ∷ ws) ≡ map given_word vs) × (list_all is_given vs ≡ true)
+    rest : ((us : List Assignment) → assignments ws ≡ Some us → (ws ≡ map assignment_word us) × (list_all is_assignment us ≡ true)) → (v : Assignment) → given w ≡ Some v → (o : Option (List Assignment)) → assignments ws ≡ o → option_map (λ vs. v ∷ vs) o ≡ Some vs → ((w ∷ ws) ≡ map assignment_word vs) × (list_all is_assignment vs ≡ true)
     rest ih v e None f h = none_some h
     rest ih v e (Some us) f h =
-        let g = given_is w v e in
+        let g = assignment_is w v e in
         let r = ih us f in
-        subst (λ (vs : List Assignment). ((w ∷ ws) ≡ map given_word vs) × (list_all is_given vs ≡ true)) (some_same h) ((λ i. g.0 i ∷ r.0 i), both g.1 r.1)
+        subst (λ (vs : List Assignment). ((w ∷ ws) ≡ map assignment_word vs) × (list_all is_assignment vs ≡ true)) (some_same h) ((λ i. g.0 i ∷ r.0 i), both g.1 r.1)
 
-    first : (o : Option Assignment) → given w ≡ o → ((us : List Assignment) → givens ws ≡ Some us → (ws ≡ map given_word us) × (list_all is_given us ≡ true)) → option_and_then (λ v. option_map (λ vs. v ∷ vs) (givens ws)) o ≡ Some vs → ((w ∷ ws) ≡ map given_word vs) × (list_all is_given vs ≡ true)
+    first : (o : Option Assignment) → given w ≡ o → ((us : List Assignment) → assignments ws ≡ Some us → (ws ≡ map assignment_word us) × (list_all is_assignment us ≡ true)) → option_and_then (λ v. option_map (λ vs. v ∷ vs) (assignments ws)) o ≡ Some vs → ((w ∷ ws) ≡ map assignment_word vs) × (list_all is_assignment vs ≡ true)
     first None e ih h = none_some h
-    first (Some v) e ih h = rest ih v e (givens ws) refl h
+    first (Some v) e ih h = rest ih v e (assignments ws) refl h
 
-pub givens_ok : (vs : List Assignment) → list_all is_given vs ≡ true → givens (map given_word vs) ≡ Some vs
-givens_ok [] h = refl
-givens_ok (v ∷ vs) h = rw (given_ok v (and_left (is_given v) (list_all is_given vs) h), givens_ok vs (and_right (is_given v) (list_all is_given vs) h)) refl
+pub assignments_ok : (vs : List Assignment) → list_all is_assignment vs ≡ true → assignments (map assignment_word vs) ≡ Some vs
+assignments_ok [] h = refl
+assignments_ok (v ∷ vs) h = rw (assignment_ok v (and_left (is_assignment v) (list_all is_assignment vs) h), assignments_ok vs (and_right (is_assignment v) (list_all is_assignment vs) h)) refl
 
 pub act_sound : (ws : WordsLeft) (s : LineContent) → act_form ws ≡ Some s → Fits (codes "act" ∷ ws) s
 unfolding act_form
 act_sound ws s h =
-    let a = step name (λ who. after (word name) λ session. after (word name) λ label. λ ws. option_map (SaidAct who session label) (givens ws)) ws s h in
-    let b = step name (λ session. after (word name) λ label. λ ws. option_map (SaidAct a.value session label) (givens ws)) a.rest s a.more in
-    let d = step name (λ label. λ ws. option_map (SaidAct a.value b.value label) (givens ws)) b.rest s b.more in
+    let a = step name (λ who. after (word name) λ session. after (word name) λ label. λ ws. option_map (ActLine who session label) (assignments ws)) ws s h in
+    let b = step name (λ session. after (word name) λ label. λ ws. option_map (ActLine a.value session label) (assignments ws)) a.rest s a.more in
+    let d = step name (λ label. λ ws. option_map (ActLine a.value b.value label) (assignments ws)) b.rest s b.more in
     let l = name_is a.first a.value a.was in
     let m = name_is b.first b.value b.was in
     let n = name_is d.first d.value d.was in
-    by a.value b.value d.value d.rest (λ (r : WordsLeft) e. ap (λ r. codes "act" ∷ r) (line_up a.all l.same (line_up b.all m.same (line_up d.all n.same e)))) (both l.name (both m.name (both n.name refl))) (givens d.rest) refl d.more
+    by a.value b.value d.value d.rest (λ (r : WordsLeft) e. ap (λ r. codes "act" ∷ r) (line_up a.all l.same (line_up b.all m.same (line_up d.all n.same e)))) (both l.name (both m.name (both n.name refl))) (assignments d.rest) refl d.more
   where
     by : (who session label : Name) (rest : WordsLeft) → ((r : WordsLeft) → rest ≡ r → (codes "act" ∷ ws) ≡ codes "act" ∷ who ∷ session ∷ label ∷ r) → are_names (who ∷ session ∷ label ∷ []) ≡ true
-        → (o : Option (List Assignment)) → givens rest ≡ o → option_map (SaidAct who session label) o ≡ Some s → Fits (codes "act" ∷ ws) s
+        → (o : Option (List Assignment)) → assignments rest ≡ o → option_map (ActLine who session label) o ≡ Some s → Fits (codes "act" ∷ ws) s
     by who session label rest w n None e h = none_some h
-    by who session label rest w n (Some vs) e h = let g = givens_are rest vs e in fits {s = SaidAct who session label vs} (w (map given_word vs) g.0) (both n g.1) h
+    by who session label rest w n (Some vs) e h = let g = assignments_are rest vs e in fits {s = ActLine who session label vs} (w (map assignment_word vs) g.0) (both n g.1) h

@@ -1,7 +1,7 @@
 -- What stands first on a line, word by word.
 use Rattle.std.proofs.Common.{◌≡◌, ℕ, zero, suc, ◌+◌, ◌≤◌, ◌<◌, ◌==◌, true, false, List, [], ◌∷◌, ◌++◌, length, take, drop, get_or, append_assoc, append-nil, bytes_eq, codes, Option, Some, None, option_map, option_and_then, refl, sym, ap, ◌∙◌, arith}
 use Rattle.std.proofs.lemmas.List.{drop_more, drop_all}
-use Rattle.sg_sched.specs.Format.Said.{Word, Committed}
+use Rattle.sg_sched.specs.Format.LineContents.{Word, Committed}
 use Rattle.sg_sched.specs.Format.Reading.{WordsLeft, Taker, after}
 use Rattle.sg_sched.specs.Format.CraftReading.{split_last, last_step, run, some_of, listed, is_next, optional, repeated, more_after, join, join_parts}
 use Rattle.sg_sched.specs.Format.Reading.{word}

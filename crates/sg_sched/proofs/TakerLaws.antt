@@ -9,7 +9,7 @@ use Rattle.sg_model.specs.Names.{Name, is_name}
 use Rattle.sg_model.proofs.Small.{some_same}
 use Rattle.sg_base.specs.Words.{name, number}
 use Rattle.sg_sched.specs.Words.{frame}
-use Rattle.sg_sched.specs.Format.Said.{Word, Committed, TagSource, FromKey, FromItem, FromSeal, FromZero, ItemContent, committed_word, from_words, tag_words, item_words}
+use Rattle.sg_sched.specs.Format.LineContents.{Word, Committed, TagSource, FromKey, FromItem, FromSeal, FromZero, ItemContent, committed_word, from_words, tag_words, item_words}
 use Rattle.sg_sched.specs.Format.Forms.{is_committed, is_source, is_tag, is_item, is_wide, is_short, is_frame, are_committed}
 use Rattle.sg_sched.specs.Format.Values.{is_value}
 use Rattle.sg_sched.specs.Format.Reading.{WordsLeft, Taker, word, after, ended, split_at}

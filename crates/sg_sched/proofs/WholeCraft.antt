@@ -10,7 +10,7 @@ use Rattle.sg_model.specs.Names.{Name, is_name}
 use Rattle.sg_model.proofs.Small.{and_left, and_right}
 use Rattle.sg_protocol.specs.Schedule.{CraftJoin}
 use Rattle.sg_base.specs.Words.{name, number}
-use Rattle.sg_sched.specs.Format.Said.{Word, Committed, TagSource, ItemContent, CraftContent, LineContent, SaidMake, committed_word, from_words, item_words, join_words, list_words, option_words, joined_names}
+use Rattle.sg_sched.specs.Format.LineContents.{Word, Committed, TagSource, ItemContent, CraftContent, LineContent, MakeLine, committed_word, from_words, item_words, join_words, list_words, option_words, joined_names}
 use Rattle.sg_sched.specs.Format.Forms.{is_committed, is_source, is_item, are_committed, is_join, is_wide, are_names, is_craft}
 use Rattle.sg_sched.specs.Format.Reading.{WordsLeft, Taker, word, after, ended}
 use Rattle.sg_sched.specs.Format.CraftReading.{committed, run, few, some_of, listed, source, repeated, item, is_next, all_names, name_list, sixteen, cast, optional, join_parts, join, opened, exactly, ends, seal_form, some_items, craft_form}
@@ -129,10 +129,10 @@ craft_up_to n =
     after (listed (codes "know")) λ know.
     after (repeated (codes "item") item n) λ is.
     some_items is (after opened λ openings.
-    λ ws. option_map (λ seal. SaidMake (record { session = e.0; from = e.1; to = e.2; join = j; know = know; items = is; openings = openings; seal = seal })) (seal_form ws))
+    λ ws. option_map (λ seal. MakeLine (record { session = e.0; from = e.1; to = e.2; join = j; know = know; items = is; openings = openings; seal = seal })) (seal_form ws))
 
 craft_with : (n : ℕ) (c : CraftContent) (i : ItemContent) (is : List ItemContent) → CraftFacts c → are_names (c.session ∷ c.from ∷ c.to ∷ []) ≡ true → not (bytes_eq c.from c.to) ≡ true → length (i ∷ is) ≤ n → list_all is_item (i ∷ is) ≡ true
-    → craft_up_to n (craft_rest (record c { items = i ∷ is })) ≡ Some (SaidMake (record c { items = i ∷ is }))
+    → craft_up_to n (craft_rest (record c { items = i ∷ is })) ≡ Some (MakeLine (record c { items = i ∷ is }))
 craft_with n c i is f names d l a =
     let tail = list_words (codes "open") c.openings ++ codes "seal" ∷ from_words c.seal in
     let more = (item_print i ++ flat_map item_words is) ++ tail in
@@ -148,7 +148,7 @@ craft_with n c i is f names d l a =
     ) refl
 
 craft_found : (n : ℕ) (c : CraftContent) (is : List ItemContent) → CraftFacts c → are_names (c.session ∷ c.from ∷ c.to ∷ []) ≡ true → not (bytes_eq c.from c.to) ≡ true → nat_le 1 (length is) ≡ true → length is ≤ n → list_all is_item is ≡ true
-    → craft_up_to n (craft_rest (record c { items = is })) ≡ Some (SaidMake (record c { items = is }))
+    → craft_up_to n (craft_rest (record c { items = is })) ≡ Some (MakeLine (record c { items = is }))
 craft_found n c [] f names d some l a = absurd (cc some)
 craft_found n c (i ∷ is) f names d some l a = craft_with n c i is f names d l a
 
@@ -165,7 +165,7 @@ prefix c h =
     and_left t0 (option_map_or is_join c.join true) (and_left t1 (list_all is_committed c.know) (and_left t2 (nat_le 1 (length c.items)) (and_left t3 (nat_le (length c.items) 65535)
     (and_left t4 (list_all is_item c.items) (and_left t5 (are_committed c.openings) (and_left t6 (is_source c.seal) h))))))
 
-pub craft_reads : (c : CraftContent) → is_craft c ≡ true → craft_form (craft_rest c) ≡ Some (SaidMake c)
+pub craft_reads : (c : CraftContent) → is_craft c ≡ true → craft_form (craft_rest c) ≡ Some (MakeLine c)
 unfolding craft_form
 craft_reads c h =
     let f = craft_facts c h in

@@ -1,8 +1,8 @@
-pub mod Said
+pub mod LineContents
 pub mod Values
 pub mod Forms
 pub mod Items
-pub mod Made
+pub mod Numbered
 pub mod Kinds
 pub mod Faults
 pub mod Spells

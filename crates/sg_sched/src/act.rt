@@ -1,6 +1,6 @@
 //! The form of an act.
 ghost use Rattle.std.specs.Prelude.{◌≡◌, IfOk, IfSome, option_copied, option_map, Some, None, MatchOption, ◌<◌, length};
-ghost use Rattle.sg_sched.specs.Format.Reading.{split_at, given, givens, act_form};
+ghost use Rattle.sg_sched.specs.Format.Reading.{split_at, given, assignments, act_form};
 ghost use Rattle.sg_sched.specs.Format.Model.{said};
 
 use crate::form::take_name;
@@ -49,7 +49,7 @@ pub fn read_assignments<'a>(
     alloc: Global,
     words: &mut Words<'a>,
 ) -> Result<Option<Seq<Assignment<'a>>>, OutOfMemory>
-    ensures { IfOk result (λ o. o ≡ givens words.old) }
+    ensures { IfOk result (λ o. o ≡ assignments words.old) }
 {
     let mut values = Seq::new(alloc);
     'words: while let Some(word) = words.next() {

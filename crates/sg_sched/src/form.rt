@@ -2,7 +2,7 @@
 ghost use Rattle.std.specs.Prelude.{◌≡◌, ◌≤◌, IfOk, IfSome, option_map, option_copied, length};
 ghost use Rattle.sg_base.specs.Words.{name, number};
 ghost use Rattle.sg_sched.specs.Words.{names, frame};
-ghost use Rattle.sg_sched.specs.Format.Reading.{word, hex_of, hex, short, version, given, givens, block_form, edge_form, honest_form, key_form, session_form, start_form, act_form, abandon_form, frame_form, what_form, deliver_form};
+ghost use Rattle.sg_sched.specs.Format.Reading.{word, hex_of, hex, short, version, given, assignments, block_form, edge_form, honest_form, key_form, session_form, start_form, act_form, abandon_form, frame_form, what_form, deliver_form};
 ghost use Rattle.sg_sched.specs.Format.Model.{said, taken, delivered};
 
 use crate::line::{Delivered, Line};

@@ -14,7 +14,7 @@ pub struct Assignment<'a> {
 }
 
 impl<'a> Model for Assignment<'a> {
-    ghost use Rattle.sg_sched.specs.Format.Said.{Assignment};
+    ghost use Rattle.sg_sched.specs.Format.LineContents.{Assignment};
 
     ghost Value = { Assignment };
 
@@ -56,7 +56,7 @@ pub struct Committed<'a> {
 }
 
 impl<'a> Model for Committed<'a> {
-    ghost use Rattle.sg_sched.specs.Format.Said.{Committed};
+    ghost use Rattle.sg_sched.specs.Format.LineContents.{Committed};
 
     ghost Value = { Committed };
 
@@ -102,7 +102,7 @@ pub struct TagLine {
 
 impl Model for TagLine {
     ghost use Rattle.sg_model.specs.Names.{Name};
-    ghost use Rattle.sg_sched.specs.Format.Said.{TagSource};
+    ghost use Rattle.sg_sched.specs.Format.LineContents.{TagSource};
     ghost use Rattle.sg_sched.specs.Format.Sources.{from_of};
 
     ghost Value = { Name × TagSource };
@@ -124,7 +124,7 @@ pub struct ItemLine<'a> {
 }
 
 impl<'a> Model for ItemLine<'a> {
-    ghost use Rattle.sg_sched.specs.Format.Said.{ItemContent};
+    ghost use Rattle.sg_sched.specs.Format.LineContents.{ItemContent};
 
     ghost Value = { ItemContent };
 
@@ -153,7 +153,7 @@ pub struct CraftLine<'a> {
 }
 
 impl<'a> Model for CraftLine<'a> {
-    ghost use Rattle.sg_sched.specs.Format.Said.{CraftContent};
+    ghost use Rattle.sg_sched.specs.Format.LineContents.{CraftContent};
     ghost use Rattle.sg_sched.specs.Format.Sources.{from_of};
 
     ghost Value = { CraftContent };

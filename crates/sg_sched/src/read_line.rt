@@ -4,7 +4,7 @@ ghost use Rattle.std.specs.List.{list_all};
 ghost use Rattle.sg_sched.specs.Text.{words};
 ghost use Rattle.sg_sched.specs.Format.Form.{form};
 ghost use Rattle.sg_sched.specs.Format.Model.{said};
-ghost use Rattle.sg_sched.specs.Format.Said.{LineContent};
+ghost use Rattle.sg_sched.specs.Format.LineContents.{LineContent};
 ghost use Rattle.sg_sched.specs.Format.Forms.{SaysLine, is_comment};
 
 use crate::act::act;

@@ -10,10 +10,10 @@ use Rattle.sg_model.specs.Lists.{has_text, first_some}
 use Rattle.sg_protocol.specs.Graph.{Graph}
 use Rattle.sg_protocol.specs.Schedule.{Step, StartStep, ActStep, AbandonStep, DeliverStep}
 use Rattle.sg_sched.specs.Pair.{edge, labels}
-use Rattle.sg_sched.specs.Format.Said.{Word, Assignment, Delivered, SaidEdge, SaidHonest, SaidKey, SaidSession, SaidStart, SaidAct, SaidAbandon, SaidDeliver}
+use Rattle.sg_sched.specs.Format.LineContents.{Word, Assignment, Delivered, EdgeLine, HonestLine, KeyLine, SessionLine, StartLine, ActLine, AbandonLine, DeliverLine}
 use Rattle.sg_sched.specs.Format.Values.{bytes_of}
 use Rattle.sg_sched.specs.Format.Items.{Item, EdgeItem, HonestItem, KeyItem, SessionItem, StepItem, SoFar, graphs_declared, graph_names, session_names, index, graph_for, labels_of, is_key_of}
-use Rattle.sg_sched.specs.Format.Made.{values, what_of}
+use Rattle.sg_sched.specs.Format.Numbered.{values, what_of}
 use Rattle.sg_sched.specs.Format.Kinds.{Form, TooManySteps, TooManySessions, Unknown, Twice, NotHonest}
 use Rattle.sg_sched.specs.Format.Faults.{where', fits_graph, is_like, knows_variable}
 use Rattle.sg_sched_text.specs.Plus.{plus}
@@ -31,7 +31,7 @@ edge_tests past false false true pair item = refl
 edge_tests past false false false true item = refl
 edge_tests past false false false false item = refl
 
-pub edge_added : (past : SoFar) (label : Name) (from to : ℕ) → add_edge past label from to ≡ after_line past (SaidEdge label from to)
+pub edge_added : (past : SoFar) (label : Name) (from to : ℕ) → add_edge past label from to ≡ after_line past (EdgeLine label from to)
 unfolding add_edge after_line
 edge_added past label from to =
     sym (edge_tests past (nat_lt 0 past.group) (nat_le 512 (length past.edges)) (has_text label (labels past.edges)) (has_text (codes "pair") (graph_names past.blocks)) (EdgeItem (edge label from to)))
@@ -43,11 +43,11 @@ once_tests past true named item = refl
 once_tests past false true item = refl
 once_tests past false false item = refl
 
-pub honest_added : (past : SoFar) (who : Name) → add_honest past who ≡ after_line past (SaidHonest who)
+pub honest_added : (past : SoFar) (who : Name) → add_honest past who ≡ after_line past (HonestLine who)
 unfolding add_honest after_line
 honest_added past who = sym (once_tests past (nat_lt 1 past.group) (has_text who past.honest) (HonestItem who))
 
-pub key_added : (past : SoFar) (one two : Name) (digits : Word) → add_key past one two digits ≡ after_line past (SaidKey one two digits)
+pub key_added : (past : SoFar) (one two : Name) (digits : Word) → add_key past one two digits ≡ after_line past (KeyLine one two digits)
 unfolding add_key after_line
 key_added past one two digits = sym (once_tests past (nat_lt 2 past.group) (list_any (is_key_of one two) past.keys) (KeyItem (record { one = one; two = two; key = bytes_of digits })))
 
@@ -67,7 +67,7 @@ fits_is : (past : SoFar) (graph : Name) (names : List Name) → fits_at past (po
 fits_is past graph names = ap (λ o. option_map_or (λ g. length names == length g.roles) o true) (then_index (slice_get (graphs_declared past)) graph (graph_names (graphs_declared past)))
 
 pub session_added : (past : SoFar) (name graph : Name) (nonce : ℕ) (names : List Name) (version : ℕ)
-    → add_session past name graph nonce names version ≡ after_line past (SaidSession name graph nonce names version)
+    → add_session past name graph nonce names version ≡ after_line past (SessionLine name graph nonce names version)
 unfolding add_session after_line
 session_added past name graph nonce names version =
     let gs = graph_names (graphs_declared past) in
@@ -108,19 +108,19 @@ module _ (past : SoFar) (h : past.group ≤ 4) where
   after_step repeated honest known made step e =
       ap (add_step past repeated honest) e ∙ sym (step_tests past (nat_lt 4 past.group) (nat_le most_steps (length past.steps)) known repeated honest made (not_late past.group h))
 
-  pub start_added : (who session : Name) → add_step past false (has_text who past.honest) (start_step past who session) ≡ after_line past (SaidStart who session)
+  pub start_added : (who session : Name) → add_step past false (has_text who past.honest) (start_step past who session) ≡ after_line past (StartLine who session)
   unfolding after_line
   start_added who session =
       after_step false (has_text who past.honest) (has_text session (session_names past)) (StartStep who (index session (session_names past))) (start_step past who session)
       (known_index (StartStep who) session (session_names past))
 
-  pub abandon_added : (who session : Name) → add_step past false (has_text who past.honest) (abandon_step past who session) ≡ after_line past (SaidAbandon who session)
+  pub abandon_added : (who session : Name) → add_step past false (has_text who past.honest) (abandon_step past who session) ≡ after_line past (AbandonLine who session)
   unfolding after_line
   abandon_added who session =
       after_step false (has_text who past.honest) (has_text session (session_names past)) (AbandonStep who (index session (session_names past))) (abandon_step past who session)
       (known_index (AbandonStep who) session (session_names past))
 
-  pub deliver_added : (who : Name) (what : Delivered) → add_step past false (has_text who past.honest) (Some (DeliverStep who (what_of what))) ≡ after_line past (SaidDeliver who what)
+  pub deliver_added : (who : Name) (what : Delivered) → add_step past false (has_text who past.honest) (Some (DeliverStep who (what_of what))) ≡ after_line past (DeliverLine who what)
   unfolding after_line
   deliver_added who what = after_step false (has_text who past.honest) true (DeliverStep who (what_of what)) (Some (DeliverStep who (what_of what))) refl
 
@@ -138,7 +138,7 @@ module _ (past : SoFar) (h : past.group ≤ 4) where
       by false = refl
 
   pub act_added : (who session label : Name) (vs : List Assignment)
-      → add_step past (is_twice vs) (has_text who past.honest) (act_step past who session label vs) ≡ after_line past (SaidAct who session label vs)
+      → add_step past (is_twice vs) (has_text who past.honest) (act_step past who session label vs) ≡ after_line past (ActLine who session label vs)
   unfolding after_line
   act_added who session label vs =
       let g = graph_for session past in

@@ -10,9 +10,9 @@ use Rattle.sg_model.specs.Lists.{has_text, first_some}
 use Rattle.sg_model.specs.Values.{Opening}
 use Rattle.sg_protocol.specs.Graph.{Graph}
 use Rattle.sg_protocol.specs.Schedule.{Source, CopyItem, CraftItem, Step, CraftStep}
-use Rattle.sg_sched.specs.Format.Said.{Committed, TagSource, FromKey, FromItem, FromSeal, FromZero, ItemContent, CraftContent, SaidMake}
+use Rattle.sg_sched.specs.Format.LineContents.{Committed, TagSource, FromKey, FromItem, FromSeal, FromZero, ItemContent, CraftContent, MakeLine}
 use Rattle.sg_sched.specs.Format.Items.{SoFar, StepItem, Item, session_names, session_named, index, graph_for, roles_of, labels_of, variables_of}
-use Rattle.sg_sched.specs.Format.Made.{opening, source, craft_item, craft}
+use Rattle.sg_sched.specs.Format.Numbered.{opening, source, craft_item, craft}
 use Rattle.sg_sched.specs.Format.Kinds.{Kind, Form, TooManySteps, Unknown, Twice, NotHonest}
 use Rattle.sg_sched.specs.Format.Faults.{where', knows_variable, knows_source, knows_item, variables, rises, is_short}
 use Rattle.sg_sched_text.specs.Plus.{plus}
@@ -147,11 +147,11 @@ module _ (past : SoFar) (c : CraftContent) where
   abbrev pub is_fine : Bool
   is_fine = rises (graph_for c.session past) c && is_short (graph_for c.session past) (session_named c.session past) c
 
-  pub craft_wrong : is_fine ≡ false → after_line past (SaidMake c) ≡ Err Form
+  pub craft_wrong : is_fine ≡ false → after_line past (MakeLine c) ≡ Err Form
   unfolding after_line
   craft_wrong h = wrong_tests past is_fine _ _ h
 
-  pub craft_added : is_fine ≡ true → add_step past false true (craft_step past (graph_for c.session past) c) ≡ after_line past (SaidMake c)
+  pub craft_added : is_fine ≡ true → add_step past false true (craft_step past (graph_for c.session past) c) ≡ after_line past (MakeLine c)
   unfolding after_line add_step
   craft_added h =
       let g = graph_for c.session past in

@@ -28,10 +28,10 @@ use Rattle.sg_protocol.specs.Crafted.{committed_to, crafted_item, crafted_items,
 use Rattle.sg_protocol.proofs.RealHash.{real_hash}
 use Rattle.sg_protocol.proofs.Sent.{len_concat, cut_tag}
 use Rattle.sg_protocol.proofs.Spelled.{to_bytes, bytes-append, bytes-zeros, u64_bytes}
-use Rattle.sg_sched.specs.Format.Said.{Committed, TagSource, ItemContent, CraftContent}
+use Rattle.sg_sched.specs.Format.LineContents.{Committed, TagSource, ItemContent, CraftContent}
 use Rattle.sg_sched.specs.Format.Forms.{is_committed, are_committed, is_item, is_join, is_craft, is_source, are_names, is_wide}
 use Rattle.sg_sched.specs.Format.Items.{Session, SoFar, index, roles_of, variables_of, labels_of}
-use Rattle.sg_sched.specs.Format.Made.{opening, source, craft_item, craft}
+use Rattle.sg_sched.specs.Format.Numbered.{opening, source, craft_item, craft}
 use Rattle.sg_sched.specs.Format.Faults.{rise, variables, tag_roles, knows_variable, knows_source, knows_item}
 use Rattle.sg_sched.specs.Format.Values.{is_value, value_of}
 use Rattle.sg_sched_text.specs.Crafting.{lens, opening_len, item_len, join_len, frame_len}

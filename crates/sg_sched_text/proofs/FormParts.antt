@@ -6,8 +6,8 @@ use Rattle.std.specs.Option.{option_map_or}
 use Rattle.std.proofs.lemmas.Bool.{leb-true}
 use Rattle.std.proofs.lemmas.List.Folds.{list_all_at}
 use Rattle.sg_model.specs.Names.{Name, is_name, is_letter, is_name_byte}
-use Rattle.sg_sched.specs.Format.Said.{Assignment, Committed, ItemContent, CraftContent}
-use Rattle.sg_sched.specs.Format.Forms.{is_given, is_committed, are_committed, is_source, is_tag, is_item, is_join, is_craft, are_names, is_wide}
+use Rattle.sg_sched.specs.Format.LineContents.{Assignment, Committed, ItemContent, CraftContent}
+use Rattle.sg_sched.specs.Format.Forms.{is_assignment, is_committed, are_committed, is_source, is_tag, is_item, is_join, is_craft, are_names, is_wide}
 use Rattle.sg_sched.specs.Format.Values.{is_value}
 
 left : (p q : Bool) → p && q ≡ true → p ≡ true
@@ -26,8 +26,8 @@ each p xs i d h lt = by (p (get_or xs i d)) refl
     by true e = e
     by false e = let no = list_all_at p xs i d lt e in absurd (cc)
 
-pub given_value : (v : Assignment) → IsTrue (is_given v) → IsTrue (is_value v.value)
-given_value v h = right (is_name v.variable) (is_value v.value) h
+pub assigned_value : (v : Assignment) → IsTrue (is_assignment v) → IsTrue (is_value v.value)
+assigned_value v h = right (is_name v.variable) (is_value v.value) h
 
 pub committed_value : (c : Committed) → IsTrue (is_committed c) → IsTrue (is_value c.value)
 committed_value c h = right (is_name c.variable) (is_value c.value) (left (is_name c.variable && is_value c.value) (is_wide c.step) h)

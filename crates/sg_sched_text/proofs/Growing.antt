@@ -3,10 +3,10 @@ use Rattle.std.proofs.Common.{◌≡◌, List, [], ◌∷◌, ◌++◌, max, ref
 use Rattle.std.specs.Prelude.{Option, Some, None, Ok, Err, filter_map, fold}
 use Rattle.std.proofs.lemmas.List.Elements.{filter_map-append}
 use Rattle.std.proofs.lemmas.List.Sums.{fold_push}
-use Rattle.sg_sched.specs.Format.Said.{LineContent, SaidBlock, SaidEdge, SaidHonest, SaidKey, SaidSession, SaidStart, SaidAct, SaidAbandon, SaidDeliver, SaidMake}
+use Rattle.sg_sched.specs.Format.LineContents.{LineContent, BlockLine, EdgeLine, HonestLine, KeyLine, SessionLine, StartLine, ActLine, AbandonLine, DeliverLine, MakeLine}
 use Rattle.sg_sched.specs.Format.Items.{Item, GraphItem, EdgeItem, HonestItem, KeyItem, SessionItem, StepItem, SoFar, so_far, group_of, as_block, as_edge, as_honest, as_key, as_session, as_step}
 use Rattle.sg_sched.specs.Format.Kinds.{Kind}
-use Rattle.sg_sched.specs.Format.Made.{made}
+use Rattle.sg_sched.specs.Format.Numbered.{made}
 use Rattle.sg_sched.specs.Format.Faults.{fault}
 use Rattle.sg_sched_text.specs.Plus.{plus}
 use Rattle.sg_sched_text.specs.Adding.{added, after_line}
@@ -88,19 +88,19 @@ pub record Taken (items : List Item) (said : LineContent) (new : SoFar) : Type 0
   pub makes : made items said ≡ Some item
   pub after : new ≡ so_far (items ++ item ∷ [])
 
-only_block : (items : List Item) (said : LineContent) → made items said ≡ None → said ≡ SaidBlock
-only_block items SaidBlock h = refl
-only_block items (SaidEdge label from to) h = absurd (cc)
-only_block items (SaidHonest who) h = absurd (cc)
-only_block items (SaidKey one two digits) h = absurd (cc)
-only_block items (SaidSession name graph nonce names version) h = absurd (cc)
-only_block items (SaidStart who session) h = absurd (cc)
-only_block items (SaidAct who session label values) h = absurd (cc)
-only_block items (SaidAbandon who session) h = absurd (cc)
-only_block items (SaidDeliver who what) h = absurd (cc)
-only_block items (SaidMake c) h = absurd (cc)
+only_block : (items : List Item) (said : LineContent) → made items said ≡ None → said ≡ BlockLine
+only_block items BlockLine h = refl
+only_block items (EdgeLine label from to) h = absurd (cc)
+only_block items (HonestLine who) h = absurd (cc)
+only_block items (KeyLine one two digits) h = absurd (cc)
+only_block items (SessionLine name graph nonce names version) h = absurd (cc)
+only_block items (StartLine who session) h = absurd (cc)
+only_block items (ActLine who session label values) h = absurd (cc)
+only_block items (AbandonLine who session) h = absurd (cc)
+only_block items (DeliverLine who what) h = absurd (cc)
+only_block items (MakeLine c) h = absurd (cc)
 
-pub took : (items : List Item) (said : LineContent) (new : SoFar) → (said ≡ SaidBlock → ⊥) → after_line (so_far items) said ≡ Ok new → Taken items said new
+pub took : (items : List Item) (said : LineContent) (new : SoFar) → (said ≡ BlockLine → ⊥) → after_line (so_far items) said ≡ Ok new → Taken items said new
 unfolding after_line
 took items said new other e = by (fault items said) (made items said) refl refl e
   where
@@ -119,10 +119,10 @@ stopped items said kind e = by (fault items said) (made items said) refl e
     by None None ef e = absurd (cc)
 
 -- a block begins in its group
-pub begun : (items : List Item) (new : SoFar) → after_line (so_far items) SaidBlock ≡ Ok new → (fault items SaidBlock ≡ None) × (new ≡ so_far items)
+pub begun : (items : List Item) (new : SoFar) → after_line (so_far items) BlockLine ≡ Ok new → (fault items BlockLine ≡ None) × (new ≡ so_far items)
 unfolding after_line
-begun items new e = by (fault items SaidBlock) refl e
+begun items new e = by (fault items BlockLine) refl e
   where
-    by : (f : Option Kind) → fault items SaidBlock ≡ f → added (so_far items) f None ≡ Ok new → (fault items SaidBlock ≡ None) × (new ≡ so_far items)
+    by : (f : Option Kind) → fault items BlockLine ≡ f → added (so_far items) f None ≡ Ok new → (fault items BlockLine ≡ None) × (new ≡ so_far items)
     by (Some k) ef e = absurd (cc)
     by None ef e = let same : so_far items ≡ new = cc in (ef, sym same)

@@ -10,9 +10,9 @@ use Rattle.sg_protocol.specs.Frame.{Item, Frame, tag_len}
 use Rattle.sg_protocol.specs.Spelling.{spelling, body, u8, u16, u32, short_text, sized, value_bytes, kind_code, item_bytes, map_bytes, pair_bytes, opening_bytes, join_bytes, join_code, magic}
 use Rattle.sg_protocol.specs.Schedule.{CraftJoin}
 use Rattle.sg_protocol.proofs.Sent.{len_concat}
-use Rattle.sg_sched.specs.Format.Said.{Committed, TagSource, ItemContent, CraftContent}
+use Rattle.sg_sched.specs.Format.LineContents.{Committed, TagSource, ItemContent, CraftContent}
 use Rattle.sg_sched.specs.Format.Items.{Session}
-use Rattle.sg_sched.specs.Format.Made.{opening}
+use Rattle.sg_sched.specs.Format.Numbered.{opening}
 use Rattle.sg_sched.specs.Format.Faults.{zeros, blank_cast, blank_item, blank_frame, is_short}
 use Rattle.sg_sched_text.specs.Crafting.{lens, opening_len, item_len, name_len, join_len, frame_len}
 

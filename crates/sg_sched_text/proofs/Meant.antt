@@ -23,10 +23,10 @@ use Rattle.sg_protocol.specs.Crafted.{crafted, crafted_frame}
 use Rattle.sg_protocol.specs.IsSchedule.{IsSchedule, IsDeclared, IsPairKey, IsStep}
 use Rattle.sg_protocol.proofs.RealHash.{real_hash}
 use Rattle.sg_sched.specs.Pair.{edge}
-use Rattle.sg_sched.specs.Format.Said.{Assignment, LineContent, SaidBlock, SaidEdge, SaidHonest, SaidKey, SaidSession, SaidStart, SaidAct, SaidAbandon, SaidDeliver, SaidMake}
-use Rattle.sg_sched.specs.Format.Forms.{is_form, is_given, are_names}
+use Rattle.sg_sched.specs.Format.LineContents.{Assignment, LineContent, BlockLine, EdgeLine, HonestLine, KeyLine, SessionLine, StartLine, ActLine, AbandonLine, DeliverLine, MakeLine}
+use Rattle.sg_sched.specs.Format.Forms.{is_form, is_assignment, are_names}
 use Rattle.sg_sched.specs.Format.Items.{Session, Item, GraphItem, EdgeItem, HonestItem, KeyItem, SessionItem, StepItem, SoFar, so_far, graphs_declared, graph_names, index, session_names, graph_for, labels_of, declared, digest_at}
-use Rattle.sg_sched.specs.Format.Made.{made_after, values, craft, what_of}
+use Rattle.sg_sched.specs.Format.Numbered.{made_after, values, craft, what_of}
 use Rattle.sg_sched.specs.Format.Faults.{knows_variable}
 use Rattle.sg_sched.specs.Format.Spells.{Line, Add, Skip, Say, Show, Declare, Nothing, Next, SpellsSchedule}
 use Rattle.sg_sched.specs.Format.Values.{bytes_of}
@@ -56,8 +56,8 @@ room n h = by (nat_le most_steps n) refl h
 said_meant : (p : SoFar) (m : Meant p) (said : LineContent) (i : Item) → is_form said ≡ true → IsRight p said → made_after p said ≡ Some i → Meant (plus p i)
 said_meant p m said i form r e = by said form r e (said_more p m.sound said i form r e)
   where
-    act_form : (who session label : Name) (vs : List Assignment) → is_form (SaidAct who session label vs) ≡ true → list_all is_given vs ≡ true
-    act_form who session label vs h = (and_parts (are_names (who ∷ session ∷ label ∷ [])) (list_all is_given vs) h).1
+    act_form : (who session label : Name) (vs : List Assignment) → is_form (ActLine who session label vs) ≡ true → list_all is_assignment vs ≡ true
+    act_form who session label vs h = (and_parts (are_names (who ∷ session ∷ label ∷ [])) (list_all is_assignment vs) h).1
 
     step : (s : Step) → StepItem s ≡ i → (if nat_le most_steps (length p.steps) then Some TooManySteps else None) ≡ None → FitsStep p.sessions s → Sound (plus p i) → Meant (plus p i)
     step s same few fits sound = subst (λ i. Meant (plus p i)) same (step_meant p m s (room (length p.steps) few) fits (subst (λ i. Sound (plus p i)) (sym same) sound))
@@ -67,29 +67,29 @@ said_meant p m said i form r e = by said form r e (said_more p m.sound said i fo
     there session h = let l = length-map p.sessions (λ (s : Session). s.name) in index_below session (session_names p) (length p.sessions) (omega (arith, l)) h
 
     by : (said : LineContent) → is_form said ≡ true → IsRight p said → made_after p said ≡ Some i → Sound (plus p i) → Meant (plus p i)
-    by SaidBlock form r e sound = absurd (cc)
-    by (SaidEdge label from to) form r e sound =
+    by BlockLine form r e sound = absurd (cc)
+    by (EdgeLine label from to) form r e sound =
         let same : EdgeItem (edge label from to) ≡ i = cc in
         subst (λ i. Meant (plus p i)) same (edge_meant p m label from to form r (subst (λ i. Sound (plus p i)) (sym same) sound))
-    by (SaidHonest who) form r e sound = let same : HonestItem who ≡ i = cc in subst (λ i. Meant (plus p i)) same (honest_meant p m who form r (subst (λ i. Sound (plus p i)) (sym same) sound))
-    by (SaidKey one two digits) form r e sound =
+    by (HonestLine who) form r e sound = let same : HonestItem who ≡ i = cc in subst (λ i. Meant (plus p i)) same (honest_meant p m who form r (subst (λ i. Sound (plus p i)) (sym same) sound))
+    by (KeyLine one two digits) form r e sound =
         let k : PairKey = record { one = one; two = two; key = bytes_of digits } in
         let same : KeyItem k ≡ i = cc in
         subst (λ i. Meant (plus p i)) same (key_meant p m one two digits form r k refl (subst (λ i. Sound (plus p i)) (sym same) sound))
-    by (SaidSession name graph nonce names version) form r e sound =
+    by (SessionLine name graph nonce names version) form r e sound =
         let s : Session = record { name = name; graph = index graph (graph_names (graphs_declared p)); nonce = nonce; names = names; version = version } in
         let same : SessionItem s ≡ i = cc in
         let late = (or_parts (nat_lt 3 p.group) _ r.form).0 in
         subst (λ i. Meant (plus p i)) same (session_meant p m s (in_group p 3 late) (subst (λ i. Sound (plus p i)) (sym same) sound))
-    by (SaidStart who session) form r e sound = step (StartStep who (index session (session_names p))) (cc) r.few (there session r.known) sound
-    by (SaidAct who session label vs) form r e sound =
+    by (StartLine who session) form r e sound = step (StartStep who (index session (session_names p))) (cc) r.few (there session r.known) sound
+    by (ActLine who session label vs) form r e sound =
         let g = graph_for session p in
         let known = and_parts (has_text session (session_names p) && has_text label (labels_of g)) (list_all (λ v. knows_variable g v.variable) vs) r.known in
         let session_known = (and_parts (has_text session (session_names p)) (has_text label (labels_of g)) known.0).0 in
         step (ActStep who (index session (session_names p)) (index label (labels_of g)) (values g vs)) (cc) r.few (there session session_known, values_fit g vs (act_form who session label vs form)) sound
-    by (SaidAbandon who session) form r e sound = step (AbandonStep who (index session (session_names p))) (cc) r.few (there session r.known) sound
-    by (SaidDeliver who what) form r e sound = step (DeliverStep who (what_of what)) (cc) r.few (delivered_fits p.sessions who what) sound
-    by (SaidMake c) form r e sound = step (CraftStep (craft p (graph_for c.session p) c)) (cc) r.few (craft_fits p m c form r) sound
+    by (AbandonLine who session) form r e sound = step (AbandonStep who (index session (session_names p))) (cc) r.few (there session r.known) sound
+    by (DeliverLine who what) form r e sound = step (DeliverStep who (what_of what)) (cc) r.few (delivered_fits p.sessions who what) sound
+    by (MakeLine c) form r e sound = step (CraftStep (craft p (graph_for c.session p) c)) (cc) r.few (craft_fits p m c form r) sound
 
 pub meant : {ls : List Line} {items : List Item} → Declare ls items → Meant (so_far items)
 meant Nothing = record {
@@ -112,7 +112,7 @@ meant (Next {first = first} {more = more} {items = items} {new = new} d a) = add
     added items _ _ (Say {said = said} {item = item} says no_fault makes) m =
         subst Meant (sym (one_more items item)) (said_meant (so_far items) m said item says.form (right (so_far items) said no_fault) makes)
     added items _ _ (Show {g = g} b spelled fresh) m =
-        let r = right (so_far items) SaidBlock b.opened.in_group in
+        let r = right (so_far items) BlockLine b.opened.in_group in
         let early = in_group (so_far items) 0 r.form in
         subst Meant (sym (one_more items (GraphItem g)))
         (graph_meant (so_far items) m g early (graph_more (so_far items) m.sound g early (record { some = spelled.two_roles; few = spelled.is_graph.sizes.0 })) spelled.is_graph fresh)

@@ -24,10 +24,10 @@ use Rattle.sg_protocol.specs.World.{new_world}
 use Rattle.sg_protocol.specs.Crafted.{crafted_frame}
 use Rattle.sg_protocol.specs.IsSchedule.{IsPairKey}
 use Rattle.sg_sched.specs.Pair.{graphs_of, edge}
-use Rattle.sg_sched.specs.Format.Said.{SaidEdge, SaidHonest, SaidKey}
+use Rattle.sg_sched.specs.Format.LineContents.{EdgeLine, HonestLine, KeyLine}
 use Rattle.sg_sched.specs.Format.Forms.{is_form}
 use Rattle.sg_sched.specs.Format.Items.{Session, GraphItem, EdgeItem, HonestItem, KeyItem, SessionItem, StepItem, SoFar, graphs_declared, graph_names, is_key_of}
-use Rattle.sg_sched.specs.Format.Made.{values}
+use Rattle.sg_sched.specs.Format.Numbered.{values}
 use Rattle.sg_sched.specs.Format.Values.{bytes_of}
 use Rattle.sg_sched.proofs.FormatApart.{names_append}
 use Rattle.sg_sched_text.specs.Plus.{plus}
@@ -131,7 +131,7 @@ module _ (p : SoFar) (m : Meant p) where
         none_yet = λ h. none;
       }
 
-  pub edge_meant : (label : Name) (from to : ℕ) → is_form (SaidEdge label from to) ≡ true → IsRight p (SaidEdge label from to)
+  pub edge_meant : (label : Name) (from to : ℕ) → is_form (EdgeLine label from to) ≡ true → IsRight p (EdgeLine label from to)
       → Sound (plus p (EdgeItem (edge label from to))) → Meant (plus p (EdgeItem (edge label from to)))
   edge_meant label from to form r sound =
       let e : Edge = edge label from to in
@@ -173,7 +173,7 @@ module _ (p : SoFar) (m : Meant p) where
       below_of true e h = absurd (cc)
       below_of false e h = leb-false 512 (length p.edges) e
 
-  pub honest_meant : (who : Name) → is_form (SaidHonest who) ≡ true → IsRight p (SaidHonest who) → Sound (plus p (HonestItem who)) → Meant (plus p (HonestItem who))
+  pub honest_meant : (who : Name) → is_form (HonestLine who) ≡ true → IsRight p (HonestLine who) → Sound (plus p (HonestItem who)) → Meant (plus p (HonestItem who))
   honest_meant who form r sound =
       let early = in_group p 1 r.form in
       let none : p.steps ≡ [] = m.none_yet (omega (arith, early)) in
@@ -211,7 +211,7 @@ module _ (p : SoFar) (m : Meant p) where
       swap (inr y) = inl y
   others one two key (k ∷ ks) h (suc i) d l = others one two key ks (or_parts (is_key_of one two k) (list_any (is_key_of one two) ks) h).1 i d (omega (arith, l))
 
-  pub key_meant : (one two : Name) (digits : List ℕ) → is_form (SaidKey one two digits) ≡ true → IsRight p (SaidKey one two digits)
+  pub key_meant : (one two : Name) (digits : List ℕ) → is_form (KeyLine one two digits) ≡ true → IsRight p (KeyLine one two digits)
       → (k : PairKey) → k ≡ record { one = one; two = two; key = bytes_of digits } → Sound (plus p (KeyItem k)) → Meant (plus p (KeyItem k))
   key_meant one two digits form r k e sound =
       let early = in_group p 2 r.form in

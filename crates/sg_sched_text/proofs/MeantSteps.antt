@@ -16,14 +16,14 @@ use Rattle.sg_protocol.specs.Frame.{IsValue}
 use Rattle.sg_protocol.specs.TextLaws.{IsVersion}
 use Rattle.sg_protocol.specs.Schedule.{DeliverStep}
 use Rattle.sg_sched.specs.Pair.{graphs_of}
-use Rattle.sg_sched.specs.Format.Said.{Assignment, ItemContent, CraftContent, Delivered, TheFrame, TheFlipped, TheCut, TheBytes, SaidMake}
-use Rattle.sg_sched.specs.Format.Forms.{is_given, is_item, is_craft}
+use Rattle.sg_sched.specs.Format.LineContents.{Assignment, ItemContent, CraftContent, Delivered, TheFrame, TheFlipped, TheCut, TheBytes, MakeLine}
+use Rattle.sg_sched.specs.Format.Forms.{is_assignment, is_item, is_craft}
 use Rattle.sg_sched.specs.Format.Items.{Session, SoFar, graphs_declared, index, session_names, session_named, graph_for, roles_of, variables_of}
-use Rattle.sg_sched.specs.Format.Made.{written, values, craft, what_of}
+use Rattle.sg_sched.specs.Format.Numbered.{written, values, craft, what_of}
 use Rattle.sg_sched.specs.Format.Faults.{rise, rises, variables, tag_roles, is_short, knows_variable, knows_item, knows_source}
 use Rattle.sg_sched_text.specs.Crafting.{frame_len}
 use Rattle.sg_sched_text.proofs.CraftSpelled.{KnownItem, craft_spelled}
-use Rattle.sg_sched_text.proofs.FormParts.{given_value, craft_parts}
+use Rattle.sg_sched_text.proofs.FormParts.{assigned_value, craft_parts}
 use Rattle.sg_sched_text.proofs.Graphs.{session_found}
 use Rattle.sg_sched_text.proofs.LengthLaws.{short_is}
 use Rattle.sg_sched_text.proofs.Indices.{some_index}
@@ -35,9 +35,9 @@ use Rattle.sg_sched_text.proofs.MeantParts.{FitsCraft, FitsStep, Meant}
 
 -- ---- acts
 
-written_fits : (g : Option Graph) (vs : List Assignment) → list_all is_given vs ≡ true → AllByRecursion (λ (w : ℕ × Value). IsValue w.1) (map (written g) vs)
+written_fits : (g : Option Graph) (vs : List Assignment) → list_all is_assignment vs ≡ true → AllByRecursion (λ (w : ℕ × Value). IsValue w.1) (map (written g) vs)
 written_fits g [] h = tt
-written_fits g (v ∷ vs) h = let k = and_parts (is_given v) (list_all is_given vs) h in (value_is v.value (given_value v k.0), written_fits g vs k.1)
+written_fits g (v ∷ vs) h = let k = and_parts (is_assignment v) (list_all is_assignment vs) h in (value_is v.value (assigned_value v k.0), written_fits g vs k.1)
 
 found_fits : (ws : Map Value) (x : ℕ) → AllByRecursion (λ (w : ℕ × Value). IsValue w.1) ws → (o : Option Value) → value_at ws x ≡ o
     → (rest : Map Value) → x < 256 → AllByRecursion (λ (w : ℕ × Value). (w.0 < 256) × IsValue w.1) rest
@@ -57,7 +57,7 @@ range_fits : (ws : Map Value) → AllByRecursion (λ (w : ℕ × Value). IsValue
 range_fits ws a k zero l = tt
 range_fits ws a k (suc j) l = found_fits ws k a (value_at ws k) refl _ (omega (arith, l)) (range_fits ws a (suc k) j (omega (arith, l)))
 
-pub values_fit : (g : Option Graph) (vs : List Assignment) → list_all is_given vs ≡ true → AllByRecursion (λ (w : ℕ × Value). (w.0 < 256) × IsValue w.1) (values g vs)
+pub values_fit : (g : Option Graph) (vs : List Assignment) → list_all is_assignment vs ≡ true → AllByRecursion (λ (w : ℕ × Value). (w.0 < 256) × IsValue w.1) (values g vs)
 values_fit g vs h = range_fits (map (written g) vs) (written_fits g vs h) 0 32 (omega arith)
 
 pub delivered_fits : (ss : List Session) (who : Name) (what : Delivered) → FitsStep ss (DeliverStep who (what_of what))
@@ -153,7 +153,7 @@ in_graph p c g s is form k r short version there =
           (known_items p (Some g) c.items (items_form c form) k.items r1.1) k.openings r2.1 s (sym v) (sym n) short;
     }
 
-pub craft_fits : (p : SoFar) (m : Meant p) (c : CraftContent) → is_craft c ≡ true → IsRight p (SaidMake c) → FitsCraft p.sessions (craft p (graph_for c.session p) c)
+pub craft_fits : (p : SoFar) (m : Meant p) (c : CraftContent) → is_craft c ≡ true → IsRight p (MakeLine c) → FitsCraft p.sessions (craft p (graph_for c.session p) c)
 craft_fits p m c form r =
     let g0 = graph_for c.session p in
     let fine : (rises g0 c && is_short g0 (session_named c.session p) c) ≡ true = not-false (rises g0 c && is_short g0 (session_named c.session p) c) r.form in

@@ -14,10 +14,10 @@ use Rattle.sg_parse.specs.Reading.{read}
 use Rattle.sg_parse.specs.declared.fault.ParseFault.{ParseFault}
 use Rattle.sg_parse.proofs.GivesGraph.{spells-read}
 use Rattle.sg_sched.specs.Text.{lines}
-use Rattle.sg_sched.specs.Format.Said.{LineContent, SaidBlock, SaidEdge, SaidHonest, SaidKey, SaidSession, SaidStart, SaidAct, SaidAbandon, SaidDeliver, SaidMake}
+use Rattle.sg_sched.specs.Format.LineContents.{LineContent, BlockLine, EdgeLine, HonestLine, KeyLine, SessionLine, StartLine, ActLine, AbandonLine, DeliverLine, MakeLine}
 use Rattle.sg_sched.specs.Format.Forms.{SaysLine}
 use Rattle.sg_sched.specs.Format.Items.{Item, GraphItem, EdgeItem, HonestItem, KeyItem, SessionItem, StepItem, as_block, as_edge, blocks, edges, graphs, graph_names, so_far}
-use Rattle.sg_sched.specs.Format.Made.{made}
+use Rattle.sg_sched.specs.Format.Numbered.{made}
 use Rattle.sg_sched.specs.Format.Kinds.{Kind, Graph as OfGraph}
 use Rattle.sg_sched.specs.Format.Faults.{fault}
 use Rattle.sg_sched.specs.Format.Spells.{Line, IsOpened, IsBlock, Skip, Say, Show, Declare, Nothing, Next, SpellsSchedule, IsWrong, OfNoForm, OfAForm, NotClosed, NoGraph, SameGraph, IsWrongAt, IsPairAt, IsFirstFault, AtIt, AtEdge}
@@ -33,32 +33,32 @@ use Rattle.sg_sched_text.proofs.SamePast.{prefix, same_past, wrong_ends, edge_en
 -- ---- no block of the name `pair` if an edge is declared
 
 no_graph_made : (items : List Item) (said : LineContent) (g : Graph) → made items said ≡ Some (GraphItem g) → ⊥
-no_graph_made items SaidBlock g e = cc
-no_graph_made items (SaidEdge label from to) g e = cc
-no_graph_made items (SaidHonest who) g e = cc
-no_graph_made items (SaidKey one two digits) g e = cc
-no_graph_made items (SaidSession name graph nonce names version) g e = cc
-no_graph_made items (SaidStart who session) g e = cc
-no_graph_made items (SaidAct who session label values) g e = cc
-no_graph_made items (SaidAbandon who session) g e = cc
-no_graph_made items (SaidDeliver who what) g e = cc
-no_graph_made items (SaidMake c) g e = cc
+no_graph_made items BlockLine g e = cc
+no_graph_made items (EdgeLine label from to) g e = cc
+no_graph_made items (HonestLine who) g e = cc
+no_graph_made items (KeyLine one two digits) g e = cc
+no_graph_made items (SessionLine name graph nonce names version) g e = cc
+no_graph_made items (StartLine who session) g e = cc
+no_graph_made items (ActLine who session label values) g e = cc
+no_graph_made items (AbandonLine who session) g e = cc
+no_graph_made items (DeliverLine who what) g e = cc
+no_graph_made items (MakeLine c) g e = cc
 
 -- the graphs of blocks have no such name
 abbrev NoPair : List Item → Type 0
 NoPair items = has_text (codes "pair") (graph_names (blocks items)) ≡ false
 
 edge_right : (items : List Item) (said : LineContent) (e : Edge) → made items said ≡ Some (EdgeItem e) → fault items said ≡ None → NoPair items
-edge_right items SaidBlock e m f = absurd (cc)
-edge_right items (SaidEdge label from to) e m f = (or_parts _ _ (right (so_far items) (SaidEdge label from to) f).once).1
-edge_right items (SaidHonest who) e m f = absurd (cc)
-edge_right items (SaidKey one two digits) e m f = absurd (cc)
-edge_right items (SaidSession name graph nonce names version) e m f = absurd (cc)
-edge_right items (SaidStart who session) e m f = absurd (cc)
-edge_right items (SaidAct who session label values) e m f = absurd (cc)
-edge_right items (SaidAbandon who session) e m f = absurd (cc)
-edge_right items (SaidDeliver who what) e m f = absurd (cc)
-edge_right items (SaidMake c) e m f = absurd (cc)
+edge_right items BlockLine e m f = absurd (cc)
+edge_right items (EdgeLine label from to) e m f = (or_parts _ _ (right (so_far items) (EdgeLine label from to) f).once).1
+edge_right items (HonestLine who) e m f = absurd (cc)
+edge_right items (KeyLine one two digits) e m f = absurd (cc)
+edge_right items (SessionLine name graph nonce names version) e m f = absurd (cc)
+edge_right items (StartLine who session) e m f = absurd (cc)
+edge_right items (ActLine who session label values) e m f = absurd (cc)
+edge_right items (AbandonLine who session) e m f = absurd (cc)
+edge_right items (DeliverLine who what) e m f = absurd (cc)
+edge_right items (MakeLine c) e m f = absurd (cc)
 
 -- an item that is no block and no edge changes neither
 module _ (items : List Item) (i : Item) where
@@ -107,14 +107,14 @@ no_kind : {k : Kind} → Some k ≡ None → ⊥
 no_kind e = cc
 
 -- a line with which a block begins is of a form
-no_form : (before : List Item) (line opening : Line) (ls ls' : List Line) → ((said : LineContent) → SaysLine line said → ⊥) → SaysLine opening SaidBlock → line ∷ ls ≡ opening ∷ ls' → ⊥
-no_form before line opening ls ls' none opens e = none SaidBlock (subst (λ l. SaysLine l SaidBlock) (sym (head_same e)) opens)
+no_form : (before : List Item) (line opening : Line) (ls ls' : List Line) → ((said : LineContent) → SaysLine line said → ⊥) → SaysLine opening BlockLine → line ∷ ls ≡ opening ∷ ls' → ⊥
+no_form before line opening ls ls' none opens e = none BlockLine (subst (λ l. SaysLine l BlockLine) (sym (head_same e)) opens)
 
 -- and right by itself
-no_fault : (before : List Item) (line opening : Line) (ls ls' : List Line) (said : LineContent) (k : Kind) → SaysLine line said → fault before said ≡ Some k → SaysLine opening SaidBlock → fault before SaidBlock ≡ None
+no_fault : (before : List Item) (line opening : Line) (ls ls' : List Line) (said : LineContent) (k : Kind) → SaysLine line said → fault before said ≡ Some k → SaysLine opening BlockLine → fault before BlockLine ≡ None
     → line ∷ ls ≡ opening ∷ ls' → ⊥
 no_fault before line opening ls ls' said k says wrong opens in_group e =
-    no_kind (sym wrong ∙ ap (fault before) (says_one opening said SaidBlock (subst (λ l. SaysLine l said) (head_same e) says) opens) ∙ in_group)
+    no_kind (sym wrong ∙ ap (fault before) (says_one opening said BlockLine (subst (λ l. SaysLine l said) (head_same e) says) opens) ∙ in_group)
 
 -- a block that isn't closed is none that is
 open_or_block : (before : List Item) (opening : Line) (inner block rest : List Line) (text : List ℕ) → IsOpened before opening inner → IsBlock before block text → (opening ∷ inner) ++ [] ≡ block ++ rest → ⊥

@@ -10,11 +10,11 @@ use Rattle.sg_model.specs.Names.{Name}
 use Rattle.sg_protocol.specs.Graph.{Graph as AGraph, Edge}
 use Rattle.sg_sched.specs.Text.{lines, content, words}
 use Rattle.sg_sched.specs.Pair.{graphs_of}
-use Rattle.sg_sched.specs.Format.Said.{LineContent, SaidBlock, SaidEdge, SaidHonest, SaidKey, SaidSession, SaidStart, SaidAct, SaidAbandon, SaidDeliver, SaidMake}
+use Rattle.sg_sched.specs.Format.LineContents.{LineContent, BlockLine, EdgeLine, HonestLine, KeyLine, SessionLine, StartLine, ActLine, AbandonLine, DeliverLine, MakeLine}
 use Rattle.sg_sched.specs.Format.Forms.{SaysLine, is_skipped, is_comment}
 use Rattle.sg_sched.specs.Format.Items.{Item, GraphItem, EdgeItem, HonestItem, KeyItem, SessionItem, StepItem, SoFar, so_far, edges, graphs, graph_names, graphs_declared}
 use Rattle.sg_sched.specs.Format.Kinds.{Kind, Form}
-use Rattle.sg_sched.specs.Format.Made.{made}
+use Rattle.sg_sched.specs.Format.Numbered.{made}
 use Rattle.sg_sched.specs.Format.Spells.{Line, Declare, Nothing, Next, Skip, Say, Show, IsBlock, IsFirstFault, AtIt, AtEdge, IsPairAt, OfNoForm, OfAForm, NotClosed, NoGraph, SameGraph}
 use Rattle.sg_sched_text.specs.declared.reader.ScheduleReader.{ScheduleReader}
 use Rattle.sg_sched.specs.declared.fault.LineFault.{LineFault}
@@ -27,7 +27,7 @@ use Rattle.sg_model.proofs.Differ.{no_text_both}
 use Rattle.sg_sched.specs.declared.fault.Kind.TheVariants.{Form as KindForm, Unknown as KindUnknown, Twice as KindTwice, NotHonest as KindNotHonest, Graph as KindGraph, TooManySteps as KindTooManySteps, TooManySessions as KindTooManySessions}
 use Rattle.sg_sched_text.specs.declared.stop.Stop.{Stop}
 use Rattle.sg_sched_text.specs.declared.stop.Stop.TheVariants.{Wrong, OutOfMemory}
-use Rattle.sg_sched_text.specs.Taken.{IsRefused, kind_of, fault_at}
+use Rattle.sg_sched_text.specs.TakingLines.{IsRefused, kind_of, fault_at}
 use Rattle.sg_sched_text.specs.ReadSoFar.{IsFirstEdge, HasRead, Opens, IsAt, IsShown, IsBad, IsBadAt, IsFault, Refused, Again, AsPair}
 use Rattle.sg_sched_text.proofs.Growing.{one_more, Taken, took, stopped, begun}
 
@@ -70,19 +70,19 @@ record SaysEdge (said : LineContent) : Type 0 where
   label : Name
   from : ℕ
   to : ℕ
-  is : said ≡ SaidEdge label from to
+  is : said ≡ EdgeLine label from to
 
 says_edge : (items : List Item) (said : LineContent) (e : Edge) → made items said ≡ Some (EdgeItem e) → SaysEdge said
-says_edge items SaidBlock e h = absurd (cc)
-says_edge items (SaidEdge label from to) e h = record { label = label; from = from; to = to; is = refl }
-says_edge items (SaidHonest who) e h = absurd (cc)
-says_edge items (SaidKey one two digits) e h = absurd (cc)
-says_edge items (SaidSession name graph nonce names version) e h = absurd (cc)
-says_edge items (SaidStart who session) e h = absurd (cc)
-says_edge items (SaidAct who session label values) e h = absurd (cc)
-says_edge items (SaidAbandon who session) e h = absurd (cc)
-says_edge items (SaidDeliver who what) e h = absurd (cc)
-says_edge items (SaidMake c) e h = absurd (cc)
+says_edge items BlockLine e h = absurd (cc)
+says_edge items (EdgeLine label from to) e h = record { label = label; from = from; to = to; is = refl }
+says_edge items (HonestLine who) e h = absurd (cc)
+says_edge items (KeyLine one two digits) e h = absurd (cc)
+says_edge items (SessionLine name graph nonce names version) e h = absurd (cc)
+says_edge items (StartLine who session) e h = absurd (cc)
+says_edge items (ActLine who session label values) e h = absurd (cc)
+says_edge items (AbandonLine who session) e h = absurd (cc)
+says_edge items (DeliverLine who what) e h = absurd (cc)
+says_edge items (MakeLine c) e h = absurd (cc)
 
 module _ (right : List Line) (items : List Item) (line : Line) (said : LineContent) (says : SaysLine line said) (d : Declare right items) where
   -- the line is the first edge line, if it is one
@@ -163,7 +163,7 @@ module _ (bytes rest after : List ℕ) (line : Line) (r : ScheduleReader) (s : H
   }
 
   -- a line of a form that is taken
-  pub says : (said : LineContent) (new : ScheduleReader) → SaysLine line said → (said ≡ SaidBlock → ⊥) → after_line r.past said ≡ Ok new.past → new.number ≡ r.number + 1
+  pub says : (said : LineContent) (new : ScheduleReader) → SaysLine line said → (said ≡ BlockLine → ⊥) → after_line r.past said ≡ Ok new.past → new.number ≡ r.number + 1
       → new.first_edge ≡ (if length r.past.edges == 0 then r.number + 1 else r.first_edge) → HasRead bytes new after
   says said new is other taken number first_edge =
       let t : Taken s.items said new.past = took s.items said new.past other (ap (λ p. after_line p said) (sym s.keeps.past) ∙ taken) in
@@ -192,10 +192,10 @@ module _ (bytes rest after : List ℕ) (line : Line) (r : ScheduleReader) (s : H
           subst (EdgeOf (s.right ++ line ∷ []) (s.items ++ i ∷ [])) same (not_first s.right s.items line said is s.keeps.declared i r.first_edge some.0 some.1)
 
   -- a line with which a block begins
-  pub opens : (new : ScheduleReader) → SaysLine line SaidBlock → after_line r.past SaidBlock ≡ Ok new.past → new.number ≡ r.number + 1
+  pub opens : (new : ScheduleReader) → SaysLine line BlockLine → after_line r.past BlockLine ≡ Ok new.past → new.number ≡ r.number + 1
       → new.first_edge ≡ (if length r.past.edges == 0 then r.number + 1 else r.first_edge) → Opens bytes new after
   opens new is taken number first_edge =
-      let b = begun s.items new.past (ap (λ p. after_line p SaidBlock) (sym s.keeps.past) ∙ taken) in
+      let b = begun s.items new.past (ap (λ p. after_line p BlockLine) (sym s.keeps.past) ∙ taken) in
       record {
         right = s.right;
         items = s.items;

@@ -3,7 +3,7 @@ use Rattle.std.proofs.Common.{◌≡◌, ℕ, ◌≤◌, Bool, true, false, not,
 use Rattle.std.specs.Prelude.{Option, None, nat_lt}
 use Rattle.std.proofs.lemmas.Bool.{ltb-false, not-false}
 use Rattle.sg_model.proofs.Small.{none_parts}
-use Rattle.sg_sched.specs.Format.Said.{LineContent}
+use Rattle.sg_sched.specs.Format.LineContents.{LineContent}
 use Rattle.sg_sched.specs.Format.Items.{SoFar}
 use Rattle.sg_sched.specs.Format.Kinds.{Kind, Form, Unknown, Twice, NotHonest}
 use Rattle.sg_sched.specs.Format.Faults.{where', is_wrong, too_many, is_known, is_repeated, is_honest, fault_after}

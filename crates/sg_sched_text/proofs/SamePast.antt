@@ -11,10 +11,10 @@ use Rattle.sg_parse.specs.Grammar.{SpellsGraph}
 use Rattle.sg_parse.specs.Reading.{read}
 use Rattle.sg_parse.proofs.GivesGraph.{spells-read}
 use Rattle.sg_sched.specs.Pair.{edge, graphs_of}
-use Rattle.sg_sched.specs.Format.Said.{SaidBlock, SaidEdge}
+use Rattle.sg_sched.specs.Format.LineContents.{BlockLine, EdgeLine}
 use Rattle.sg_sched.specs.Format.Forms.{SaysLine, is_skipped}
 use Rattle.sg_sched.specs.Format.Items.{Item, EdgeItem, as_edge, blocks, edges, graphs, graph_names}
-use Rattle.sg_sched.specs.Format.Made.{made}
+use Rattle.sg_sched.specs.Format.Numbered.{made}
 use Rattle.sg_sched.specs.Format.Kinds.{Kind}
 use Rattle.sg_sched.specs.Format.Spells.{Line, IsBlock, Add, Skip, Say, Show, Declare, IsWrong}
 use Rattle.sg_sched.proofs.FormatReading.{says_one}
@@ -66,20 +66,20 @@ edges_stay Done h e = h e
 edges_stay (More {before = b} {new = n} a f) h e = edges_stay f (λ none. h (left_empty (edges b) (edges n) (sym (filter_map-append as_edge b n) ∙ none))) e
 
 -- if no edge is declared, a way ends at an edge line
-pub edge_ends : (items : List Item) (line : Line) (rest : List Line) (label : Name) (from to : ℕ) → SaysLine line (SaidEdge label from to) → (all : List Item) → edges all ≡ [] → Ends items (line ∷ rest) all
-edge_ends items line rest label from to says all none new _ later (Skip {line = l} s) e ls f = not_skipped line (SaidEdge label from to) says (subst (λ l. is_skipped l ≡ true) (sym (head_same e)) s)
+pub edge_ends : (items : List Item) (line : Line) (rest : List Line) (label : Name) (from to : ℕ) → SaysLine line (EdgeLine label from to) → (all : List Item) → edges all ≡ [] → Ends items (line ∷ rest) all
+edge_ends items line rest label from to says all none new _ later (Skip {line = l} s) e ls f = not_skipped line (EdgeLine label from to) says (subst (λ l. is_skipped l ≡ true) (sym (head_same e)) s)
 edge_ends items line rest label from to says all none _ _ later (Say {line = l} {said = t} {item = i} says' right makes) e ls f =
-    let same : t ≡ SaidEdge label from to = says_one line t (SaidEdge label from to) (subst (λ l. SaysLine l t) (sym (head_same e)) says') says in
+    let same : t ≡ EdgeLine label from to = says_one line t (EdgeLine label from to) (subst (λ l. SaysLine l t) (sym (head_same e)) says') says in
     let item : i ≡ EdgeItem (edge label from to) = some_same (sym makes ∙ ap (made items) same) in
     edges_stay (subst (λ i. Prefix (items ++ i ∷ []) ls all) item f) (λ h. right_empty (edges items) (edge label from to) (sym (filter_map-append as_edge items (EdgeItem (edge label from to) ∷ [])) ∙ h)) none
 edge_ends items line rest label from to says all none _ more later (Show {text = text} b spells fresh) e ls f =
-    absurd (other (says_one line SaidBlock (SaidEdge label from to) (subst (λ l. SaysLine l SaidBlock) (sym (head_same (e ∙ laid items more later text b))) b.opened.opens) says))
+    absurd (other (says_one line BlockLine (EdgeLine label from to) (subst (λ l. SaysLine l BlockLine) (sym (head_same (e ∙ laid items more later text b))) b.opened.opens) says))
   where
-    other : SaidBlock ≡ SaidEdge label from to → ⊥
+    other : BlockLine ≡ EdgeLine label from to → ⊥
     other p = cc
 
 -- an edge is declared by an edge line
-edge_then : (before all : List Item) (ls more : List Line) (line : Line) (label : Name) (from to : ℕ) → Prefix before ls all → SaysLine line (SaidEdge label from to) → ls ≡ line ∷ more → edges all ≡ [] → ⊥
+edge_then : (before all : List Item) (ls more : List Line) (line : Line) (label : Name) (from to : ℕ) → Prefix before ls all → SaysLine line (EdgeLine label from to) → ls ≡ line ∷ more → edges all ≡ [] → ⊥
 edge_then before all _ more line label from to Done says e none = never e
   where
     never : {x : Line} {xs : List Line} → [] ≡ x ∷ xs → ⊥
@@ -87,7 +87,7 @@ edge_then before all _ more line label from to Done says e none = never e
 edge_then before all _ more line label from to (More {new = n} {more = m} {rest = r} a f) says e none = edge_ends before line more label from to says all none n m r a (sym e) r f
 
 -- an edge is declared by lines with an edge line
-pub some_edges : (right more : List Line) (line : Line) (items later : List Item) (label : Name) (from to : ℕ) → Declare right items → Declare (right ++ line ∷ more) later → SaysLine line (SaidEdge label from to)
+pub some_edges : (right more : List Line) (line : Line) (items later : List Item) (label : Name) (from to : ℕ) → Declare right items → Declare (right ++ line ∷ more) later → SaysLine line (EdgeLine label from to)
     → edges later ≡ [] → ⊥
 some_edges right more line items later label from to d d' says none =
     edge_then items later (line ∷ more) more line label from to (behind d (line ∷ more) later (prefix d')) says refl none

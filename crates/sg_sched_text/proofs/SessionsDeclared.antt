@@ -13,11 +13,11 @@ use Rattle.sg_model.proofs.Small.{all-append, and_left, and_right}
 use Rattle.sg_protocol.specs.Graph.{Graph, Edge}
 use Rattle.sg_protocol.specs.TextLaws.{IsVersion}
 use Rattle.sg_sched.specs.Pair.{graphs_of, pair_graph, edge}
-use Rattle.sg_sched.specs.Format.Said.{LineContent, SaidBlock, SaidEdge, SaidHonest, SaidKey, SaidSession, SaidStart, SaidAct, SaidAbandon, SaidDeliver, SaidMake}
+use Rattle.sg_sched.specs.Format.LineContents.{LineContent, BlockLine, EdgeLine, HonestLine, KeyLine, SessionLine, StartLine, ActLine, AbandonLine, DeliverLine, MakeLine}
 use Rattle.sg_sched.specs.Format.Forms.{is_form, is_wide, are_names}
 use Rattle.sg_sched.specs.Format.Items.{Session, Item, GraphItem, EdgeItem, HonestItem, KeyItem, SessionItem, StepItem, SoFar, so_far, graphs_declared, graph_names, session_names, graph_for, labels_of, index}
 use Rattle.sg_protocol.specs.Schedule.{Step, StartStep, ActStep, AbandonStep, DeliverStep, CraftStep}
-use Rattle.sg_sched.specs.Format.Made.{made_after, values, what_of, craft}
+use Rattle.sg_sched.specs.Format.Numbered.{made_after, values, what_of, craft}
 use Rattle.sg_sched.specs.Format.Values.{bytes_of}
 use Rattle.sg_sched.specs.Format.Faults.{fits_graph}
 use Rattle.sg_sched.specs.Format.Spells.{Line, Add, Skip, Say, Show, Declare, Nothing, Next}
@@ -118,8 +118,8 @@ module _ (p : SoFar) (s : Sound p) where
         none_yet = λ h. none;
       }
 
-  session_more : (name graph : Name) (nonce : ℕ) (names : List Name) (version : ℕ) → is_form (SaidSession name graph nonce names version) ≡ true
-      → IsRight p (SaidSession name graph nonce names version) → Sound (plus p (SessionItem (record { name = name; graph = index graph (graph_names (graphs_declared p)); nonce = nonce; names = names; version = version })))
+  session_more : (name graph : Name) (nonce : ℕ) (names : List Name) (version : ℕ) → is_form (SessionLine name graph nonce names version) ≡ true
+      → IsRight p (SessionLine name graph nonce names version) → Sound (plus p (SessionItem (record { name = name; graph = index graph (graph_names (graphs_declared p)); nonce = nonce; names = names; version = version })))
   session_more name graph nonce names version form r =
       let gs = graphs_declared p in
       let f = or_parts _ (not (fits_graph p graph names)) r.form in
@@ -160,25 +160,25 @@ module _ (p : SoFar) (s : Sound p) where
 
   -- a line that is right
   pub said_more : (said : LineContent) (i : Item) → is_form said ≡ true → IsRight p said → made_after p said ≡ Some i → Sound (plus p i)
-  said_more SaidBlock i form r m = absurd (cc)
-  said_more (SaidEdge label from to) i form r m =
+  said_more BlockLine i form r m = absurd (cc)
+  said_more (EdgeLine label from to) i form r m =
       let same : EdgeItem (edge label from to) ≡ i = cc in
       let late = (or_parts (nat_lt 0 p.group) _ r.form).0 in
       subst (λ i. Sound (plus p i)) same (edge_more (edge label from to) (in_group p 0 late))
-  said_more (SaidHonest who) i form r m = let same : HonestItem who ≡ i = cc in subst (λ i. Sound (plus p i)) same (other_more (plus p (HonestItem who)) refl refl (omega arith))
-  said_more (SaidKey one two digits) i form r m =
+  said_more (HonestLine who) i form r m = let same : HonestItem who ≡ i = cc in subst (λ i. Sound (plus p i)) same (other_more (plus p (HonestItem who)) refl refl (omega arith))
+  said_more (KeyLine one two digits) i form r m =
       let k : Item = KeyItem (record { one = one; two = two; key = bytes_of digits }) in
       let same : k ≡ i = cc in
       subst (λ i. Sound (plus p i)) same (other_more (plus p k) refl refl (omega arith))
-  said_more (SaidSession name graph nonce names version) i form r m =
+  said_more (SessionLine name graph nonce names version) i form r m =
       let s : Item = SessionItem (record { name = name; graph = index graph (graph_names (graphs_declared p)); nonce = nonce; names = names; version = version }) in
       let same : s ≡ i = cc in
       subst (λ i. Sound (plus p i)) same (session_more name graph nonce names version form r)
-  said_more (SaidStart who session) i form r m = step_more (StartStep who (index session (session_names p))) i (cc)
-  said_more (SaidAct who session label vs) i form r m = step_more (ActStep who (index session (session_names p)) (index label (labels_of (graph_for session p))) (values (graph_for session p) vs)) i (cc)
-  said_more (SaidAbandon who session) i form r m = step_more (AbandonStep who (index session (session_names p))) i (cc)
-  said_more (SaidDeliver who what) i form r m = step_more (DeliverStep who (what_of what)) i (cc)
-  said_more (SaidMake c) i form r m = step_more (CraftStep (craft p (graph_for c.session p) c)) i (cc)
+  said_more (StartLine who session) i form r m = step_more (StartStep who (index session (session_names p))) i (cc)
+  said_more (ActLine who session label vs) i form r m = step_more (ActStep who (index session (session_names p)) (index label (labels_of (graph_for session p))) (values (graph_for session p) vs)) i (cc)
+  said_more (AbandonLine who session) i form r m = step_more (AbandonStep who (index session (session_names p))) i (cc)
+  said_more (DeliverLine who what) i form r m = step_more (DeliverStep who (what_of what)) i (cc)
+  said_more (MakeLine c) i form r m = step_more (CraftStep (craft p (graph_for c.session p) c)) i (cc)
 
 -- ---- lines
 
@@ -195,7 +195,7 @@ sound (Next {first = first} {more = more} {items = items} {new = new} d a) = add
     added items _ _ (Say {said = said} {item = item} says no_fault makes) s =
         subst Sound (sym (one_more items item)) (said_more (so_far items) s said item says.form (right (so_far items) said no_fault) makes)
     added items _ _ (Show {g = g} b spelled fresh) s =
-        let r = right (so_far items) SaidBlock b.opened.in_group in
+        let r = right (so_far items) BlockLine b.opened.in_group in
         subst Sound (sym (one_more items (GraphItem g))) (graph_more (so_far items) s g (in_group (so_far items) 0 r.form) (record { some = spelled.two_roles; few = spelled.is_graph.sizes.0 }))
 
 cast_of : (gs : List Graph) (ss : List Session) → AllByRecursion (IsOf gs) ss → HaveCasts (length gs) ss

@@ -11,10 +11,10 @@ use Rattle.sg_model.specs.Names.{Name}
 use Rattle.sg_model.specs.Values.{Value}
 use Rattle.sg_model.proofs.Small.{drop_at}
 use Rattle.sg_protocol.specs.Graph.{Graph}
-use Rattle.sg_sched.specs.Format.Said.{Assignment}
+use Rattle.sg_sched.specs.Format.LineContents.{Assignment}
 use Rattle.sg_sched.specs.Format.Values.{value_of}
 use Rattle.sg_sched.specs.Format.Items.{variables_of, index}
-use Rattle.sg_sched.specs.Format.Made.{written}
+use Rattle.sg_sched.specs.Format.Numbered.{written}
 use Rattle.sg_sched.specs.Format.Faults.{knows_variable}
 use Rattle.sg_sched_text.specs.Adding.{known_values}
 use Rattle.sg_sched_text.specs.Numbers.{all_made, number_of, numbers_of, numbered, from_number}

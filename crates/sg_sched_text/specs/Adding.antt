@@ -10,10 +10,10 @@ use Rattle.sg_model.specs.Limits.{most_declared, most_edges, most_steps}
 use Rattle.sg_protocol.specs.Graph.{Graph}
 use Rattle.sg_protocol.specs.Schedule.{Step, StartStep, ActStep, AbandonStep}
 use Rattle.sg_sched.specs.Pair.{edge, labels}
-use Rattle.sg_sched.specs.Format.Said.{Word, Assignment, LineContent}
+use Rattle.sg_sched.specs.Format.LineContents.{Word, Assignment, LineContent}
 use Rattle.sg_sched.specs.Format.Values.{bytes_of}
 use Rattle.sg_sched.specs.Format.Items.{Item, EdgeItem, HonestItem, KeyItem, SessionItem, StepItem, Session, SoFar, graphs_declared, graph_names, session_names, graph_for, labels_of, is_key_of}
-use Rattle.sg_sched.specs.Format.Made.{made_after, values}
+use Rattle.sg_sched.specs.Format.Numbered.{made_after, values}
 use Rattle.sg_sched.specs.Format.Kinds.{Kind, Form, TooManySteps, TooManySessions, Unknown, Twice, NotHonest}
 use Rattle.sg_sched.specs.Format.Faults.{fault_after, is_like, knows_variable}
 use Rattle.sg_sched_text.specs.Plus.{plus}

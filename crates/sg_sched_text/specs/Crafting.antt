@@ -8,7 +8,7 @@ use Rattle.sg_protocol.specs.Graph.{Graph}
 use Rattle.sg_protocol.specs.Frame.{tag_len}
 use Rattle.sg_protocol.specs.Spelling.{value_bytes}
 use Rattle.sg_protocol.specs.Schedule.{confounder, CraftJoin, Source, Key, CopyItem, CopySeal, Zero, CraftItem, Step, CraftStep}
-use Rattle.sg_sched.specs.Format.Said.{Committed, TagSource, FromKey, FromItem, FromSeal, FromZero, ItemContent, CraftContent}
+use Rattle.sg_sched.specs.Format.LineContents.{Committed, TagSource, FromKey, FromItem, FromSeal, FromZero, ItemContent, CraftContent}
 use Rattle.sg_sched.specs.Format.Values.{value_of}
 use Rattle.sg_sched.specs.Format.Items.{Session, SoFar, roles_of, variables_of, labels_of, has_key}
 use Rattle.sg_sched_text.specs.Adding.{session_index}

@@ -3,7 +3,7 @@ pub mod Plus
 pub mod Adding
 pub mod Numbers
 pub mod Crafting
-pub mod Taken
+pub mod TakingLines
 pub mod Holding
 pub mod Meant
 pub mod Block

@@ -7,7 +7,7 @@ use Rattle.sg_parse.specs.Grammar.{SpellsGraph}
 use Rattle.sg_parse.specs.Reading.{read}
 use Rattle.sg_parse.specs.declared.fault.ParseFault.{ParseFault}
 use Rattle.sg_sched.specs.Text.{lines}
-use Rattle.sg_sched.specs.Format.Said.{SaidBlock, SaidEdge}
+use Rattle.sg_sched.specs.Format.LineContents.{BlockLine, EdgeLine}
 use Rattle.sg_sched.specs.Format.Forms.{SaysLine}
 use Rattle.sg_sched.specs.Format.Items.{Item, GraphItem, SoFar, so_far, edges, graphs_declared, graph_names}
 use Rattle.sg_sched.specs.Format.Kinds as Format
@@ -19,7 +19,7 @@ use Rattle.sg_sched.specs.declared.fault.LineFault.TheVariants.{Line as AtLine, 
 use Rattle.sg_sched_text.specs.declared.reader.ScheduleReader.{ScheduleReader}
 use Rattle.sg_sched_text.specs.Adding.{Added}
 use Rattle.sg_sched_text.specs.Plus.{plus}
-use Rattle.sg_sched_text.specs.Taken.{kind_of}
+use Rattle.sg_sched_text.specs.TakingLines.{kind_of}
 
 -- ---- where it stands
 
@@ -35,7 +35,7 @@ pub record IsFirstEdge (ls : List Line) (n : ℕ) : Type 0 where
   pub label : Name
   pub from : ℕ
   pub to : ℕ
-  pub is_edge : SaysLine edge_line (SaidEdge label from to)
+  pub is_edge : SaysLine edge_line (EdgeLine label from to)
   pub number : n ≡ suc (length right)
 
 -- these lines are right and declare these items, which the reader keeps, and it knows the number of the first edge line, if there is one
@@ -60,8 +60,8 @@ pub record Opens (bytes : List ℕ) (r : ScheduleReader) (after : List ℕ) : Ty
   pub all : lines bytes ≡ right ++ opening ∷ lines after
   pub keeps : Keeps r right items
   pub number : r.number ≡ suc (length right)
-  pub opens : SaysLine opening SaidBlock
-  pub in_group : fault items SaidBlock ≡ None
+  pub opens : SaysLine opening BlockLine
+  pub in_group : fault items BlockLine ≡ None
 
 -- ---- how it goes on
 

@@ -3,11 +3,11 @@ ghost use Rattle.std.specs.Prelude.{◌≡◌, option_map, option_copied, IfOk, 
 ghost use Rattle.sg_sched.specs.Format.Faults.{is_short};
 ghost use Rattle.sg_sched.specs.Format.Forms.{is_craft};
 ghost use Rattle.sg_sched.specs.Format.Items.{graph_for, session_named};
-ghost use Rattle.sg_sched.specs.Format.Said.{SaidMake};
+ghost use Rattle.sg_sched.specs.Format.LineContents.{MakeLine};
 ghost use Rattle.sg_sched.specs.Format.StepsHeld.{step_of};
 ghost use Rattle.sg_sched_text.specs.Adding.{after_line};
 ghost use Rattle.sg_sched_text.specs.Crafting.{craft_step, known_ends, known_lists, Lists};
-ghost use Rattle.sg_sched_text.specs.Taken.{Takes};
+ghost use Rattle.sg_sched_text.specs.TakingLines.{Takes};
 
 use crate::craft::{items, openings, role, source};
 use crate::declarations::Declared;
@@ -40,7 +40,7 @@ impl Declared {
     /// A frame is made.
     pub fn craft(&mut self, craft: CraftLine<'_>) -> Result<(), Stop>
         requires { IsTrue (is_craft craft) }
-        ensures { Takes (after_line self.old (SaidMake craft.entry)) self.new result }
+        ensures { Takes (after_line self.old (MakeLine craft.entry)) self.new result }
     {
         if !rises(self.graph_for(&craft.session), &craft) {
             return Err(Stop::Wrong(Kind::Form));

@@ -8,7 +8,7 @@ ghost use Rattle.sg_sched.specs.Format.Items.{GraphItem, graphs_declared, graph_
 ghost use Rattle.sg_sched_text.specs.Adding.{add_edge, add_honest, add_key, add_session};
 ghost use Rattle.sg_sched_text.specs.Holding.{HasRoles};
 ghost use Rattle.sg_sched_text.specs.Plus.{plus};
-ghost use Rattle.sg_sched_text.specs.Taken.{Takes};
+ghost use Rattle.sg_sched_text.specs.TakingLines.{Takes};
 
 use crate::declarations::Declared;
 use crate::sessions::Like;

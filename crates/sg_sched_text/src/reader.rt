@@ -6,7 +6,7 @@ ghost use Rattle.sg_sched.specs.Format.Model.{said};
 ghost use Rattle.sg_sched_text.specs.Adding.{after_line};
 ghost use Rattle.sg_sched_text.specs.Plus.{nothing};
 ghost use Rattle.sg_sched_text.specs.ReadSoFar.{HasRead, Opens, Says, Shows, IsFault};
-ghost use Rattle.sg_sched_text.specs.Taken.{IsRefused, fault_at};
+ghost use Rattle.sg_sched_text.specs.TakingLines.{IsRefused, fault_at};
 
 use crate::block::{count_lines, split_block};
 use crate::declarations::Declared;

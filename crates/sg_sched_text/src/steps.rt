@@ -1,14 +1,14 @@
 //! Steps, of which a schedule has at most 200,000.
 ghost use Rattle.std.specs.Prelude.{◌≡◌, if◌then◌else◌, map, option_map, IfOk, IsTrue};
 ghost use Rattle.std.specs.List.{list_all};
-ghost use Rattle.sg_sched.specs.Format.Said.{SaidStart, SaidAct, SaidAbandon, SaidDeliver};
-ghost use Rattle.sg_sched.specs.Format.Forms.{is_given};
+ghost use Rattle.sg_sched.specs.Format.LineContents.{StartLine, ActLine, AbandonLine, DeliverLine};
+ghost use Rattle.sg_sched.specs.Format.Forms.{is_assignment};
 ghost use Rattle.sg_sched.specs.Format.Model.{delivered};
-ghost use Rattle.sg_sched.specs.Format.Made.{what_of as made};
+ghost use Rattle.sg_sched.specs.Format.Numbered.{what_of as made};
 ghost use Rattle.sg_sched.specs.Format.StepsHeld.{step_of, what_of};
 ghost use Rattle.sg_sched.specs.Format.Values.{bytes_of};
 ghost use Rattle.sg_sched_text.specs.Adding.{add_step, start_step, abandon_step, act_step, after_line};
-ghost use Rattle.sg_sched_text.specs.Taken.{Takes};
+ghost use Rattle.sg_sched_text.specs.TakingLines.{Takes};
 
 use crate::declarations::Declared;
 use crate::stop::Stop;
@@ -49,7 +49,7 @@ impl Declared {
 
     /// The principal starts the session.
     pub fn start(&mut self, who: Name, session: &Name) -> Result<(), Stop>
-        ensures { Takes (after_line self.old (SaidStart who session.now)) self.new result }
+        ensures { Takes (after_line self.old (StartLine who session.now)) self.new result }
     {
         let honest = self.is_honest(&who);
         let step = self.start_step(who, session);
@@ -66,7 +66,7 @@ impl Declared {
 
     /// The principal abandons the session.
     pub fn abandon(&mut self, who: Name, session: &Name) -> Result<(), Stop>
-        ensures { Takes (after_line self.old (SaidAbandon who session.now)) self.new result }
+        ensures { Takes (after_line self.old (AbandonLine who session.now)) self.new result }
     {
         let honest = self.is_honest(&who);
         let step = self.abandon_step(who, session);
@@ -83,7 +83,7 @@ impl Declared {
 
     /// The principal is given bytes.
     pub fn deliver(&mut self, who: Name, what: &Delivered<'_>) -> Result<(), Stop>
-        ensures { Takes (after_line self.old (SaidDeliver who (delivered what.now))) self.new result }
+        ensures { Takes (after_line self.old (DeliverLine who (delivered what.now))) self.new result }
     {
         let honest = self.is_honest(&who);
         let what = what_of(self.alloc, what)?;
@@ -98,8 +98,8 @@ impl Declared {
         label: &Name,
         values: &[Assignment<'_>],
     ) -> Result<(), Stop>
-        requires { IsTrue (list_all is_given values.now) }
-        ensures { Takes (after_line self.old (SaidAct who session.now label.now values.now)) self.new result }
+        requires { IsTrue (list_all is_assignment values.now) }
+        ensures { Takes (after_line self.old (ActLine who session.now label.now values.now)) self.new result }
     {
         let honest = self.is_honest(&who);
         let repeated = !differ(self.alloc, values)?;
@@ -115,7 +115,7 @@ impl Declared {
         label: &Name,
         values: &[Assignment<'_>],
     ) -> Result<Option<Step>, OutOfMemory>
-        requires { IsTrue (list_all is_given values.now) }
+        requires { IsTrue (list_all is_assignment values.now) }
         ensures { IfOk result (λ o. option_map step_of o ≡ act_step self.now who session.now label.now values.now) }
     {
         let Some(graph) = self.graph_for(session) else {

@@ -2,9 +2,9 @@
 ghost use Rattle.std.specs.Prelude.{◌≡◌, IsTrue};
 ghost use Rattle.sg_sched.specs.Format.Forms.{is_form};
 ghost use Rattle.sg_sched.specs.Format.Model.{said};
-ghost use Rattle.sg_sched.specs.Format.Said.{SaidBlock};
+ghost use Rattle.sg_sched.specs.Format.LineContents.{BlockLine};
 ghost use Rattle.sg_sched_text.specs.Adding.{after_line};
-ghost use Rattle.sg_sched_text.specs.Taken.{Takes};
+ghost use Rattle.sg_sched_text.specs.TakingLines.{Takes};
 
 use crate::declarations::Declared;
 use crate::stop::Stop;
@@ -45,7 +45,7 @@ impl Declared {
     // A block begins.
     #[tactic(auto, unfolding(crate::specs::Adding::after_line))]
     fn block(&mut self) -> Result<(), Stop>
-        ensures { Takes (after_line self.old SaidBlock) self.new result }
+        ensures { Takes (after_line self.old BlockLine) self.new result }
     {
         if self.group > 0 {
             return Err(Stop::Wrong(Kind::Form));

@@ -4,7 +4,7 @@ ghost use Rattle.std.specs.List.{list_all};
 ghost use Rattle.sg_base.specs.declared.value.Value.{Value};
 ghost use Rattle.sg_base.specs.Model.{value_of};
 ghost use Rattle.sg_model.specs.Lists.{all_differ, value_at};
-ghost use Rattle.sg_sched.specs.Format.Forms.{is_given};
+ghost use Rattle.sg_sched.specs.Format.Forms.{is_assignment};
 ghost use Rattle.sg_sched.specs.Format.Items.{variables_of};
 ghost use Rattle.sg_sched.specs.Format.Values.{is_value, value_of as spelled};
 ghost use Rattle.sg_sched_text.specs.Adding.{known_values};
@@ -24,7 +24,7 @@ pub fn known_values(
     graph: &Graph,
     values: &[Assignment<'_>],
 ) -> Result<Option<Seq<(Var, Value)>>, OutOfMemory>
-    requires { IsTrue (list_all is_given values.now) }
+    requires { IsTrue (list_all is_assignment values.now) }
     ensures { IfOk result (λ o. option_map (λ ws. map (λ (w : ℕ × Value). (w.0, value_of w.1)) ws) o ≡ known_values (Some graph.now) values.now) }
 {
     match numbers(alloc, graph, values)? {
@@ -59,7 +59,7 @@ fn in_order(
     values: &[Assignment<'_>],
 ) -> Result<Seq<(Var, Value)>, OutOfMemory>
     requires same { length numbers.now ≡ length values.now }
-    requires given { IsTrue (list_all is_given values.now) }
+    requires given { IsTrue (list_all is_assignment values.now) }
     ensures { IfOk result (λ ws. map (λ (w : ℕ × Value). (w.0, value_of w.1)) ws ≡ from_number 0 (numbered numbers.now values.now)) }
 {
     let mut found = Seq::from_vec(Vec::with_capacity(alloc, numbers.len())?);
@@ -70,7 +70,7 @@ fn in_order(
 }
 
 // Puts the value that stands in the place of a number after those of lesser numbers, if there is one.
-#[tactic(auto, using(crate::proofs::FormParts::each, crate::proofs::FormParts::given_value, crate::proofs::ValueLaws::next_none, crate::proofs::ValueLaws::next_some))]
+#[tactic(auto, using(crate::proofs::FormParts::each, crate::proofs::FormParts::assigned_value, crate::proofs::ValueLaws::next_none, crate::proofs::ValueLaws::next_some))]
 fn put_value(
     alloc: Global,
     numbers: &[Var],
@@ -80,7 +80,7 @@ fn put_value(
 ) -> Result<(), OutOfMemory>
     requires few { number < 32 }
     requires same { length numbers.now ≡ length values.now }
-    requires given { IsTrue (list_all is_given values.now) }
+    requires given { IsTrue (list_all is_assignment values.now) }
     ensures { OnOk result (map (λ (w : ℕ × Value). (w.0, value_of w.1)) found.old ++ from_number number (numbered numbers.now values.now)
         ≡ map (λ (w : ℕ × Value). (w.0, value_of w.1)) found.new ++ from_number (number + 1) (numbered numbers.now values.now)) }
 {

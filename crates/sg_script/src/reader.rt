@@ -1,5 +1,5 @@
 //! The reader of scripts.
-ghost use Rattle.std.specs.Prelude.{◌≡◌, ◌≢◌, ◌⊎◌, ◌++◌, [], ◌∷◌, codes, map, option_map, Ok, Err, Some, None, IfErr, IfOk, OnOk};
+ghost use Rattle.std.specs.Prelude.{◌≡◌, ◌≢◌, ◌⊎◌, ◌++◌, [], ◌∷◌, codes, map, option_map, Ok, Err, Some, None, IfErr, IfOk, IsUtf8, OnOk};
 ghost use Rattle.toml.specs.Data.{get_member};
 ghost use Rattle.toml.specs.View.{view, table_view};
 ghost use Rattle.sg_keys.specs.KeyFile.{document, tables_of};
@@ -14,15 +14,19 @@ use sg_base::Seq;
 use sg_keys::tables_at;
 use sg_program::Programs;
 use std::alloc::Global;
+use std::str;
 use toml::{Table, Value};
 
 /// The script that the bytes spell beside the programs, or its first fault: what stands beside `start` and `choice`, or a `start` that
-/// is no list of tables; then the starts in order; then a `choice` that is no list of tables; then the choices in order.
+/// is no list of tables; then the starts in order; then a `choice` that is no list of tables; then the choices in order. Bytes that
+/// are no UTF-8 are refused before any memory is taken.
 pub fn read_script(alloc: Global, bytes: &[u8], programs: &Programs) -> Result<Script, ScriptFault>
     ensures spelled { IfOk result (SpellsScript programs.now bytes.now) }
     ensures each { (s : Script) → SpellsScript programs.now bytes.now s → (result ≡ Ok s) ⊎ (result ≡ Err ScriptFault.OutOfMemory) }
     ensures first_fault { IfErr result (λ e. e ≢ ScriptFault.OutOfMemory → script_file programs.now bytes.now ≡ Err e) }
     ensures script { IfOk result (IsScript programs.now) }
+    // Memory never runs out for bytes that are no text.
+    ensures not_text { ¬ IsUtf8 bytes.now → result ≡ Err ScriptFault.NotToml }
 {
     answer(alloc, bytes, programs)
 }
@@ -31,6 +35,7 @@ pub fn read_script(alloc: Global, bytes: &[u8], programs: &Programs) -> Result<S
 fn answer(alloc: Global, bytes: &[u8], programs: &Programs) -> Result<Script, ScriptFault>
     ensures answer { IfOk result (λ s. script_file programs.now bytes.now ≡ Ok s) }
     ensures fault { IfErr result (λ e. e ≢ ScriptFault.OutOfMemory → script_file programs.now bytes.now ≡ Err e) }
+    ensures not_text { ¬ IsUtf8 bytes.now → result ≡ Err ScriptFault.NotToml }
 {
     let table = read_document(alloc, bytes)?;
     read_table(alloc, &table, programs)
@@ -41,7 +46,11 @@ fn answer(alloc: Global, bytes: &[u8], programs: &Programs) -> Result<Script, Sc
 fn read_document(alloc: Global, bytes: &[u8]) -> Result<Table, ScriptFault>
     ensures ok { IfOk result (λ t. document bytes.now ≡ Some (table_view t)) }
     ensures refused { IfErr result (λ e. e ≢ ScriptFault.OutOfMemory → (e ≡ ScriptFault.NotToml) × (document bytes.now ≡ None)) }
+    ensures not_text { ¬ IsUtf8 bytes.now → result ≡ Err ScriptFault.NotToml }
 {
+    if str::from_utf8(bytes).is_err() {
+        return Err(ScriptFault::NotToml);
+    }
     match toml::table_from_slice(alloc, bytes) {
         Ok(table) => Ok(table),
         Err(fault) => {

@@ -3,7 +3,7 @@ use Rattle.std.proofs.Common.{◌≡◌, ◌⊎◌, ⊎_elim, inl, inr, ℕ, Boo
 use Rattle.sg_base.specs.declared.address.Addr.{Addr}
 use Rattle.sg_base.specs.Outside.{HasRisen}
 use Rattle.sg_input.specs.Lines.{Line, Whole, TooLong}
-use Rattle.sg_keep.specs.Kept.{AllRepresent}
+use Rattle.sg_keep.specs.KeptRuns.{AllRepresent}
 use Rattle.sg_ledger.specs.Format.{Represents}
 use Rattle.sg_play.specs.Steps.{Step}
 use Rattle.sg_request.specs.Request.{request_of}
@@ -16,7 +16,7 @@ use Rattle.sg_serve.specs.declared.server.Server.{Server}
 use Rattle.sg_serve.specs.Lines.{Run, asked, asks_quit, given, gives, is_quit, receipt, receives, until_quit, with_line}
 use Rattle.sg_serve.specs.Served.{RepresentBetween, joins_of}
 use Rattle.sg_serve.specs.Serving.{Reply, Serving, replies, takes}
-use Rattle.sg_serve.specs.Representation.{CameToAnswer, HasAnswer, HasReceived, HasReplied, Received, Replied, RepresentEither, some_ok}
+use Rattle.sg_serve.specs.Representation.{ProgressedToAnswer, HasAnswer, HasReceived, HasReplied, Received, Replied, RepresentEither, some_ok}
 use Rattle.sg_serve.proofs.Giving.{goes_behind}
 
 -- all joins so far are kept
@@ -31,7 +31,7 @@ between_so images r run line reply t later goes e h = subst (RepresentBetween im
 
 -- a request that asks nothing of the link but to take a frame
 pub plain : (images : List ℕ → Type 0) (sv : Server) (random : Option (List (List ℕ))) (coming : Option (List Coming)) (old new : ℕ) (r : Run) (line : Line) (reply : Reply) (res : Result Step ServeFault) → asks_quit line ≡ false
-    → ((took : Bool) → with_line took r line ≡ gives took r reply) → OnOk res (random ≡ Some (reply.0).play.random) → coming ≡ Some r.coming → Replied images r.serving sv reply res → CameToAnswer images sv random coming old new r line (some_ok res)
+    → ((took : Bool) → with_line took r line ≡ gives took r reply) → OnOk res (random ≡ Some (reply.0).play.random) → coming ≡ Some r.coming → Replied images r.serving sv reply res → ProgressedToAnswer images sv random coming old new r line (some_ok res)
 plain images sv random coming old new r line reply (Ok step) goes e w c h = record {
   run = r;
   reply = reply;
@@ -71,7 +71,7 @@ given_quiet true false s e = same_quiet s.line s.frames e
 given_quiet false true s e = sym (same_quiet s.line s.frames e)
 
 pub waited : (images : List ℕ → Type 0) (sv : Server) (random : Option (List (List ℕ))) (coming : Option (List Coming)) (old new : ℕ) (r : Run) (line : Line) (limited : Bool) (res : Result Step ServeFault) → asks_quit line ≡ false
-    → ((took : Bool) → with_line took r line ≡ receives took limited r) → random ≡ Some r.serving.play.random → Received images sv coming old new r limited res → CameToAnswer images sv random coming old new r line (some_ok res)
+    → ((took : Bool) → with_line took r line ≡ receives took limited r) → random ≡ Some r.serving.play.random → Received images sv coming old new r limited res → ProgressedToAnswer images sv random coming old new r line (some_ok res)
 waited images sv random coming old new r line limited (Ok step) goes e w h = record {
   run = (receipt h.got limited r).0;
   reply = (receipt h.got limited r).1;

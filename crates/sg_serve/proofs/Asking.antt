@@ -3,12 +3,12 @@ use Rattle.std.proofs.Common.{◌≡◌, ◌⊎◌, ⊎_elim, inl, inr, ℕ, Lis
 use Rattle.sg_base.specs.declared.address.Addr.{Addr}
 use Rattle.sg_keep.proofs.NewJoins.{any_call, joins_of_node, joins_with}
 use Rattle.sg_keep.specs.Joins.{IsNew, join_in, join_reported, joins_made, with_join}
-use Rattle.sg_keep.specs.Kept.{AllRepresent}
+use Rattle.sg_keep.specs.KeptRuns.{AllRepresent}
 use Rattle.sg_ledger.specs.Format.{Join, OpenLedger, Represents}
 use Rattle.sg_model.specs.Names.{Name}
 use Rattle.sg_node.proofs.Life.{pasts_go_on}
 use Rattle.sg_play.proofs.Telling.{asked_quiet}
-use Rattle.sg_play.specs.Asking.{Comes, addressed, sealed_in}
+use Rattle.sg_play.specs.Asking.{IsAsked, addressed, sealed_in}
 use Rattle.sg_play.specs.Played.{Play, answer_in, called}
 use Rattle.sg_play.specs.Representation.{HasAsked, KeepsJoins, RepresentsPlay}
 use Rattle.sg_play.specs.declared.player.Player.{Player}
@@ -30,24 +30,24 @@ working joins = record { joins = joins; failed = false }
 
 -- ---- the node was asked
 
-pub asked_node : (sv : Server) (pl : Player) (may_leave : List ℕ → Type 0) (c : Call) (told : Option Reported) (graph : Option Graph) (h : HoldsJoins sv may_leave) → Comes 0 sv.player.node pl.node h.past c told graph None → HasAskedNode (record sv { player = pl }) may_leave told
-asked_node sv pl may_leave c told graph h came = record {
+pub asked_node : (sv : Server) (pl : Player) (may_leave : List ℕ → Type 0) (c : Call) (reported : Option Reported) (graph : Option Graph) (h : HoldsJoins sv may_leave) → IsAsked 0 sv.player.node pl.node h.past c reported graph None → HasAskedNode (record sv { player = pl }) may_leave reported
+asked_node sv pl may_leave c reported graph h came = record {
   past = h.past;
   call = c;
   number = 0;
   range = came.range;
-  told_before = h.told;
+  answered_before = h.answered;
   represents = came.goes_on.represents;
-  is_told = came.is_told;
+  is_reported = came.is_reported;
   ledger = λ l e. h.ledger l e ∙ ap working h.represents.joins;
   images = subst (AllRepresent (images_if (is_some sv.ledger) may_leave)) h.represents.joins h.images;
 }
 
-pub has_called : (sv : Server) (pl : Player) (s : Serving) (c : Call) (told : Option Reported) (graph : Option Graph) → RepresentsServing sv s → pl ≡ record sv.player { node = pl.node } → ((number : ℕ) → Comes number sv.player.node pl.node s.play.past c told graph None)
-    → HasCalled (record sv { player = pl }) s c told graph None
-has_called sv pl s c told graph h is comes = record {
-  asked = subst (λ (x : Player). HasAsked x s.play c told graph []) (sym is) (asked_quiet sv.player pl.node s.play c told graph h.player comes);
-  told_before = h.player.told;
+pub has_called : (sv : Server) (pl : Player) (s : Serving) (c : Call) (reported : Option Reported) (graph : Option Graph) → RepresentsServing sv s → pl ≡ record sv.player { node = pl.node } → ((number : ℕ) → IsAsked number sv.player.node pl.node s.play.past c reported graph None)
+    → HasCalled (record sv { player = pl }) s c reported graph None
+has_called sv pl s c reported graph h is comes = record {
+  asked = subst (λ (x : Player). HasAsked x s.play c reported graph []) (sym is) (asked_quiet sv.player pl.node s.play c reported graph h.player comes);
+  answered_before = h.player.answered;
   is_frame = ap (addressed s.play.past.keys) (comes 0).is_sealed;
   programs = h.programs;
   graphs = h.graphs;
@@ -61,16 +61,16 @@ ledger_has sv may_leave s h st l e = ap (λ (o : OpenLedger). o.joins) (h.ledger
 -- all joins so far are kept
 pub holds_all : (sv : Server) (has : Server) (may_leave : List ℕ → Type 0) (s : Serving) → is_some sv.ledger ≡ is_some has.ledger → HoldsJoins sv may_leave → RepresentsServing sv s → AllRepresent (images_if (is_some has.ledger) may_leave) (joins_of s)
 holds_all sv has may_leave s same h st image left =
-    subst (Represents image) (st.player.node.joins ∙ joins_of_node s.play.past st.player.told) (h.images image (same ∙ left.0, left.1))
+    subst (Represents image) (st.player.node.joins ∙ joins_of_node s.play.past st.player.answered) (h.images image (same ∙ left.0, left.1))
 
 -- the node goes on without a join
 pub holds_on : (old new : Server) (may_leave : List ℕ → Type 0) → HoldsJoins old may_leave → new.ledger ≡ old.ledger → KeepsJoins old.player.node new.player.node → HoldsJoins new may_leave
 holds_on old new may_leave h same keeps =
-    let later = keeps h.past h.represents h.told in
+    let later = keeps h.past h.represents h.answered in
     record {
       past = later.0;
       represents = later.1;
-      told = later.2;
+      answered = later.2;
       ledger = λ l e. h.ledger l (sym same ∙ e) ∙ ap working (sym later.3);
       images = λ image left. subst (Represents image) (sym later.3) (h.images image (ap is_some (sym same) ∙ left.0, left.1));
     }
@@ -86,24 +86,24 @@ told_join n (Protocol.NotActed x) = refl
 told_join n Protocol.NotAbandoned = refl
 told_join n (Protocol.NotDelivered x) = refl
 
-module _ (sv : Server) (may_leave : List ℕ → Type 0) (told : Option Reported) (h : HasAskedNode sv may_leave told) where
+module _ (sv : Server) (may_leave : List ℕ → Type 0) (reported : Option Reported) (h : HasAskedNode sv may_leave reported) where
   -- the node's answer
   abbrev given : Answer
   given = answer real (node_of h.past) h.call
 
   -- the pair that it joins, if it joins one
   abbrev joined : Option Join
-  joined = option_and_then join_reported told
+  joined = option_and_then join_reported reported
 
   join_is : joined ≡ join_in given
-  join_is = ap (option_and_then join_reported) h.is_told ∙ told_join h.number given
+  join_is = ap (option_and_then join_reported) h.is_reported ∙ told_join h.number given
 
   -- if there is no ledger
   pub holds_none : sv.ledger ≡ None → HoldsJoins sv may_leave
   holds_none e = record {
     past = past_after real h.past h.call;
     represents = h.represents;
-    told = pasts_go_on h.past h.call h.told_before h.range;
+    answered = pasts_go_on h.past h.call h.answered_before h.range;
     ledger = λ l is. absurd (let z = sym e ∙ is in cc);
     images = λ image left. absurd (let z = ap is_some (sym e) ∙ left.0 in cc);
   }
@@ -136,7 +136,7 @@ module _ (sv : Server) (may_leave : List ℕ → Type 0) (told : Option Reported
     holds_after m now_leaves is all = record {
       past = past_after real h.past h.call;
       represents = h.represents;
-      told = pasts_go_on h.past h.call h.told_before h.range;
+      answered = pasts_go_on h.past h.call h.answered_before h.range;
       ledger = λ k q. (let z : k ≡ m = (cc) in z) ∙ is ∙ ap working (sym node_joins);
       images = λ image left. subst (Represents image) (ap (λ (o : OpenLedger). o.joins) is ∙ sym node_joins) (all image left.1);
     }

@@ -1,14 +1,14 @@
 -- A line that was answered, and where a run ended.
 use Rattle.std.proofs.Common.{◌≡◌, ◌≤◌, ◌⊎◌, inl, inr, ℕ, Bool, true, false, List, [], ◌∷◌, drop, Option, is_some, Result, Ok, Err, refl, sym, ap, ◌∙◌, subst}
 use Rattle.sg_input.specs.Lines.{Line}
-use Rattle.sg_keep.specs.Kept.{AllRepresent}
+use Rattle.sg_keep.specs.KeptRuns.{AllRepresent}
 use Rattle.sg_play.specs.Steps.{Step}
 use Rattle.sg_serve.specs.declared.fault.ServeFault.{ServeFault}
 use Rattle.sg_serve.specs.declared.fault.ServeFault.TheVariants.{InputFailed, WriteFailed, DiskFailed, OutOfMemory}
 use Rattle.sg_serve.specs.declared.server.Server.{Server}
 use Rattle.sg_serve.specs.Lines.{Run, asks_quit, until_quit, with_line, with_lines}
 use Rattle.sg_serve.specs.Served.{Agrees, EndedAt, Gave, Outside, Served, RepresentBetween, images_if, joins_of}
-use Rattle.sg_serve.specs.Representation.{Answered, Given, HasAnswer, HasEnded, HoldsJoins, Serves, RepresentsServing}
+use Rattle.sg_serve.specs.Representation.{Answered, AnswerIsOut, HasAnswer, HasEnded, HoldsJoins, Serves, RepresentsServing}
 use Rattle.sg_serve.proofs.Answering.{between_all}
 use Rattle.sg_serve.proofs.Asking.{holds_all}
 use Rattle.sg_serve.proofs.Giving.{agrees, begun, ends_behind, gave_on}
@@ -18,12 +18,12 @@ use Rattle.sg_serve.proofs.Running.{served_at, serves_more}
 
 -- its answer was given whole
 pub went_on : (start old mid new : Outside) (random : Option (List (List ℕ))) (images : List ℕ → Type 0) (sv : Server) (r : Run) (line : Line) (step : Step) → Gave start old r → mid.written ≡ old.written → mid.sent ≡ old.sent → old.failed ≤ mid.failed
-    → HasAnswer sv random mid.coming old.failed mid.failed r line step → (u : Unit {0}) → Given mid new step (Ok u) → Answered start new random images sv r line (Ok true)
+    → HasAnswer sv random mid.coming old.failed mid.failed r line step → (u : Unit {0}) → AnswerIsOut mid new step (Ok u) → Answered start new random images sv r line (Ok true)
 went_on start old mid new random images sv r line step gave written sent falls a u given = (a.goes_on, agrees start old mid new random sv r line step gave written sent falls a (Ok u) given given.whole)
 
 -- a prefix of it was written
 pub wrote_part : (start old mid new : Outside) (random : Option (List (List ℕ))) (images : List ℕ → Type 0) (sv : Server) (r : Run) (line : Line) (step : Step) → Gave start old r → mid.written ≡ old.written → mid.sent ≡ old.sent → old.failed ≤ mid.failed
-    → (a : HasAnswer sv random mid.coming old.failed mid.failed r line step) → (f : ServeFault) → f ≡ WriteFailed → AllRepresent images (joins_of a.reply.0) → Given mid new step (Err f) → Answered start new random images sv r line (Err f)
+    → (a : HasAnswer sv random mid.coming old.failed mid.failed r line step) → (f : ServeFault) → f ≡ WriteFailed → AllRepresent images (joins_of a.reply.0) → AnswerIsOut mid new step (Err f) → Answered start new random images sv r line (Err f)
 wrote_part start old mid new random images sv r line step gave written sent falls a f e all given = λ later. subst (λ (x : ServeFault). EndedAt start new random images r (until_quit (line ∷ later)) (Err x)) (sym e)
     (begun start old mid new random sv r line step gave written sent falls a (Err f) given images all later given.prefix)
 

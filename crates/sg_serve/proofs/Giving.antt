@@ -4,7 +4,7 @@ use Rattle.std.proofs.lemmas.List.{append-nil}
 use Rattle.sg_base.specs.declared.address.Addr.{Addr}
 use Rattle.sg_base.specs.Outside.{Appends, AppendsPrefix, HasRisen}
 use Rattle.sg_input.specs.Lines.{Line}
-use Rattle.sg_keep.specs.Kept.{AllRepresent}
+use Rattle.sg_keep.specs.KeptRuns.{AllRepresent}
 use Rattle.sg_play.proofs.Endings.{appends_more, frames_more}
 use Rattle.sg_play.proofs.Rising.{risen_last}
 use Rattle.sg_play.specs.Steps.{Step, lines_of, frames_of}
@@ -12,7 +12,7 @@ use Rattle.sg_serve.specs.declared.fault.ServeFault.{ServeFault}
 use Rattle.sg_serve.specs.declared.server.Server.{Server}
 use Rattle.sg_serve.specs.Lines.{Run, asks_quit, failures_after, given, gives, until_quit, with_line}
 use Rattle.sg_serve.specs.Served.{Agrees, Gave, HasBegun, Outside, RoseBy, joins_of}
-use Rattle.sg_serve.specs.Representation.{Given, HasAnswer, RepresentsServing}
+use Rattle.sg_serve.specs.Representation.{AnswerIsOut, HasAnswer, RepresentsServing}
 use Rattle.sg_serve.proofs.Rising.{rose_on, rose_more}
 
 lines_more : (ss : List Step) (s : Step) → lines_of (ss ++ s ∷ []) ≡ lines_of ss ++ s.line
@@ -49,7 +49,7 @@ gave_on start old new r written sent l h = record {
 -- ---- an answer was given
 
 module _ (start old mid new : Outside) (random : Option (List (List ℕ))) (sv : Server) (r : Run) (line : Line) (step : Step) (gave : Gave start old r) (written : mid.written ≡ old.written) (sent : mid.sent ≡ old.sent)
-    (falls : old.failed ≤ mid.failed) (a : HasAnswer sv random mid.coming old.failed mid.failed r line step) (result : Result (Unit {0}) ServeFault) (g : Given mid new step result) where
+    (falls : old.failed ≤ mid.failed) (a : HasAnswer sv random mid.coming old.failed mid.failed r line step) (result : Result (Unit {0}) ServeFault) (g : AnswerIsOut mid new step result) where
   -- the way in which the line is answered that gives this
   way : (t : Bool) × (with_line t r line ≡ gives t a.run a.reply) × (given t a.reply.1 ≡ given g.took a.reply.1) × (t ≡ false → (g.took ≡ false) ⊎ HasRisen old.failed mid.failed)
   way = a.fits g.took (λ e. g.quiet (ap (λ (s : Step). s.frames) a.replied.is_step ∙ e))

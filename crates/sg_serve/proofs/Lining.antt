@@ -7,7 +7,7 @@ use Rattle.sg_answers.specs.Answers.{failed_text, nothing_text, unknown_text, wr
 use Rattle.sg_answers.specs.declared.line.Wrong.TheVariants.{Form}
 use Rattle.sg_base.specs.Outside.{HasRisen}
 use Rattle.sg_input.specs.Lines.{Line, Whole}
-use Rattle.sg_keep.specs.Kept.{AllRepresent}
+use Rattle.sg_keep.specs.KeptRuns.{AllRepresent}
 use Rattle.sg_model.specs.Lists.{first_some}
 use Rattle.sg_play.specs.Steps.{Step, frames_in}
 use Rattle.sg_protocol.specs.Calls.{Abandon, Event, Refusal}
@@ -28,7 +28,7 @@ use Rattle.sg_serve.specs.declared.server.Server.{Server}
 use Rattle.sg_serve.specs.Lines.{Run, asked, asks_quit, gives, is_quit, receipt, until_quit, with_line}
 use Rattle.sg_serve.specs.Served.{RepresentBetween, images_if, joins_of}
 use Rattle.sg_serve.specs.Serving.{Reply, Serving, calls, of_session, repeats, replies, says, sends_again, sids_of, takes}
-use Rattle.sg_serve.specs.Representation.{CameToAnswer, HasReplied, HoldsJoins, Received, Replied, RepresentEither, RepresentsServing, some_ok}
+use Rattle.sg_serve.specs.Representation.{ProgressedToAnswer, HasReplied, HoldsJoins, Received, Replied, RepresentEither, RepresentsServing, some_ok}
 use Rattle.sg_serve.proofs.Answering.{asked_plain, between_all, not_quit, plain, waited}
 use Rattle.sg_serve.proofs.Asking.{holds_all}
 use Rattle.sg_serve.proofs.Replying.{none_called, replied_so, said}
@@ -110,28 +110,28 @@ wait_failed images sv coming old new r limited (Err fault) all st risen c h = no
 
 -- a line whose form is wrong
 pub wrong_form : (images : List ℕ → Type 0) (sv : Server) (random : Option (List (List ℕ))) (coming : Option (List Coming)) (old new : ℕ) (r : Run) (line : Line) (res : Result Step ServeFault) → asks_quit line ≡ false → ((took : Bool) → with_line took r line ≡ gives took r (says r.serving (wrong_text Form)))
-    → AllRepresent images (joins_of r.serving) → RepresentsServing sv r.serving → random ≡ Some r.serving.play.random → coming ≡ Some r.coming → IfOk res (λ x. x ≡ record { line = wrong_text Form; frames = [] }) → CameToAnswer images sv random coming old new r line (some_ok res)
+    → AllRepresent images (joins_of r.serving) → RepresentsServing sv r.serving → random ≡ Some r.serving.play.random → coming ≡ Some r.coming → IfOk res (λ x. x ≡ record { line = wrong_text Form; frames = [] }) → ProgressedToAnswer images sv random coming old new r line (some_ok res)
 wrong_form images sv random coming old new r line res goes e all st w c h =
     plain images sv random coming old new r line (says r.serving (wrong_text Form)) res goes e (on_ok res _ w) c
     (replied_so images r.serving sv (says r.serving (wrong_text Form)) res (said sv r.serving (wrong_text Form) res st h) (none_called images r.serving (says r.serving (wrong_text Form)) all))
 
 -- bytes that are no request
 pub no_request : (images : List ℕ → Type 0) (sv : Server) (random : Option (List (List ℕ))) (coming : Option (List Coming)) (old new : ℕ) (r : Run) (bytes : List ℕ) (res : Result Step ServeFault) → None ≡ request_of bytes
-    → AllRepresent images (joins_of r.serving) → RepresentsServing sv r.serving → random ≡ Some r.serving.play.random → coming ≡ Some r.coming → IfOk res (λ x. x ≡ record { line = wrong_text Form; frames = [] }) → CameToAnswer images sv random coming old new r (Whole bytes) (some_ok res)
+    → AllRepresent images (joins_of r.serving) → RepresentsServing sv r.serving → random ≡ Some r.serving.play.random → coming ≡ Some r.coming → IfOk res (λ x. x ≡ record { line = wrong_text Form; frames = [] }) → ProgressedToAnswer images sv random coming old new r (Whole bytes) (some_ok res)
 no_request images sv random coming old new r bytes res e all st w c h =
     wrong_form images sv random coming old new r (Whole bytes) res (ap (λ (o : Option Request). option_map_or is_quit o false) (sym e))
     (λ took. ap (λ (o : Option Request). option_map_or (asked took r) o (gives took r (says r.serving (wrong_text Form)))) (sym e)) all st w c h
 
 -- a request for a delivery
 pub asked_wait : (images : List ℕ → Type 0) (sv : Server) (random : Option (List (List ℕ))) (coming : Option (List Coming)) (old new : ℕ) (r : Run) (bytes : List ℕ) (within : Option ℕ) (res : Result Step ServeFault) → Some (request.Receive within) ≡ request_of bytes
-    → random ≡ Some r.serving.play.random → Received images sv coming old new r (is_some within) res → CameToAnswer images sv random coming old new r (Whole bytes) (some_ok res)
+    → random ≡ Some r.serving.play.random → Received images sv coming old new r (is_some within) res → ProgressedToAnswer images sv random coming old new r (Whole bytes) (some_ok res)
 asked_wait images sv random coming old new r bytes within res e w h =
     waited images sv random coming old new r (Whole bytes) (is_some within) res (ap (λ (o : Option Request). option_map_or is_quit o false) (sym e))
     (λ took. ap (λ (o : Option Request). option_map_or (asked took r) o (gives took r (says r.serving (wrong_text Form)))) (sym e)) w h
 
 -- any other request
 pub asked_other : (images : List ℕ → Type 0) (sv : Server) (random : Option (List (List ℕ))) (coming : Option (List Coming)) (old new : ℕ) (r : Run) (bytes : List ℕ) (q : Request) (res : Result Step ServeFault) → Some q ≡ request_of bytes → (q ≡ request.Quit → ⊥) → ((within : Option ℕ) → q ≡ request.Receive within → ⊥)
-    → OnOk res (random ≡ Some (replies r.serving q).0.play.random) → coming ≡ Some r.coming → Replied images r.serving sv (replies r.serving q) res → CameToAnswer images sv random coming old new r (Whole bytes) (some_ok res)
+    → OnOk res (random ≡ Some (replies r.serving q).0.play.random) → coming ≡ Some r.coming → Replied images r.serving sv (replies r.serving q) res → ProgressedToAnswer images sv random coming old new r (Whole bytes) (some_ok res)
 asked_other images sv random coming old new r bytes q res e not_end not_wait w c h =
     plain images sv random coming old new r (Whole bytes) (replies r.serving q) res (ap (λ (o : Option Request). option_map_or is_quit o false) (sym e) ∙ not_quit q not_end)
     (λ took. ap (λ (o : Option Request). option_map_or (asked took r) o (gives took r (says r.serving (wrong_text Form)))) (sym e) ∙ asked_plain took r q not_wait) w c h
@@ -158,6 +158,6 @@ some_failed (Ok step) x e d = absurd (let z = sym e ∙ d in cc)
 some_failed (Err fault) x e d = let y = sym e ∙ d in ap Err (let z : fault ≡ DiskFailed = (cc) in z)
 
 -- the line by another name, and the answer
-pub came_as : (images : List ℕ → Type 0) (sv : Server) (random : Option (List (List ℕ))) (coming : Option (List Coming)) (old new : ℕ) (r : Run) (a b : Line) (x y : Result (Option Step) ServeFault) → b ≡ a → y ≡ x → CameToAnswer images sv random coming old new r a x → CameToAnswer images sv random coming old new r b y
+pub came_as : (images : List ℕ → Type 0) (sv : Server) (random : Option (List (List ℕ))) (coming : Option (List Coming)) (old new : ℕ) (r : Run) (a b : Line) (x y : Result (Option Step) ServeFault) → b ≡ a → y ≡ x → ProgressedToAnswer images sv random coming old new r a x → ProgressedToAnswer images sv random coming old new r b y
 came_as images sv random coming old new r a b x y e f h =
-    subst (λ (l : Line). CameToAnswer images sv random coming old new r l y) (sym e) (subst (λ (z : Result (Option Step) ServeFault). CameToAnswer images sv random coming old new r a z) (sym f) h)
+    subst (λ (l : Line). ProgressedToAnswer images sv random coming old new r l y) (sym e) (subst (λ (z : Result (Option Step) ServeFault). ProgressedToAnswer images sv random coming old new r a z) (sym f) h)

@@ -21,7 +21,7 @@ use Rattle.sg_request.specs.Request.{request_of}
 use Rattle.sg_request.specs.declared.request.Request.{Request}
 use Rattle.sg_request.specs.declared.request.Request.TheVariants as request
 use Rattle.sg_sched.specs.Format.Items.{labels_of}
-use Rattle.sg_sched.specs.Format.Said.{Assignment}
+use Rattle.sg_sched.specs.Format.LineContents.{Assignment}
 use Rattle.sg_script.specs.Script.{Start as ScriptStart}
 use Rattle.sg_wait.specs.Waiting.{received}
 use Rattle.sg_serve.specs.Laws.{AgainChangesNothing, IsOfNode, RunsAreOfNodes}

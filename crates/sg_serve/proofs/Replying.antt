@@ -3,7 +3,7 @@ use Rattle.std.proofs.Common.{◌≡◌, ◌⊎◌, ⊎_elim, inl, inr, ℕ, tru
 use Rattle.std.specs.Prelude.{IfErr}
 use Rattle.std.specs.Option.{option_map_or}
 use Rattle.sg_keep.proofs.NewJoins.{joins_of_node}
-use Rattle.sg_keep.specs.Kept.{AllRepresent}
+use Rattle.sg_keep.specs.KeptRuns.{AllRepresent}
 use Rattle.sg_ledger.specs.Format.{Join, OpenLedger, Represents}
 use Rattle.sg_base.specs.declared.address.Addr.{Addr}
 use Rattle.sg_model.specs.Names.{Name}
@@ -49,21 +49,21 @@ kept_is : (o : Option OpenLedger) (joins : List Join) → ((l : OpenLedger) → 
 kept_is None joins h e = absurd (cc)
 kept_is (Some l) joins h e = h l refl
 
-module _ (sv : Server) (may_leave : List ℕ → Type 0) (s : Serving) (c : Call) (told : Option Reported) (graph : Option Graph) (frame : Option (Addr × (Name × List ℕ))) (h : HasCalled sv s c told graph frame) where
+module _ (sv : Server) (may_leave : List ℕ → Type 0) (s : Serving) (c : Call) (reported : Option Reported) (graph : Option Graph) (frame : Option (Addr × (Name × List ℕ))) (h : HasCalled sv s c reported graph frame) where
   -- the joins of the node with the call
   pub node_has : sv.player.node.joins ≡ joins_of (calls s c).0
-  node_has = h.asked.node.joins ∙ joins_of_node (past_after real s.play.past c) h.asked.told_past
+  node_has = h.asked.node.joins ∙ joins_of_node (past_after real s.play.past c) h.asked.answered_past
 
   -- its join may be kept or not
   pub join_unkept : LedgerHas sv (node_of s.play.past).joins → ((image : List ℕ) → images_if (is_some sv.ledger) may_leave image → Represents image (joins_kept sv.ledger) ⊎ Represents image sv.player.node.joins)
       → RepresentEither (images_if (is_some sv.ledger) may_leave) s (calls s c)
   join_unkept has between image left =
-      ⊎_elim (λ x. inl (subst (Represents image) (kept_is sv.ledger (node_of s.play.past).joins has left.0 ∙ joins_of_node s.play.past h.told_before) x)) (λ x. inr (subst (Represents image) node_has x)) (between image left)
+      ⊎_elim (λ x. inl (subst (Represents image) (kept_is sv.ledger (node_of s.play.past).joins has left.0 ∙ joins_of_node s.play.past h.answered_before) x)) (λ x. inr (subst (Represents image) node_has x)) (between image left)
 
   -- it is kept
   pub join_kept : (m : Server) → m ≡ record sv { ledger = m.ledger } → is_some m.ledger ≡ is_some sv.ledger → HoldsJoins m may_leave → RepresentEither (images_if (is_some sv.ledger) may_leave) s (calls s c)
   join_kept m rest same holds image left = inr (subst (Represents image) (ap (λ (x : Server). x.player.node.joins) rest ∙ node_has) (holds.images image (same ∙ left.0, left.1)))
 
   -- the server with another ledger has called the same
-  pub called_with : (m : Server) → m ≡ record sv { ledger = m.ledger } → HasCalled m s c told graph frame
-  called_with m rest = subst (λ (x : Server). HasCalled x s c told graph frame) (sym rest) (record { asked = h.asked; told_before = h.told_before; is_frame = h.is_frame; programs = h.programs; graphs = h.graphs; last = h.last })
+  pub called_with : (m : Server) → m ≡ record sv { ledger = m.ledger } → HasCalled m s c reported graph frame
+  called_with m rest = subst (λ (x : Server). HasCalled x s c reported graph frame) (sym rest) (record { asked = h.asked; answered_before = h.answered_before; is_frame = h.is_frame; programs = h.programs; graphs = h.graphs; last = h.last })

@@ -2,7 +2,7 @@
 use Rattle.std.proofs.Common.{◌≡◌, ℕ, Bool, true, false, List, [], ◌∷◌, ◌++◌, map, Option, Some, None, is_some, IfSome, Result, Ok, Err, refl, sym, ap, ◌∙◌, subst, append_assoc}
 use Rattle.std.proofs.lemmas.List.{append-nil, map-append}
 use Rattle.sg_input.specs.Lines.{Line}
-use Rattle.sg_keep.specs.Kept.{AllRepresent}
+use Rattle.sg_keep.specs.KeptRuns.{AllRepresent}
 use Rattle.sg_ledger.specs.Format.{Join, OpenLedger, Represents}
 use Rattle.sg_protocol.specs.Keyring.{Keyring, Program}
 use Rattle.sg_wait.specs.declared.coming.Coming.{Coming}
@@ -49,7 +49,7 @@ pub holds_first : (sv : Server) (ledger : Option OpenLedger) (may_leave : List �
 holds_first sv ledger may_leave keys programs is st works all = record {
   past = record { keys = keys; programs = programs; first = joins_kept ledger; calls = [] };
   represents = st.player.node;
-  told = st.player.told;
+  answered = st.player.answered;
   ledger = λ l e. opened_is ledger l (sym is ∙ e) works ∙ ap (λ (js : List Join). record { joins = js; failed = false }) (sym st.player.node.joins);
   images = λ image left. subst (Represents image) (sym st.player.node.joins) (all image (ap is_some (sym is) ∙ left.0, left.1));
 }

@@ -77,7 +77,7 @@ nothing_again s n sid is e = ap (λ (o : Option SentFrame). option_map_or (repea
 pub frame_again : (s : Serving) (n : ℕ) (sid : List ℕ) (f : SentFrame) → slice_get (sids_of s.play) (n - 1) ≡ Some sid → frame_of s.last sid ≡ Some f → repeats s f ≡ of_session s n (sends_again s n)
 frame_again s n sid f is e = ap (λ (o : Option SentFrame). option_map_or (repeats s) o (says s (nothing_text n))) (sym e) ∙ of_some s n sid (sends_again s n) is
 
--- ---- where it stands
+-- ---- where it is
 
 abbrev waiting : Serving → ℕ → List ℕ → List ℕ
 waiting s n sid = if is_live s.play sid then waits_text n else over_text n

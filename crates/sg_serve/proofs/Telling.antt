@@ -2,7 +2,7 @@
 use Rattle.std.proofs.Common.{◌≡◌, ◌≤◌, ◌<◌, ℕ, ◌+◌, Bool, true, false, if◌then◌else◌, List, [], ◌∷◌, ◌++◌, length, Option, Some, None, option_map, IfSome, refl, sym, ap, ◌∙◌, subst}
 use Rattle.std.proofs.lemmas.Bool.{le-ltb, lt-ltb}
 use Rattle.std.specs.Option.{option_map_or}
-use Rattle.sg_again.specs.LastFrames.{Kept, SentFrame, sent, ended}
+use Rattle.sg_again.specs.LastFrames.{KeptFrame, SentFrame, sent, ended}
 use Rattle.sg_base.specs.declared.address.Addr.{Addr}
 use Rattle.sg_model.specs.Names.{Name}
 use Rattle.sg_play.proofs.Called.{is_addressed}
@@ -38,15 +38,15 @@ one_graph p g gs l = sym (ap (λ (b : Bool). if b then gs ++ g ∷ [] else gs) (
 -- ---- the frame
 
 -- the frame has the number that is reported of it
-frame_is : (keys : Keyring) (n number : ℕ) (a : Answer) (told : Option Reported) (frame : Option (Addr × (Name × List ℕ))) → told ≡ Some (reported_answer n a) → ((e : Event) (to : Name) (k : ℕ) → told ≡ Some (Report.Sends e to k) → number ≡ k) → frame ≡ addressed keys (sealed_in a)
+frame_is : (keys : Keyring) (n number : ℕ) (a : Answer) (reported : Option Reported) (frame : Option (Addr × (Name × List ℕ))) → reported ≡ Some (reported_answer n a) → ((e : Event) (to : Name) (k : ℕ) → reported ≡ Some (Report.Sends e to k) → number ≡ k) → frame ≡ addressed keys (sealed_in a)
     → option_map (as_sent number) frame ≡ option_map (as_sent n) (addressed keys (sealed_in a))
-frame_is keys n number (Protocol.Happened e) told frame t h is = ap (option_map (as_sent number)) is
-frame_is keys n number (Protocol.Sends e to f) told frame t h is = ap (option_map (as_sent number)) is ∙ ap (λ (k : ℕ). option_map (as_sent k) (addressed keys (Some (to, spelling f)))) (h e to n t)
-frame_is keys n number Protocol.Abandoned told frame t h is = ap (option_map (as_sent number)) is
-frame_is keys n number (Protocol.NotStarted x) told frame t h is = ap (option_map (as_sent number)) is
-frame_is keys n number (Protocol.NotActed x) told frame t h is = ap (option_map (as_sent number)) is
-frame_is keys n number Protocol.NotAbandoned told frame t h is = ap (option_map (as_sent number)) is
-frame_is keys n number (Protocol.NotDelivered x) told frame t h is = ap (option_map (as_sent number)) is
+frame_is keys n number (Protocol.Happened e) reported frame t h is = ap (option_map (as_sent number)) is
+frame_is keys n number (Protocol.Sends e to f) reported frame t h is = ap (option_map (as_sent number)) is ∙ ap (λ (k : ℕ). option_map (as_sent k) (addressed keys (Some (to, spelling f)))) (h e to n t)
+frame_is keys n number Protocol.Abandoned reported frame t h is = ap (option_map (as_sent number)) is
+frame_is keys n number (Protocol.NotStarted x) reported frame t h is = ap (option_map (as_sent number)) is
+frame_is keys n number (Protocol.NotActed x) reported frame t h is = ap (option_map (as_sent number)) is
+frame_is keys n number Protocol.NotAbandoned reported frame t h is = ap (option_map (as_sent number)) is
+frame_is keys n number (Protocol.NotDelivered x) reported frame t h is = ap (option_map (as_sent number)) is
 
 -- it goes out as it was made
 posted_made : (n : ℕ) (frame : Option (Addr × (Name × List ℕ))) → posted (option_map (as_sent n) frame) ≡ frames_made frame
@@ -55,20 +55,20 @@ posted_made n (Some f) = refl
 
 -- ---- a call was reported
 
-module _ (sv : Server) (pl : Player) (s : Serving) (c : Call) (told : Option Reported) (graph : Option Graph) (frame : Option (Addr × (Name × List ℕ))) (left : Option (List ℕ)) (h : HasCalled sv s c told graph frame) (leaves : left ≡ sid_left c) where
+module _ (sv : Server) (pl : Player) (s : Serving) (c : Call) (reported : Option Reported) (graph : Option Graph) (frame : Option (Addr × (Name × List ℕ))) (left : Option (List ℕ)) (h : HasCalled sv s c reported graph frame) (leaves : left ≡ sid_left c) where
   -- the number of a frame
   abbrev next : ℕ
   next = length (frames_of s.play.steps) + 1
 
-  pub session_is : (session : Option (List ℕ)) → IfSome told (λ t. session ≡ session_reported left t) → session ≡ session_in s.play c
+  pub session_is : (session : Option (List ℕ)) → IfSome reported (λ t. session ≡ session_reported left t) → session ≡ session_in s.play c
   session_is session e =
-      subst (λ (o : Option Reported). IfSome o (λ t. session ≡ session_reported left t)) h.asked.is_told e ∙ ap (λ (l : Option (List ℕ)). session_reported l (reported_answer next (answer_in s.play c))) leaves
+      subst (λ (o : Option Reported). IfSome o (λ t. session ≡ session_reported left t)) h.asked.is_reported e ∙ ap (λ (l : Option (List ℕ)). session_reported l (reported_answer next (answer_in s.play c))) leaves
 
-  pub made_is : (number : ℕ) → ((e : Event) (to : Name) (k : ℕ) → told ≡ Some (Report.Sends e to k) → number ≡ k) → option_map (as_sent number) frame ≡ frame_made s.play c
-  made_is number is = frame_is s.play.past.keys next number (answer_in s.play c) told frame h.asked.is_told is h.is_frame
+  pub made_is : (number : ℕ) → ((e : Event) (to : Name) (k : ℕ) → reported ≡ Some (Report.Sends e to k) → number ≡ k) → option_map (as_sent number) frame ≡ frame_made s.play c
+  made_is number is = frame_is s.play.past.keys next number (answer_in s.play c) reported frame h.asked.is_reported is h.is_frame
 
   -- the line, the frame, the graphs and the last frames make the reply
-  pub replied : (line : List ℕ) (kept copy : Option SentFrame) (gs : List (Option Graph)) (session : Option (List ℕ)) (last : List Kept) (step : Step) → (line ≡ (step_in s.play c).line) × RepresentsPlay pl (called s.play c) → kept ≡ frame_made s.play c → copy ≡ kept
+  pub replied : (line : List ℕ) (kept copy : Option SentFrame) (gs : List (Option Graph)) (session : Option (List ℕ)) (last : List KeptFrame) (step : Step) → (line ≡ (step_in s.play c).line) × RepresentsPlay pl (called s.play c) → kept ≡ frame_made s.play c → copy ≡ kept
       → gs ≡ graphs_with (called s.play c) graph sv.graphs → session ≡ session_in s.play c → last ≡ last_of (called s.play c) session kept sv.last → step ≡ record { line = line; frames = posted copy } → (new : Server) → new ≡ record sv { player = pl; graphs = gs; last = last } → HasReplied new step (calls s c)
   replied line kept copy gs session last step t k e g ss l is new new_is = subst (λ (x : Server). HasReplied x step (calls s c)) (sym new_is) (record {
     represents = record {

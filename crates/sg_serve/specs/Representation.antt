@@ -3,10 +3,10 @@ use Rattle.std.specs.Prelude.{◌≡◌, ◌⊎◌, ◌≤◌, ℕ, Bool, true, 
 use Rattle.sg_base.specs.declared.address.Addr.{Addr}
 use Rattle.sg_base.specs.Outside.{Appends, AppendsPrefix, HasRisen}
 use Rattle.sg_input.specs.Lines.{Line, Whole, TooLong}
-use Rattle.sg_keep.specs.Kept.{AllRepresent}
+use Rattle.sg_keep.specs.KeptRuns.{AllRepresent}
 use Rattle.sg_ledger.specs.Format.{Join, OpenLedger, Represents}
 use Rattle.sg_model.specs.Names.{Name}
-use Rattle.sg_node.specs.Answers.{IsTold}
+use Rattle.sg_node.specs.Answers.{IsAnsweredPast}
 use Rattle.sg_play.specs.Asking.{addressed, sealed_in}
 use Rattle.sg_play.specs.Played.{Play, answer_in}
 use Rattle.sg_play.specs.Posting.{frames_made}
@@ -38,19 +38,19 @@ pub record RepresentsServing (sv : Server) (s : Serving) : Type 0 where
 pub record HoldsJoins (sv : Server) (may_leave : List ℕ → Type 0) : Type 0 where
   pub past : Past
   pub represents : RepresentsPast sv.player.node past
-  pub told : IsTold past
+  pub answered : IsAnsweredPast past
   pub ledger : (l : OpenLedger) → sv.ledger ≡ Some l → l ≡ record { joins = sv.player.node.joins; failed = false }
   pub images : AllRepresent (images_if (is_some sv.ledger) may_leave) sv.player.node.joins
 
 -- the node has been asked one more call, and this is the outcome; the ledger, if there is one, has the joins from before
-pub record HasAskedNode (sv : Server) (may_leave : List ℕ → Type 0) (told : Option Reported) : Type 0 where
+pub record HasAskedNode (sv : Server) (may_leave : List ℕ → Type 0) (reported : Option Reported) : Type 0 where
   pub past : Past
   pub call : Call
   pub number : ℕ
   pub range : IsCallInRange call
-  pub told_before : IsTold past
+  pub answered_before : IsAnsweredPast past
   pub represents : RepresentsPast sv.player.node (past_after real past call)
-  pub is_told : told ≡ Some (reported_answer number (answer real (node_of past) call))
+  pub is_reported : reported ≡ Some (reported_answer number (answer real (node_of past) call))
   pub ledger : (l : OpenLedger) → sv.ledger ≡ Some l → l ≡ record { joins = (node_of past).joins; failed = false }
   pub images : AllRepresent (images_if (is_some sv.ledger) may_leave) (node_of past).joins
 
@@ -59,9 +59,9 @@ abbrev pub LedgerHas : Server → List Join → Type 0
 LedgerHas sv joins = (l : OpenLedger) → sv.ledger ≡ Some l → l.joins ≡ joins
 
 -- the player has asked its node this call, and this is the outcome, which is not reported yet
-pub record HasCalled (sv : Server) (s : Serving) (c : Call) (told : Option Reported) (graph : Option Graph) (frame : Option (Addr × (Name × List ℕ))) : Type 0 where
-  pub asked : HasAsked sv.player s.play c told graph (frames_made frame)
-  pub told_before : IsTold s.play.past
+pub record HasCalled (sv : Server) (s : Serving) (c : Call) (reported : Option Reported) (graph : Option Graph) (frame : Option (Addr × (Name × List ℕ))) : Type 0 where
+  pub asked : HasAsked sv.player s.play c reported graph (frames_made frame)
+  pub answered_before : IsAnsweredPast s.play.past
   pub is_frame : frame ≡ addressed s.play.past.keys (sealed_in (answer_in s.play c))
   pub programs : s.play.past.programs ≡ sv.programs.now
   pub graphs : sv.graphs ≡ s.graphs
@@ -82,7 +82,7 @@ Replied images s sv reply (Ok step) = HasReplied sv step reply
 Replied images s sv reply (Err fault) = RepresentEither images s reply
 
 -- an answer was given to the outside, whose link took its frame or didn't; or a prefix of it was written
-pub record Given (old new : Outside) (step : Step) (result : Result (Unit {0}) ServeFault) : Type 0 where
+pub record AnswerIsOut (old new : Outside) (step : Step) (result : Result (Unit {0}) ServeFault) : Type 0 where
   pub took : Bool
   pub quiet : step.frames ≡ [] → took ≡ true
   pub falls : old.failed ≤ new.failed
@@ -141,10 +141,10 @@ some_ok (Ok step) = Ok (Some step)
 some_ok (Err fault) = Err fault
 
 -- a line came to an answer, or to the end; or it failed
-abbrev pub CameToAnswer : (images : List ℕ → Type 0) → Server → (random : Option (List (List ℕ))) → (coming : Option (List Coming)) → (old new : ℕ) → Run → Line → Result (Option Step) ServeFault → Type 0
-CameToAnswer images sv random coming old new r line (Ok (Some step)) = HasAnswer sv random coming old new r line step
-CameToAnswer images sv random coming old new r line (Ok None) = HasEnded sv random coming r line
-CameToAnswer images sv random coming old new r line (Err fault) = (later : List Line) → RepresentBetween images r (until_quit (line ∷ later))
+abbrev pub ProgressedToAnswer : (images : List ℕ → Type 0) → Server → (random : Option (List (List ℕ))) → (coming : Option (List Coming)) → (old new : ℕ) → Run → Line → Result (Option Step) ServeFault → Type 0
+ProgressedToAnswer images sv random coming old new r line (Ok (Some step)) = HasAnswer sv random coming old new r line step
+ProgressedToAnswer images sv random coming old new r line (Ok None) = HasEnded sv random coming r line
+ProgressedToAnswer images sv random coming old new r line (Err fault) = (later : List Line) → RepresentBetween images r (until_quit (line ∷ later))
 
 -- a line was answered, or it asks for the end; or the run ended at it, whatever lines were to follow
 abbrev pub Answered : (start now : Outside) → (random : Option (List (List ℕ))) → (images : List ℕ → Type 0) → Server → Run → Line → Result Bool ServeFault → Type 0

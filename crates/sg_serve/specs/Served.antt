@@ -5,7 +5,7 @@ use Rattle.sg_base.specs.declared.address.Addr.{Addr}
 use Rattle.sg_base.specs.Outside.{Appends}
 use Rattle.sg_input.specs.Lines.{Line}
 use Rattle.sg_keep.specs.Joins.{joins_made}
-use Rattle.sg_keep.specs.Kept.{AllRepresent}
+use Rattle.sg_keep.specs.KeptRuns.{AllRepresent}
 use Rattle.sg_ledger.specs.Format.{Join, OpenLedger, Represents}
 use Rattle.sg_play.specs.Played.{beginning}
 use Rattle.sg_play.specs.Steps.{Step, lines_of, frames_of}

@@ -1,7 +1,7 @@
 -- What one principal does that serves an application: what each request does to its state, and what is answered.
 use Rattle.std.specs.Prelude.{ℕ, ◌+◌, ◌-◌, nat_lt, Bool, if◌then◌else◌, List, [], ◌∷◌, ◌++◌, length, find, position, bytes_eq, slice_get, unwrap_or, Option, Some, None, is_some, option_map}
 use Rattle.std.specs.Option.{option_map_or}
-use Rattle.sg_again.specs.LastFrames.{Kept, SentFrame, sent, ended, frame_of}
+use Rattle.sg_again.specs.LastFrames.{KeptFrame, SentFrame, sent, ended, frame_of}
 use Rattle.sg_base.specs.declared.address.Addr.{Addr}
 use Rattle.sg_answers.specs.Answers.{unknown_text, wrong_text, quiet_text, again_text, nothing_text, turn_text, waits_text, over_text, id_text}
 use Rattle.sg_answers.specs.declared.line.Wrong.TheVariants.{Unknown, Twice}
@@ -25,14 +25,14 @@ use Rattle.sg_report.specs.Reported.{session_reported, sid_left, reported_answer
 use Rattle.sg_request.specs.declared.request.Request.{Request}
 use Rattle.sg_request.specs.declared.request.Request.TheVariants as request
 use Rattle.sg_sched.specs.Format.Items.{labels_of}
-use Rattle.sg_sched.specs.Format.Said.{Assignment}
+use Rattle.sg_sched.specs.Format.LineContents.{Assignment}
 use Rattle.sg_script.specs.Script.{Start as ScriptStart}
 
 -- how far it has come: its node's past with the random bytes that are left, which is a play without choices; the graph of each session, in the order of their first events; and the last frames
 pub record Serving : Type 0 where
   pub play : Play
   pub graphs : List (Option Graph)
-  pub last : List Kept
+  pub last : List KeptFrame
 
 -- ---- what a request comes to
 
@@ -89,15 +89,15 @@ abbrev pub session_in : Play → Call → Option (List ℕ)
 session_in p c = session_reported (sid_left c) (reported_answer (length (frames_of p.steps) + 1) (answer_in p c))
 
 -- the last frames after a session may have sent one: it is the session's last frame, and a session that is not live any more has ended
-abbrev pub last_with : (live : Bool) → (sid : List ℕ) → Option SentFrame → List Kept → List Kept
+abbrev pub last_with : (live : Bool) → (sid : List ℕ) → Option SentFrame → List KeptFrame → List KeptFrame
 last_with live sid frame last = let after = option_map_or (sent last sid) frame last in if live then after else ended after sid
 
 -- so of the session of a line, if there is one, in the play after it
-abbrev pub last_of : Play → Option (List ℕ) → Option SentFrame → List Kept → List Kept
+abbrev pub last_of : Play → Option (List ℕ) → Option SentFrame → List KeptFrame → List KeptFrame
 last_of p session frame last = option_map_or (λ sid. last_with (is_live p sid) sid frame last) session last
 
 -- so after a call
-abbrev pub last_after : Play → Call → List Kept → List Kept
+abbrev pub last_after : Play → Call → List KeptFrame → List KeptFrame
 last_after p c last = last_of (called p c) (session_in p c) (frame_made p c) last
 
 -- the node is asked a call: the step's line is the answer, and its frame is to go out
@@ -134,7 +134,7 @@ takes s found = option_map_or (λ bytes. calls s (Deliver bytes)) found (says s 
 abbrev pub sends_again : Serving → (n : ℕ) → (sid : List ℕ) → Reply
 sends_again s n sid = option_map_or (repeats s) (frame_of s.last sid) (says s (nothing_text n))
 
--- where session n stands: at its turn, waiting, or live no more
+-- where session n is: at its turn, waiting, or live no more
 abbrev pub turn_line : Serving → (n : ℕ) → (sid : List ℕ) → List ℕ
 turn_line s n sid = option_map_or (turn_text n (graph_or_none (graph_at s n))) (turn_of (node_of s.play.past) sid) (if is_live s.play sid then waits_text n else over_text n)
 

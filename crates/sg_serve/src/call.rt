@@ -3,7 +3,7 @@ ghost use Rattle.std.specs.Prelude.{◌≡◌, ◌≤◌, ◌⊎◌, List, ℕ, 
 ghost use Rattle.std.specs.List.{list_all};
 ghost use Rattle.sg_base.specs.Outside.{HasRisen};
 ghost use Rattle.sg_request.specs.declared.request.Request.TheVariants as request;
-ghost use Rattle.sg_sched.specs.Format.Forms.{is_given};
+ghost use Rattle.sg_sched.specs.Format.Forms.{is_assignment};
 ghost use Rattle.sg_serve.specs.Served.{images_if};
 ghost use Rattle.sg_serve.specs.Serving.{Serving, acts, acts_by, calls, graph_at, of_session, starts, takes};
 ghost use Rattle.sg_serve.specs.Representation.{HasReplied, HoldsJoins, Replied, RepresentsServing};
@@ -102,7 +102,7 @@ impl<'p> Server<'p> {
         values: &[Assignment<'_>],
         fresh: &mut R,
     ) -> Result<Reply, ServeFault>
-        requires given { IsTrue (list_all is_given values.now) }
+        requires given { IsTrue (list_all is_assignment values.now) }
         ensures joins { OnOk result (KeepsJoins self.old.player.node self.new.player.node) }
         ensures ledger { OnOk result (self.new.ledger ≡ self.old.ledger) }
         ensures replied { IfOk result (λ step. (s : Serving) → RepresentsServing self.old s → R.random fresh.old ≡ Some s.play.random → HasReplied self.new step (of_session s number (λ sid. acts_by s sid (graph_at s number) label.now values.now))) }

@@ -5,8 +5,8 @@ ghost use Rattle.sg_base.specs.Outside.{HasRisen};
 ghost use Rattle.sg_serve.specs.Lines.{Run};
 ghost use Rattle.sg_serve.specs.Served.{images_if};
 ghost use Rattle.sg_serve.specs.Serving.{Serving, replies};
-ghost use Rattle.sg_serve.specs.Requests.{AreGiven};
-ghost use Rattle.sg_serve.specs.Representation.{CameToAnswer, HoldsJoins, Received, Replied, RepresentsServing, found_line, some_ok};
+ghost use Rattle.sg_serve.specs.Requests.{AreAssigned};
+ghost use Rattle.sg_serve.specs.Representation.{ProgressedToAnswer, HoldsJoins, Received, Replied, RepresentsServing, found_line, some_ok};
 
 use crate::ServeFault;
 use crate::reply::Reply;
@@ -40,7 +40,7 @@ impl<'p> Server<'p> {
         ensures same { OnOk result (is_some self.new.ledger ≡ is_some self.old.ledger) }
         ensures holds { OnOk result (HoldsJoins self.new (D.may_leave disk.new)) }
         ensures answered { (r : Run) → RepresentsServing self.old r.serving → R.random fresh.old ≡ Some r.serving.play.random → L.coming link.old ≡ Some r.coming
-            → CameToAnswer (images_if (is_some self.old.ledger) (D.may_leave disk.new)) self.new (R.random fresh.new) (L.coming link.new) (L.faults link.old) (L.faults link.new) r (found_line (option_copied line.entry)) result }
+            → ProgressedToAnswer (images_if (is_some self.old.ledger) (D.may_leave disk.new)) self.new (R.random fresh.new) (L.coming link.new) (L.faults link.old) (L.faults link.new) r (found_line (option_copied line.entry)) result }
     {
         let Some(bytes) = line else {
             return some_reply(say_wrong(self.alloc, Wrong::Form));
@@ -90,7 +90,7 @@ impl<'p> Server<'p> {
         disk: &mut D,
     ) -> Result<Reply, ServeFault>
         requires holds { HoldsJoins self.old (D.may_leave disk.old) }
-        requires given { AreGiven request }
+        requires given { AreAssigned request }
         ensures disk_bound { D.bound disk.new ≡ D.bound disk.old }
         ensures falls { D.faults disk.old ≤ D.faults disk.new }
         ensures untouched { IsNone self.old.ledger → disk.new ≡ disk.old }

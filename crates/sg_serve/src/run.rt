@@ -3,7 +3,7 @@ ghost use Rattle.std.specs.Prelude.{◌≡◌, ◌≤◌, ◌≢◌, List, ℕ, 
 ghost use Rattle.std.specs.Option.{option_copied};
 ghost use Rattle.sg_base.specs.Outside.{HasRisen};
 ghost use Rattle.sg_input.specs.Lines.{Line, lines_left, lines_of};
-ghost use Rattle.sg_keep.specs.Kept.{AllRepresent};
+ghost use Rattle.sg_keep.specs.KeptRuns.{AllRepresent};
 ghost use Rattle.sg_protocol.specs.NodeStates.{new_state};
 ghost use Rattle.sg_serve.specs.Faults.{TellsFaults};
 ghost use Rattle.sg_serve.specs.Lines.{Run};
@@ -14,7 +14,7 @@ ghost use Rattle.sg_wait.specs.declared.coming.Coming.{Coming};
 use crate::ServeFault;
 use crate::server::Server;
 use sg_base::{Fresh, Sink};
-use sg_input::{Found, Input, InputFault, LineReader};
+use sg_input::{Input, InputFault, LineFound, LineReader};
 use sg_keys::Keyring;
 use sg_ledger::{Disk, Ledger};
 use sg_node::Node;
@@ -50,12 +50,12 @@ impl<'p> Server<'p> {
     {
         for _line in 0..u64::MAX {
             match reader.next(input) {
-                Ok(Some(Found::Line)) => {
+                Ok(Some(LineFound::Line)) => {
                     if !self.serve_line(Some(reader.line()), link, fresh, out, disk)? {
                         return Ok(());
                     }
                 }
-                Ok(Some(Found::TooLong)) => {
+                Ok(Some(LineFound::TooLong)) => {
                     if !self.serve_line(None, link, fresh, out, disk)? {
                         return Ok(());
                     }

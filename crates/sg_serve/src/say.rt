@@ -140,7 +140,7 @@ impl<'p> Server<'p> {
         }
     }
 
-    // Where the session of a number stands.
+    // Where the session of a number is.
     pub(crate) fn turn(&self, number: u32) -> Result<Reply, ServeFault>
         ensures replied { IfOk result (λ step. (s : Serving) → RepresentsServing self.now s → HasReplied self.now step (of_session s number (λ sid. says s (turn_line s number sid)))) }
         ensures memory { IfErr result (λ e. e ≡ ServeFault.OutOfMemory) }
@@ -151,7 +151,7 @@ impl<'p> Server<'p> {
         }
     }
 
-    // Where a session stands that has this number.
+    // Where a session is that has this number.
     fn turn_of(&self, number: u32, sid: Sid) -> Result<Reply, ServeFault>
         ensures text { IfOk result (λ r. (s : Serving) → RepresentsServing self.now s → r ≡ record { line = turn_line s number sid; frames = [] }) }
         ensures memory { IfErr result (λ e. e ≡ ServeFault.OutOfMemory) }

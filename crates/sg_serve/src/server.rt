@@ -30,7 +30,7 @@ pub(crate) struct Server<'p> {
 }
 
 impl<'p> Server<'p> {
-    ghost use Rattle.sg_keep.specs.Kept.{AllRepresent};
+    ghost use Rattle.sg_keep.specs.KeptRuns.{AllRepresent};
     ghost use Rattle.sg_play.specs.Played.{Play, beginning};
     ghost use Rattle.sg_serve.specs.Served.{images_if, joins_kept};
     ghost use Rattle.sg_serve.specs.Serving.{Serving, is_live, sids_of};

@@ -108,7 +108,7 @@ impl<'p> Server<'p> {
     ) -> Result<Vec<u8>, ServeFault>
         ensures rest { OnOk result (self.new ≡ record self.old { player = self.new.player }) }
         ensures node { OnOk result (self.new.player.node ≡ self.old.player.node) }
-        ensures told { IfOk result (λ line. (p : Play) (c : Call) (made : List (Addr × List ℕ)) → HasAsked self.old.player p c (outcome_of outcome.now) (option_copied graph.entry) made → left.now ≡ sid_left c
+        ensures reported { IfOk result (λ line. (p : Play) (c : Call) (made : List (Addr × List ℕ)) → HasAsked self.old.player p c (outcome_of outcome.now) (option_copied graph.entry) made → left.now ≡ sid_left c
             → (line.items ≡ (step_in p c).line) × RepresentsPlay self.new.player (called p c)) }
         ensures memory { IfErr result (λ e. e ≡ ServeFault.OutOfMemory) }
     {

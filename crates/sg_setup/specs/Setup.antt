@@ -6,11 +6,11 @@ use Rattle.sg_model.specs.Limits.{most_program_file, most_script_file}
 use Rattle.sg_protocol.specs.Keyring.{Keyring, Program}
 use Rattle.sg_keys.specs.KeyFile.{SpellsKeys, key_file}
 use Rattle.sg_keys.specs.declared.key_file.KeyFault.TheVariants.{OutOfMemory as NoMemoryForKeys}
-use Rattle.sg_program.specs.Compiled.{IsWhole}
-use Rattle.sg_program.specs.Loading.{IsLoadFault}
-use Rattle.sg_program.specs.Text.{program_text}
+use Rattle.sg_compile.specs.Compiled.{IsWhole}
+use Rattle.sg_compile.specs.Loading.{IsLoadFault}
+use Rattle.sg_compile.specs.Text.{program_text}
 use Rattle.sg_program.specs.Together.{clashes}
-use Rattle.sg_program.specs.declared.load.LoadFault.TheVariants as Load
+use Rattle.sg_compile.specs.declared.loader.LoadFault.TheVariants as Load
 use Rattle.sg_script.specs.Format.{SpellsScript, script_file}
 use Rattle.sg_script.specs.Script.{Script}
 use Rattle.sg_script.specs.declared.fault.ScriptFault.TheVariants.{OutOfMemory as NoMemoryForScripts}

@@ -2,16 +2,17 @@
 ghost use Rattle.std.specs.Prelude.{◌≡◌, ◌+◌, ◌≤◌, Ok, IfErr, IfOk, OnOk, length, map};
 ghost use Rattle.sg_model.specs.Limits.{most_program_file, most_script_file};
 ghost use Rattle.sg_keys.specs.KeyFile.{SpellsKeys, key_file};
-ghost use Rattle.sg_program.specs.Loading.{IsLoadFault};
+ghost use Rattle.sg_compile.specs.Loading.{IsLoadFault};
 ghost use Rattle.sg_script.specs.Format.{SpellsScript};
 ghost use Rattle.sg_ending.specs.Files.{EndsAt, Holds};
 ghost use Rattle.sg_ending.specs.Model.{ending_held};
 ghost use Rattle.sg_setup.specs.Setup.{Adds, HasPrincipal, HasSetup, HoldPrograms, IsTextOf, LacksPrincipal, LacksSetup, RefusesKeys, RefusesProgram, RefusesScript, StopsAtProgram};
 
 use sg_base::Files;
+use sg_compile::{LoadFault, load};
 use sg_ending::{BadProgram, Ending, read_file};
 use sg_keys::{KeyFault, Keyring};
-use sg_program::{AddProgramFault, LoadFault, Program, Programs};
+use sg_program::{AddProgramFault, Program, Programs};
 use sg_script::{Script, ScriptFault, read_script};
 use std::alloc::Global;
 
@@ -176,7 +177,7 @@ fn put_program(alloc: Global, bytes: &[u8], programs: &mut Programs) -> Result<(
     ensures added { OnOk result (Adds (λ p. IsTextOf p bytes.now) programs.old programs.new) }
     ensures refused { IfErr result (λ ending. RefusesProgram programs.old bytes.now (ending_held ending)) }
 {
-    match Program::load(alloc, bytes) {
+    match load(alloc, bytes) {
         Ok(program) => add(bytes, program, programs),
         Err(fault) => Err(not_loaded(bytes, fault, programs)),
     }

@@ -9,9 +9,9 @@ use Rattle.std.proofs.Math.Seq.{take-append-add}
 use Rattle.sg_base.specs.Outside.{Appends}
 use Rattle.sg_base.specs.declared.address.Addr.{Addr}
 use Rattle.sg_stream.specs.Framed.{IsFrame, message}
-use Rattle.sg_stream.specs.Traffic.{Writer, Traffic, given_to, after_connect, after_give, after_close, WhereTold}
+use Rattle.sg_stream.specs.Traffic.{Writer, Traffic, given_to, after_connect, after_give, after_close, IfHeld}
 use Rattle.sg_stream.specs.Frames.{frames_of}
-use Rattle.sg_stream.specs.Link.{Unread, to_come, gone_out, sent_of, GivenPrefix, WroteTold}
+use Rattle.sg_stream.specs.Link.{Unread, to_come, gone_out, sent_of, GavePrefix, WroteIfHeld}
 use Rattle.sg_stream.proofs.FramesOf.{frames-message, frames-none, frames-nil}
 use Rattle.sg_stream.proofs.Messages.{one_message}
 use Rattle.sg_stream.proofs.Giving.{traffic-more}
@@ -49,7 +49,7 @@ filter-none conn (n ∷ ns) none =
 
 -- no number and no piece of this connection is there
 abbrev pub Apart : ℕ → Option Traffic → Type 0
-Apart conn held = WhereTold held (λ t. (list_any (λ c. c == conn) t.open_ones ≡ false) × (list_any (λ p. p.0 == conn) t.coming ≡ false))
+Apart conn held = IfHeld held (λ t. (list_any (λ c. c == conn) t.open_ones ≡ false) × (list_any (λ p. p.0 == conn) t.coming ≡ false))
 
 -- the connection after it was made, was given bytes and was closed
 abbrev pub ended : ℕ → Addr → List ℕ → Option Traffic → Option Traffic
@@ -71,7 +71,7 @@ ended-is : (conn : ℕ) (to : Addr) (bytes : List ℕ) (held : Option Traffic) �
 ended-is conn to bytes None apart = refl
 ended-is conn to bytes (Some t) apart = ap Some (ended-told conn to bytes t (apart t refl))
 
-pub ended-wrote : (conn : ℕ) (to : Addr) (bytes : List ℕ) (held : Option Traffic) → Apart conn held → WroteTold to bytes held (ended conn to bytes held)
+pub ended-wrote : (conn : ℕ) (to : Addr) (bytes : List ℕ) (held : Option Traffic) → Apart conn held → WroteIfHeld to bytes held (ended conn to bytes held)
 ended-wrote conn to bytes held apart = λ t told.
     (after_all conn to bytes t, ended-is conn to bytes held apart ∙ ap (option_map (after_all conn to bytes)) told, record { given = (conn, refl); coming = refl; open_ones = refl })
 
@@ -104,18 +104,18 @@ ended-kept conn to frame count held apart is less =
     ap sent_of (ended-is conn to (take count (message frame)) held apart) ∙ kept-all conn to frame count held is less
 
 -- some bytes were given, whether all were or not
-pub some_bytes : {T E : Type 0} (r : Result T E) (conn : ℕ) (bytes : List ℕ) (old new : Option Traffic) → OnOk r (new ≡ option_map (after_give conn bytes) old) → OnErr r (GivenPrefix conn bytes old new)
+pub some_bytes : {T E : Type 0} (r : Result T E) (conn : ℕ) (bytes : List ℕ) (old new : Option Traffic) → OnOk r (new ≡ option_map (after_give conn bytes) old) → OnErr r (GavePrefix conn bytes old new)
     → (some : List ℕ) × (new ≡ option_map (after_give conn some) old)
 some_bytes (Ok x) conn bytes old new whole prefix = (bytes, whole)
 some_bytes (Err e) conn bytes old new whole prefix = (take prefix.0 bytes, prefix.2)
 
 -- a prefix of what comes first is one of the whole, and so is all of that with a prefix of what is behind it
-pub prefix_first : (conn : ℕ) (first more : List ℕ) (old new : Option Traffic) → GivenPrefix conn first old new → GivenPrefix conn (first ++ more) old new
+pub prefix_first : (conn : ℕ) (first more : List ℕ) (old new : Option Traffic) → GavePrefix conn first old new → GavePrefix conn (first ++ more) old new
 prefix_first conn first more old new (count, less, is) =
     let part : take count (first ++ more) ≡ take count first = take-append-le count first more (omega (arith, less)) in
     (count, omega (arith, less, length-append first more), is ∙ ap (λ b. option_map (after_give conn b) old) (sym part))
 
-pub prefix_more : (conn : ℕ) (first more : List ℕ) (old between new : Option Traffic) → between ≡ option_map (after_give conn first) old → GivenPrefix conn more between new → GivenPrefix conn (first ++ more) old new
+pub prefix_more : (conn : ℕ) (first more : List ℕ) (old between new : Option Traffic) → between ≡ option_map (after_give conn first) old → GavePrefix conn more between new → GavePrefix conn (first ++ more) old new
 prefix_more conn first more old between new begun (count, less, is) =
     let part : take (length first + count) (first ++ more) ≡ first ++ take count more = take-append-add first more count in
     (length first + count, omega (arith, less, length-append first more), is ∙ (ap (option_map (after_give conn (take count more))) begun ∙ (traffic-more conn first (take count more) old ∙ ap (λ b. option_map (after_give conn b) old) (sym part))))

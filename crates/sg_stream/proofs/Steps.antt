@@ -5,7 +5,7 @@ use Rattle.std.specs.Option.{IfNone}
 use Rattle.std.proofs.lemmas.Bool.Decides.{eqb_tells}
 use Rattle.std.proofs.lemmas.List.{append_assoc, get_or-set_same, get_or-set_other, set-get_or}
 use Rattle.sg_stream.specs.Framed.{IsFrame, message, BeginsMessage, BeginsBad}
-use Rattle.sg_stream.specs.Traffic.{Traffic, without, WhereTold}
+use Rattle.sg_stream.specs.Traffic.{Traffic, without, IfHeld}
 use Rattle.sg_stream.specs.Frames.{frames_of, rest_of}
 use Rattle.sg_stream.specs.Arrivals.{arrivals}
 use Rattle.sg_stream.specs.Link.{Unread, IsPart, IsIdle, kept_piece, numbered, pieces_of, to_come}
@@ -145,7 +145,7 @@ pub none_given : {A : Type 0} (found : Option A) (old new : Unread) → IfNone f
 none_given None old new idle same = none_ready old new idle (same [])
 none_given (Some f) old new idle same = tt
 
-pub none_to_come : (u : Unread) (held : Option Traffic) → IsIdle u → WhereTold held (λ t. t.coming ≡ []) → (all : List (List ℕ)) → to_come u held ≡ Some all → all ≡ []
+pub none_to_come : (u : Unread) (held : Option Traffic) → IsIdle u → IfHeld held (λ t. t.coming ≡ []) → (all : List (List ℕ)) → to_come u held ≡ Some all → all ≡ []
 none_to_come u None idle done all told = absurd (cc)
 none_to_come u (Some t) idle done all told =
     let is : arrivals (pieces_of u ++ t.coming) ≡ all = cc in

@@ -4,7 +4,7 @@ use Rattle.std.specs.Option.{option_map}
 use Rattle.std.specs.List.{flat_map}
 use Rattle.sg_base.specs.declared.address.Addr.{Addr}
 use Rattle.sg_stream.specs.Framed.{BeginsMessage, BeginsBad}
-use Rattle.sg_stream.specs.Traffic.{Writer, Traffic, after_give, WhereTold}
+use Rattle.sg_stream.specs.Traffic.{Writer, Traffic, after_give, IfHeld}
 use Rattle.sg_stream.specs.Frames.{frames_of}
 use Rattle.sg_stream.specs.Arrivals.{arrivals}
 
@@ -60,8 +60,8 @@ abbrev pub TakenOff : ℕ → Option Traffic → Option Traffic → Type 0
 TakenOff count old new = (t : Traffic) → old ≡ Some t → (after : Traffic) × (new ≡ Some after) × (count + length after.coming ≤ length t.coming)
 
 -- a prefix of the bytes, and not all of them, was given to a connection
-abbrev pub GivenPrefix : ℕ → List ℕ → Option Traffic → Option Traffic → Type 0
-GivenPrefix conn bytes old new = (count : ℕ) × (count < length bytes) × (new ≡ option_map (after_give conn (take count bytes)) old)
+abbrev pub GavePrefix : ℕ → List ℕ → Option Traffic → Option Traffic → Type 0
+GavePrefix conn bytes old new = (count : ℕ) × (count < length bytes) × (new ≡ option_map (after_give conn (take count bytes)) old)
 
 -- one more connection was made for writing, was given these bytes, and was closed
 pub record Wrote (to : Addr) (bytes : List ℕ) (old new : Traffic) : Type 0 where
@@ -70,9 +70,9 @@ pub record Wrote (to : Addr) (bytes : List ℕ) (old new : Traffic) : Type 0 whe
   pub open_ones : new.open_ones ≡ old.open_ones
 
 -- the same, if the traffic is known
-abbrev pub WroteTold : Addr → List ℕ → Option Traffic → Option Traffic → Type 0
-WroteTold to bytes old new = WhereTold old (λ t. (after : Traffic) × (new ≡ Some after) × Wrote to bytes t after)
+abbrev pub WroteIfHeld : Addr → List ℕ → Option Traffic → Option Traffic → Type 0
+WroteIfHeld to bytes old new = IfHeld old (λ t. (after : Traffic) × (new ≡ Some after) × Wrote to bytes t after)
 
 -- a prefix of the bytes, and not all of them, was written so, or no connection was made
 abbrev pub WrotePrefix : Addr → List ℕ → Option Traffic → Option Traffic → Type 0
-WrotePrefix to bytes old new = (new ≡ old) ⊎ ((count : ℕ) × (count < length bytes) × WroteTold to (take count bytes) old new)
+WrotePrefix to bytes old new = (new ≡ old) ⊎ ((count : ℕ) × (count < length bytes) × WroteIfHeld to (take count bytes) old new)

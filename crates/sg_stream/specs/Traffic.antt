@@ -42,5 +42,5 @@ abbrev pub after_close : ℕ → Traffic → Traffic
 after_close conn t = record t { coming = without conn t.coming; open_ones = filter (λ c. not (c == conn)) t.open_ones }
 
 -- if the traffic is known, it has this
-abbrev pub WhereTold : Option Traffic → (Traffic → Type 0) → Type 0
-WhereTold held P = (t : Traffic) → held ≡ Some t → P t
+abbrev pub IfHeld : Option Traffic → (Traffic → Type 0) → Type 0
+IfHeld held P = (t : Traffic) → held ≡ Some t → P t

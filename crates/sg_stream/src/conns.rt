@@ -8,7 +8,7 @@ ghost use Rattle.std.specs.Option.{option_map};
 ghost use Rattle.std.specs.List.{list_any};
 ghost use Rattle.sg_base.specs.Outside.{HasRisen};
 ghost use Rattle.sg_base.specs.declared.address.Addr.{Addr};
-ghost use Rattle.sg_stream.specs.Traffic.{Traffic, after_take, after_connect, after_give, after_close, WhereTold};
+ghost use Rattle.sg_stream.specs.Traffic.{Traffic, after_take, after_connect, after_give, after_close, IfHeld};
 
 use sg_base::{Addr, Failed, LinkFault};
 use std::alloc::Global;
@@ -38,9 +38,9 @@ pub trait Conns {
         ensures never_falls { faults self.old ≤ faults self.new }
         ensures failed { result ≡ Err LinkFault.Failed → HasRisen (faults self.old) (faults self.new) }
         ensures kept_bound { bound self.new ≡ bound self.old }
-        ensures first { IfOk result (λ found. IfSome found (λ p. WhereTold (held self.old) (λ t. t.coming ≡ (p.0, p.1.items) ∷ drop 1 t.coming))) }
+        ensures first { IfOk result (λ found. IfSome found (λ p. IfHeld (held self.old) (λ t. t.coming ≡ (p.0, p.1.items) ∷ drop 1 t.coming))) }
         ensures taken { IfOk result (λ found. IfSome found (λ p. held self.new ≡ option_map after_take (held self.old))) }
-        ensures at_end { IfOk result (λ found. IfNone found (WhereTold (held self.old) (λ t. t.coming ≡ []))) }
+        ensures at_end { IfOk result (λ found. IfNone found (IfHeld (held self.old) (λ t. t.coming ≡ []))) }
         ensures kept_at_end { IfOk result (λ found. IfNone found (held self.new ≡ held self.old)) }
         ensures kept { OnErr result (held self.new ≡ held self.old) };
 
@@ -55,7 +55,7 @@ pub trait Conns {
         ensures never_falls { faults self.old ≤ faults self.new }
         ensures failed { OnErr result (HasRisen (faults self.old) (faults self.new)) }
         ensures kept_bound { bound self.new ≡ bound self.old }
-        ensures apart { IfOk result (λ conn. WhereTold (held self.old) (λ t. (list_any (λ c. c == conn) t.open_ones ≡ false) × (list_any (λ p. p.0 == conn) t.coming ≡ false))) }
+        ensures apart { IfOk result (λ conn. IfHeld (held self.old) (λ t. (list_any (λ c. c == conn) t.open_ones ≡ false) × (list_any (λ p. p.0 == conn) t.coming ≡ false))) }
         ensures made { IfOk result (λ conn. held self.new ≡ option_map (after_connect conn to) (held self.old)) }
         ensures kept { OnErr result (held self.new ≡ held self.old) };
 
@@ -66,7 +66,7 @@ pub trait Conns {
         ensures never_falls { faults self.old ≤ faults self.new }
         ensures failed { OnErr result (HasRisen (faults self.old) (faults self.new)) }
         ensures kept_bound { bound self.new ≡ bound self.old }
-        ensures is_open { IfOk result (λ _. WhereTold (held self.old) (λ t. list_any (λ c. c == conn) t.open_ones ≡ true)) }
+        ensures is_open { IfOk result (λ _. IfHeld (held self.old) (λ t. list_any (λ c. c == conn) t.open_ones ≡ true)) }
         ensures some { IfOk result (λ count. 0 < count) }
         ensures fits { IfOk result (λ count. count ≤ length piece.now) }
         ensures given { IfOk result (λ count. held self.new ≡ option_map (after_give conn (take count piece.now)) (held self.old)) }

@@ -4,8 +4,8 @@ ghost use Rattle.sg_stream.specs.Arrivals.{arrivals};
 ghost use Rattle.sg_base.specs.Memory.{one_more};
 ghost use Rattle.sg_base.specs.Outside.{HasRisen, Appends, TakesFirst};
 ghost use Rattle.sg_stream.specs.Framed.{IsFrame, message};
-ghost use Rattle.sg_stream.specs.Link.{Unread, IsIdle, pieces_of, to_come, sent_of, TakenOff, WroteTold, WrotePrefix};
-ghost use Rattle.sg_stream.specs.Traffic.{WhereTold};
+ghost use Rattle.sg_stream.specs.Link.{Unread, IsIdle, pieces_of, to_come, sent_of, TakenOff, WroteIfHeld, WrotePrefix};
+ghost use Rattle.sg_stream.specs.Traffic.{IfHeld};
 
 use crate::Conns;
 use crate::incoming::{Incoming, Unwhole};
@@ -105,7 +105,7 @@ impl<C: Conns> Link for StreamLink<C> {
         ensures failed { result ≡ Err LinkFault.Failed → HasRisen (C.faults self.old.conns) (C.faults self.new.conns) ⊎ ((self.new.faults ≡ one_more self.old.faults) × TakenOff 1000000 (C.held self.old.conns) (C.held self.new.conns) × IsIdle self.new.unread) }
         ensures frame { IfOk result (λ found. IfSome found (λ f. IsFrame f.items)) }
         ensures first { IfOk result (λ found. IfSome found (λ f. TakesFirst (to_come self.old.unread (C.held self.old.conns)) (to_come self.new.unread (C.held self.new.conns)) f.items)) }
-        ensures at_end { IfOk result (λ found. IfNone found (WhereTold (C.held self.new.conns) (λ t. t.coming ≡ []))) }
+        ensures at_end { IfOk result (λ found. IfNone found (IfHeld (C.held self.new.conns) (λ t. t.coming ≡ []))) }
         ensures idle_at_end { IfOk result (λ found. IfNone found (IsIdle self.new.unread)) }
         ensures none { IfOk result (λ found. IfNone found ((all : List (List ℕ)) → to_come self.old.unread (C.held self.old.conns) ≡ Some all → all ≡ [])) }
         ensures kept_at_end { IfOk result (λ found. IfNone found (to_come self.new.unread (C.held self.new.conns) ≡ to_come self.old.unread (C.held self.old.conns))) }
@@ -130,7 +130,7 @@ impl<C: Conns> Link for StreamLink<C> {
         ensures never_falls { C.faults self.old.conns ≤ C.faults self.new.conns }
         ensures failed { OnErr result (HasRisen (C.faults self.old.conns) (C.faults self.new.conns)) }
         ensures kept_bound { C.bound self.new.conns ≡ C.bound self.old.conns }
-        ensures wrote { OnOk result (WroteTold to (message frame.1) (C.held self.old.conns) (C.held self.new.conns)) }
+        ensures wrote { OnOk result (WroteIfHeld to (message frame.1) (C.held self.old.conns) (C.held self.new.conns)) }
         ensures prefix { OnErr result (WrotePrefix to (message frame.1) (C.held self.old.conns) (C.held self.new.conns)) }
         ensures posted { OnOk result (Appends (sent_of (C.held self.old.conns)) (sent_of (C.held self.new.conns)) ((to, frame.1) ∷ [])) }
         ensures back { IfErr result (λ e. e.0 ≡ frame) }
@@ -161,7 +161,7 @@ fn next_frame<C: Conns>(
     ensures too_many { result ≡ Err NoFrame.TooManyPieces → TakenOff 1000000 (C.held conns.old) (C.held conns.new) × IsIdle incoming.new }
     ensures frame { IfOk result (λ found. IfSome found (λ f. IsFrame f.items)) }
     ensures first { IfOk result (λ found. IfSome found (λ f. TakesFirst (to_come incoming.old (C.held conns.old)) (to_come incoming.new (C.held conns.new)) f.items)) }
-    ensures at_end { IfOk result (λ found. IfNone found (WhereTold (C.held conns.new) (λ t. t.coming ≡ []))) }
+    ensures at_end { IfOk result (λ found. IfNone found (IfHeld (C.held conns.new) (λ t. t.coming ≡ []))) }
     ensures idle_at_end { IfOk result (λ found. IfNone found (IsIdle incoming.new)) }
     ensures kept_at_end { IfOk result (λ found. IfNone found (to_come incoming.new (C.held conns.new) ≡ to_come incoming.old (C.held conns.old))) }
     ensures kept { OnErr result (to_come incoming.new (C.held conns.new) ≡ to_come incoming.old (C.held conns.old)) }
@@ -228,7 +228,7 @@ fn take_piece<C: Conns>(
     ensures idle { IfOk result (λ taken. IfSome taken (λ found. IfNone found (IsIdle incoming.new))) }
     ensures pieces { IfOk result (λ taken. IfSome taken (λ found. IfNone found (TakenOff 1 (C.held conns.old) (C.held conns.new)))) }
     ensures same { IfOk result (λ taken. IfSome taken (λ found. IfNone found (to_come incoming.new (C.held conns.new) ≡ to_come incoming.old (C.held conns.old)))) }
-    ensures at_end { IfOk result (λ taken. IfNone taken (WhereTold (C.held conns.new) (λ t. t.coming ≡ []))) }
+    ensures at_end { IfOk result (λ taken. IfNone taken (IfHeld (C.held conns.new) (λ t. t.coming ≡ []))) }
     ensures kept_at_end { IfOk result (λ taken. IfNone taken ((incoming.new ≡ incoming.old) × (C.held conns.new ≡ C.held conns.old))) }
     ensures kept { OnErr result (to_come incoming.new (C.held conns.new) ≡ to_come incoming.old (C.held conns.old)) }
     ensures kept_sent { sent_of (C.held conns.new) ≡ sent_of (C.held conns.old) }

@@ -3,7 +3,7 @@ ghost use Rattle.std.specs.Prelude.{◌≡◌, ◌<◌, ◌≤◌, ℕ, [], ◌�
 ghost use Rattle.std.specs.Option.{option_map};
 ghost use Rattle.sg_base.specs.Outside.{HasRisen, Appends};
 ghost use Rattle.sg_stream.specs.Framed.{IsFrame, message};
-ghost use Rattle.sg_stream.specs.Link.{Unread, to_come, sent_of, GivenPrefix, WroteTold, WrotePrefix};
+ghost use Rattle.sg_stream.specs.Link.{Unread, to_come, sent_of, GavePrefix, WroteIfHeld, WrotePrefix};
 ghost use Rattle.sg_stream.specs.Traffic.{after_give};
 
 use crate::Conns;
@@ -16,7 +16,7 @@ pub(crate) fn post<C: Conns>(conns: &mut C, to: Addr, frame: &[u8]) -> Result<()
     ensures failed { OnErr result (HasRisen (C.faults conns.old) (C.faults conns.new)) }
     ensures kept_bound { C.bound conns.new ≡ C.bound conns.old }
     ensures kept { (u : Unread) → to_come u (C.held conns.new) ≡ to_come u (C.held conns.old) }
-    ensures wrote { OnOk result (WroteTold to (message frame.now) (C.held conns.old) (C.held conns.new)) }
+    ensures wrote { OnOk result (WroteIfHeld to (message frame.now) (C.held conns.old) (C.held conns.new)) }
     ensures prefix { OnErr result (WrotePrefix to (message frame.now) (C.held conns.old) (C.held conns.new)) }
     ensures posted { OnOk result (Appends (sent_of (C.held conns.old)) (sent_of (C.held conns.new)) ((to, frame.now) ∷ [])) }
     ensures kept_sent { OnErr result (sent_of (C.held conns.new) ≡ sent_of (C.held conns.old)) }
@@ -34,7 +34,7 @@ fn give_message<C: Conns>(conns: &mut C, conn: u8, frame: &[u8]) -> Result<(), F
     ensures failed { OnErr result (HasRisen (C.faults conns.old) (C.faults conns.new)) }
     ensures kept_bound { C.bound conns.new ≡ C.bound conns.old }
     ensures whole { OnOk result (C.held conns.new ≡ option_map (after_give conn (message frame.now)) (C.held conns.old)) }
-    ensures prefix { OnErr result (GivenPrefix conn (message frame.now) (C.held conns.old) (C.held conns.new)) }
+    ensures prefix { OnErr result (GavePrefix conn (message frame.now) (C.held conns.old) (C.held conns.new)) }
 {
     let len = (frame.len() as u32).to_be_bytes();
     match give_all(conns, conn, &len) {
@@ -49,7 +49,7 @@ fn give_all<C: Conns>(conns: &mut C, conn: u8, bytes: &[u8]) -> Result<(), Faile
     ensures failed { OnErr result (HasRisen (C.faults conns.old) (C.faults conns.new)) }
     ensures kept_bound { C.bound conns.new ≡ C.bound conns.old }
     ensures whole { OnOk result (C.held conns.new ≡ option_map (after_give conn bytes.now) (C.held conns.old)) }
-    ensures prefix { OnErr result (GivenPrefix conn bytes.now (C.held conns.old) (C.held conns.new)) }
+    ensures prefix { OnErr result (GavePrefix conn bytes.now (C.held conns.old) (C.held conns.new)) }
 {
     let mut at = 0usize;
     while at < bytes.len() {

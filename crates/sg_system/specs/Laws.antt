@@ -19,5 +19,5 @@ pub at_most_three : (d : DescriptorsHeld) (all : List ℕ) → Some (all_free d)
 at_most_three d all is = subst (λ xs. length xs ≤ 3) (ap (λ o. unwrap_or o all) is) (few d.input d.output d.error)
 
 -- what is not known is no list
-pub never_told : (all : List ℕ) → None ≡ Some all → length all ≤ 3
-never_told all is = absurd (true≢false (ap is_some (sym is)))
+pub never_seen : (all : List ℕ) → None ≡ Some all → length all ≤ 3
+never_seen all is = absurd (true≢false (ap is_some (sym is)))

@@ -63,13 +63,13 @@ fn take_lowest<R: rt::Files<File = File>>(rt: &R) -> bool {
 impl<R: rt::Files<File = File> + Drop, I: AsFd + Drop, O: AsFd + Drop, E: AsFd + Drop> Descriptors
     for StdDescriptors<R, I, O, E> {
     ghost use Rattle.std.specs.Prelude.{None};
-    ghost use Rattle.sg_system.specs.Laws.{never_told};
+    ghost use Rattle.sg_system.specs.Laws.{never_seen};
 
     ghost faults = { λ d. d.faults };
 
     ghost free = { λ _. None };
 
-    ghost three = { λ _ all is. never_told all is };
+    ghost three = { λ _ all is. never_seen all is };
 
     fn are_open(&self) -> bool {
         is_open(&self.input) && is_open(&self.output) && is_open(&self.error)

@@ -3,10 +3,11 @@ ghost use Rattle.std.specs.Prelude.{◌≤◌, ◌∷◌, [], length, IfSome};
 ghost use Rattle.sg_protocol.specs.IsSchedule.{AreCompiled};
 ghost use Rattle.sg_protocol.specs.Texts.{real};
 
+use sg_compile::compile_all;
 use sg_drive::generate;
 use sg_graph::Graph;
 use sg_parse::parse_graph;
-use sg_program::{Programs, compile_all};
+use sg_program::Programs;
 use sg_table::{Calls, bytes, hold, number, text};
 use std::alloc::Global;
 use std::slice;

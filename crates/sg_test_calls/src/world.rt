@@ -5,7 +5,8 @@ ghost use Rattle.sg_protocol.specs.Texts.{real};
 ghost use Rattle.sg_sched_text.specs.Meant.{IsMeant};
 
 use sg_base::{ByteOut, OutOfMemory, Sid};
-use sg_program::{Programs, compile_all};
+use sg_compile::compile_all;
+use sg_program::Programs;
 use sg_sched::Schedule;
 use sg_sched_text::read_schedule;
 use sg_table::{Calls, fixed, hold};

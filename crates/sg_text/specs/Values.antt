@@ -6,7 +6,7 @@ use Rattle.sg_model.specs.Last.{Map}
 use Rattle.sg_model.specs.Values.{Value, IntValue, TextValue}
 use Rattle.sg_protocol.specs.Graph.{Graph, variable_name}
 
--- the byte stands for itself between quotes
+-- the byte is written as it is between quotes
 abbrev pub is_plain : ℕ → Bool
 is_plain b = nat_le 0x21 b && nat_le b 0x7E && not (b == 34) && not (b == 92)
 

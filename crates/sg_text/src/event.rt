@@ -1,5 +1,5 @@
 //! Events.
-ghost use Rattle.std.specs.Prelude.{◌≡◌, ◌<◌, ◌++◌, OnOk, codes, length};
+ghost use Rattle.std.specs.Prelude.{◌≡◌, ◌<◌, ◌++◌, OnErr, OnOk, codes, length, take};
 ghost use Rattle.std.specs.Fmt.{decimal};
 ghost use Rattle.sg_protocol.specs.Told.{HasEvent};
 ghost use Rattle.sg_walk.specs.Model.{event_of};
@@ -7,10 +7,10 @@ ghost use Rattle.sg_text.specs.Events.{event_text, event_values, moved_text, sen
 
 use crate::value::put_values;
 use sg_base::{ByteOut, Label, Name, OutOfMemory, Time};
-use sg_graph::{Graph, put_label, put_role};
+use sg_graph::Graph;
 use sg_walk::Event;
 
-/// Writes an event without its values, in a session of this name.
+/// Appends an event without its values, in a session of this name. If memory runs out, what was there still stands first.
 pub fn put_event(
     out: &mut ByteOut,
     session: &[u8],
@@ -18,13 +18,14 @@ pub fn put_event(
     event: &Event,
 ) -> Result<(), OutOfMemory>
     requires { HasEvent graph.now (event_of event.now) }
-    ensures { OnOk result (out.new ≡ out.old ++ event_text session.now graph.now (event_of event.now)) }
+    ensures ok { OnOk result (out.new ≡ out.old ++ event_text session.now graph.now (event_of event.now)) }
+    ensures prefix { OnErr result (take (length out.old) out.new ≡ out.old) }
 {
     match event {
         Event::Started { role, .. } => {
             out.bytes(session)?;
             out.bytes(b" started as ")?;
-            put_role(out, graph, *role)
+            out.bytes(graph.role_name(*role).as_bytes())
         }
         Event::Sent { label, time, .. } => {
             put_moved(out, session, b" sent ", graph, *label, *time)
@@ -45,18 +46,20 @@ fn put_moved(
     time: Time,
 ) -> Result<(), OutOfMemory>
     requires { label < length graph.now.edges }
-    ensures { OnOk result (out.new ≡ out.old ++ moved_text session.now word.now graph.now label time) }
+    ensures ok { OnOk result (out.new ≡ out.old ++ moved_text session.now word.now graph.now label time) }
+    ensures prefix { OnErr result (take (length out.old) out.new ≡ out.old) }
 {
     out.bytes(session)?;
     out.bytes(word)?;
-    put_label(out, graph, label)?;
+    out.bytes(graph.edge_name(label).as_bytes())?;
     out.bytes(b" time ")?;
     out.decimal(time.0 as u64)
 }
 
-/// Writes to whom a frame goes, and the frame's number.
+/// Appends to whom a frame goes, and the frame's number. If memory runs out, what was there still stands first.
 pub fn put_sent_to(out: &mut ByteOut, to: &Name, frame: u32) -> Result<(), OutOfMemory>
-    ensures { OnOk result (out.new ≡ out.old ++ sent_to to.now frame) }
+    ensures ok { OnOk result (out.new ≡ out.old ++ sent_to to.now frame) }
+    ensures prefix { OnErr result (take (length out.old) out.new ≡ out.old) }
 {
     out.bytes(b" to ")?;
     out.bytes(to.as_bytes())?;
@@ -64,10 +67,11 @@ pub fn put_sent_to(out: &mut ByteOut, to: &Name, frame: u32) -> Result<(), OutOf
     out.decimal(frame as u64)
 }
 
-/// Writes the values of an event.
+/// Appends the values of an event. If memory runs out, what was there still stands first.
 pub fn put_event_values(out: &mut ByteOut, graph: &Graph, event: &Event) -> Result<(), OutOfMemory>
     requires { HasEvent graph.now (event_of event.now) }
-    ensures { OnOk result (out.new ≡ out.old ++ event_values graph.now (event_of event.now)) }
+    ensures ok { OnOk result (out.new ≡ out.old ++ event_values graph.now (event_of event.now)) }
+    ensures prefix { OnErr result (take (length out.old) out.new ≡ out.old) }
 {
     match event {
         Event::Started { .. } => Ok(()),

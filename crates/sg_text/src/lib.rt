@@ -4,6 +4,7 @@
 //! digits, and so are the space, the quote and the backslash. Roles, labels and variables are numbers and have their names by a graph,
 //! which has to have them. A walk is written step by step, with `*` before what a role that isn't honest did and `?` for a value that
 //! nobody honest wrote or received. Everything is appended to what is there, and copied nowhere.
+//! If memory runs out, what was there stands as before, and a part of the new text may stand after it.
 //!
 //! `SessionNames` keeps what sessions are called: the first declared name of each identifier, and for the others a letter and a number
 //! in the order of their first events. It grows as sessions are declared and then met, and finds each name by a hash table.

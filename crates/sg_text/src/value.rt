@@ -1,5 +1,5 @@
 //! Values of variables.
-ghost use Rattle.std.specs.Prelude.{◌≡◌, ◌<◌, ◌++◌, ◌∷◌, [], false, All, OnOk, flat_map, length, option_map};
+ghost use Rattle.std.specs.Prelude.{◌≡◌, ◌<◌, ◌++◌, ◌∷◌, [], All, OnErr, OnOk, false, flat_map, length, option_map, take};
 ghost use Rattle.std.specs.Fmt.{digit_glyph, signed_decimal};
 ghost use Rattle.std.specs.Option.{option_copied};
 ghost use Rattle.sg_base.specs.Model.{value_of};
@@ -8,11 +8,12 @@ ghost use Rattle.sg_walk.specs.Model.{values_of};
 
 use itoa::Buffer;
 use sg_base::{ByteOut, Chars, OutOfMemory, Value, Var};
-use sg_graph::{Graph, put_var};
+use sg_graph::Graph;
 
-/// Writes a value: a number in digits, a text between quotes.
+/// Appends a value: a number in digits, a text between quotes. If memory runs out, what was there still stands first.
 pub fn put_value(out: &mut ByteOut, value: &Value) -> Result<(), OutOfMemory>
-    ensures { OnOk result (out.new ≡ out.old ++ value_text (value_of value.now)) }
+    ensures ok { OnOk result (out.new ≡ out.old ++ value_text (value_of value.now)) }
+    ensures prefix { OnErr result (take (length out.old) out.new ≡ out.old) }
 {
     match value {
         Value::Int(number) => put_int(out, *number),
@@ -21,14 +22,16 @@ pub fn put_value(out: &mut ByteOut, value: &Value) -> Result<(), OutOfMemory>
 }
 
 fn put_int(out: &mut ByteOut, number: i64) -> Result<(), OutOfMemory>
-    ensures { OnOk result (out.new ≡ out.old ++ signed_decimal number) }
+    ensures ok { OnOk result (out.new ≡ out.old ++ signed_decimal number) }
+    ensures prefix { OnErr result (take (length out.old) out.new ≡ out.old) }
 {
     let mut digits = Buffer::new();
     out.bytes(digits.format(number).as_bytes())
 }
 
 fn put_text(out: &mut ByteOut, text: &Chars) -> Result<(), OutOfMemory>
-    ensures { OnOk result (out.new ≡ out.old ++ (34 ∷ flat_map quoted_byte text.now ++ 34 ∷ [])) }
+    ensures ok { OnOk result (out.new ≡ out.old ++ (34 ∷ flat_map quoted_byte text.now ++ 34 ∷ [])) }
+    ensures prefix { OnErr result (take (length out.old) out.new ≡ out.old) }
 {
     out.u8(b'"')?;
     put_quoted(out, text.as_bytes())?;
@@ -36,7 +39,8 @@ fn put_text(out: &mut ByteOut, text: &Chars) -> Result<(), OutOfMemory>
 }
 
 fn put_quoted(out: &mut ByteOut, bytes: &[u8]) -> Result<(), OutOfMemory>
-    ensures { OnOk result (out.new ≡ out.old ++ flat_map quoted_byte bytes.now) }
+    ensures ok { OnOk result (out.new ≡ out.old ++ flat_map quoted_byte bytes.now) }
+    ensures prefix { OnErr result (take (length out.old) out.new ≡ out.old) }
 {
     for byte in bytes {
         put_byte(out, *byte)?;
@@ -46,7 +50,8 @@ fn put_quoted(out: &mut ByteOut, bytes: &[u8]) -> Result<(), OutOfMemory>
 
 // Writes a byte that stands between quotes.
 fn put_byte(out: &mut ByteOut, byte: u8) -> Result<(), OutOfMemory>
-    ensures { OnOk result (out.new ≡ out.old ++ quoted_byte byte) }
+    ensures ok { OnOk result (out.new ≡ out.old ++ quoted_byte byte) }
+    ensures prefix { OnErr result (take (length out.old) out.new ≡ out.old) }
 {
     if is_plain(byte) {
         out.u8(byte)
@@ -61,9 +66,10 @@ fn is_plain(byte: u8) -> bool
     byte >= 0x21 && byte <= 0x7E && byte != b'"' && byte != b'\\'
 }
 
-/// Writes a byte as `\x` and its two hexadecimal digits, in small letters.
+/// Appends a byte as `\x` and its two hexadecimal digits, in small letters. If memory runs out, what was there still stands first.
 pub fn put_escaped(out: &mut ByteOut, byte: u8) -> Result<(), OutOfMemory>
-    ensures { OnOk result (out.new ≡ out.old ++ escaped_byte byte) }
+    ensures ok { OnOk result (out.new ≡ out.old ++ escaped_byte byte) }
+    ensures prefix { OnErr result (take (length out.old) out.new ≡ out.old) }
 {
     out.bytes(&[b'\\', b'x', hex_digit(byte / 16), hex_digit(byte % 16)])
 }
@@ -79,14 +85,15 @@ fn hex_digit(digit: u8) -> u8
     }
 }
 
-/// Writes a space and a value, for each.
+/// Appends a space and a value, for each. If memory runs out, what was there still stands first.
 pub fn put_values(
     out: &mut ByteOut,
     graph: &Graph,
     values: &[(Var, Value)],
 ) -> Result<(), OutOfMemory>
     requires { All (λ w. w.0 < length graph.now.variables) values.now }
-    ensures { OnOk result (out.new ≡ out.old ++ values_text graph.now (values_of values.now)) }
+    ensures ok { OnOk result (out.new ≡ out.old ++ values_text graph.now (values_of values.now)) }
+    ensures prefix { OnErr result (take (length out.old) out.new ≡ out.old) }
 {
     for at in 0..values.len() {
         let value = &values[at];
@@ -96,7 +103,7 @@ pub fn put_values(
     Ok(())
 }
 
-/// Writes a variable and its value, or `?` if it is hidden.
+/// Appends a variable and its value, or `?` if it is hidden. If memory runs out, what was there still stands first.
 pub fn put_assigned(
     out: &mut ByteOut,
     graph: &Graph,
@@ -104,9 +111,10 @@ pub fn put_assigned(
     value: Option<&Value>,
 ) -> Result<(), OutOfMemory>
     requires { var < length graph.now.variables }
-    ensures { OnOk result (out.new ≡ out.old ++ assigned graph.now var (value_or_hidden (option_map value_of (option_copied value.entry)))) }
+    ensures ok { OnOk result (out.new ≡ out.old ++ assigned graph.now var (value_or_hidden (option_map value_of (option_copied value.entry)))) }
+    ensures prefix { OnErr result (take (length out.old) out.new ≡ out.old) }
 {
-    put_var(out, graph, var)?;
+    out.bytes(graph.var_name(var).as_bytes())?;
     out.u8(b'=')?;
     match value {
         Some(value) => put_value(out, value),

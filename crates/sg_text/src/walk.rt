@@ -1,5 +1,5 @@
 //! Stored walks.
-ghost use Rattle.std.specs.Prelude.{◌≡◌, ◌<◌, ◌++◌, ◌∷◌, [], All, OnOk, codes, flat_map, if◌then◌else◌, length, map, option_map};
+ghost use Rattle.std.specs.Prelude.{◌≡◌, ◌<◌, ◌++◌, ◌∷◌, [], All, OnErr, OnOk, codes, flat_map, if◌then◌else◌, length, map, option_map, take};
 ghost use Rattle.sg_base.specs.Model.{value_of};
 ghost use Rattle.sg_model.specs.Lists.{is_in};
 ghost use Rattle.sg_walk.specs.Model.{step_of, steps_of, writes_of};
@@ -7,10 +7,11 @@ ghost use Rattle.sg_text.specs.Walks.{HasSteps, step_text, walk_line, write_text
 
 use crate::value::put_assigned;
 use sg_base::{ByteOut, OutOfMemory, RoleSet, Value, Var};
-use sg_graph::{Graph, put_label};
+use sg_graph::Graph;
 use sg_walk::{StoredStep, StoredWalk};
 
-/// Writes the line of a walk in a session of this name, with `*` before each step of a role that isn't honest.
+/// Appends the line of a walk in a session of this name, with `*` before each step of a role that isn't honest. If memory runs out,
+/// what was there still stands first.
 pub fn put_walk(
     out: &mut ByteOut,
     session: &[u8],
@@ -19,7 +20,8 @@ pub fn put_walk(
     walk: &StoredWalk,
 ) -> Result<(), OutOfMemory>
     requires { HasSteps graph.now (steps_of walk.now) }
-    ensures { OnOk result (out.new ≡ out.old ++ walk_line session.now graph.now (λ r. is_in r honest) (steps_of walk.now)) }
+    ensures ok { OnOk result (out.new ≡ out.old ++ walk_line session.now graph.now (λ r. is_in r honest) (steps_of walk.now)) }
+    ensures prefix { OnErr result (take (length out.old) out.new ≡ out.old) }
 {
     out.bytes(b"walk ")?;
     out.bytes(session)?;
@@ -36,7 +38,8 @@ fn put_steps(
     steps: &[StoredStep],
 ) -> Result<(), OutOfMemory>
     requires { All (λ s. (s.label < length graph.now.edges) × All (λ w. w.0 < length graph.now.variables) s.writes) steps.now }
-    ensures { OnOk result (out.new ≡ out.old ++ flat_map (step_text graph.now (λ r. is_in r honest)) (map step_of steps.now)) }
+    ensures ok { OnOk result (out.new ≡ out.old ++ flat_map (step_text graph.now (λ r. is_in r honest)) (map step_of steps.now)) }
+    ensures prefix { OnErr result (take (length out.old) out.new ≡ out.old) }
 {
     'steps: for step in steps {
         put_step(out, graph, honest, step)?;
@@ -51,10 +54,11 @@ fn put_step(
     step: &StoredStep,
 ) -> Result<(), OutOfMemory>
     requires { (step.now.label < length graph.now.edges) × All (λ w. w.0 < length graph.now.variables) step.now.writes }
-    ensures { OnOk result (out.new ≡ out.old ++ step_text graph.now (λ r. is_in r honest) (step_of step.now)) }
+    ensures ok { OnOk result (out.new ≡ out.old ++ step_text graph.now (λ r. is_in r honest) (step_of step.now)) }
+    ensures prefix { OnErr result (take (length out.old) out.new ≡ out.old) }
 {
     out.bytes(mark(honest.has(graph.sender(step.label))))?;
-    put_label(out, graph, step.label)?;
+    out.bytes(graph.edge_name(step.label).as_bytes())?;
     put_writes(out, graph, step.writes.as_slice())
 }
 
@@ -72,7 +76,8 @@ fn put_writes(
     writes: &[(Var, Option<Value>)],
 ) -> Result<(), OutOfMemory>
     requires { All (λ w. w.0 < length graph.now.variables) writes.now }
-    ensures { OnOk result (out.new ≡ out.old ++ written graph.now (writes_of writes.now)) }
+    ensures ok { OnOk result (out.new ≡ out.old ++ written graph.now (writes_of writes.now)) }
+    ensures prefix { OnErr result (take (length out.old) out.new ≡ out.old) }
 {
     match writes {
         [] => Ok(()),
@@ -89,7 +94,8 @@ fn put_bracketed(
 ) -> Result<(), OutOfMemory>
     requires first { first.now.0 < length graph.now.variables }
     requires rest { All (λ w. w.0 < length graph.now.variables) rest.now }
-    ensures { OnOk result (out.new ≡ out.old ++ written graph.now (writes_of (first.now ∷ rest.now))) }
+    ensures ok { OnOk result (out.new ≡ out.old ++ written graph.now (writes_of (first.now ∷ rest.now))) }
+    ensures prefix { OnErr result (take (length out.old) out.new ≡ out.old) }
 {
     out.u8(b'(')?;
     put_write(out, graph, first)?;
@@ -104,7 +110,8 @@ fn put_more(
     writes: &[(Var, Option<Value>)],
 ) -> Result<(), OutOfMemory>
     requires { All (λ w. w.0 < length graph.now.variables) writes.now }
-    ensures { OnOk result (out.new ≡ out.old ++ flat_map (λ t. 44 ∷ t) (map (write_text graph.now) (writes_of writes.now))) }
+    ensures ok { OnOk result (out.new ≡ out.old ++ flat_map (λ t. 44 ∷ t) (map (write_text graph.now) (writes_of writes.now))) }
+    ensures prefix { OnErr result (take (length out.old) out.new ≡ out.old) }
 {
     'writes: for write in writes {
         out.u8(b',')?;
@@ -120,7 +127,8 @@ fn put_write(
     write: &(Var, Option<Value>),
 ) -> Result<(), OutOfMemory>
     requires { write.now.0 < length graph.now.variables }
-    ensures { OnOk result (out.new ≡ out.old ++ write_text graph.now (write.now.0, option_map value_of write.now.1)) }
+    ensures ok { OnOk result (out.new ≡ out.old ++ write_text graph.now (write.now.0, option_map value_of write.now.1)) }
+    ensures prefix { OnErr result (take (length out.old) out.new ≡ out.old) }
 {
     put_assigned(out, graph, write.0, write.1.as_ref())
 }

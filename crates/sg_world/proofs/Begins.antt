@@ -10,7 +10,7 @@ use Rattle.sg_protocol.specs.Texts.{real, graph_text_of}
 use Rattle.sg_protocol.specs.World.{keyring_of}
 use Rattle.sg_node.proofs.Life.{new_nodes}
 use Rattle.sg_world.specs.Holds.{Holds, schedule_of}
-use Rattle.sg_world.specs.Kept.{Recorded}
+use Rattle.sg_world.specs.RecordModel.{Recorded}
 use Rattle.sg_world.specs.Setting.{Setting}
 use Rattle.sg_world.specs.Representation.{RepresentPasts}
 use Rattle.sg_world.proofs.Pasts.{Named, names}
@@ -31,7 +31,7 @@ represent_new : (keys : List PairKey) (programs : List Program) (ms : List Name)
 represent_new keys programs [] = tt
 represent_new keys programs (m ∷ ms) =
     let n = new_nodes (keyring_of keys m) programs [] in
-    (record { me = refl; represents = n.0; told = n.1 }, represent_new keys programs ms)
+    (record { me = refl; represents = n.0; answered = n.1 }, represent_new keys programs ms)
 
 -- the record of no step
 abbrev pub nothing : ℕ → Recorded
@@ -53,7 +53,7 @@ module _ (d : Setting) (honest : List Name) (size : ℕ) where
     few = omega arith;
     run = record {
       stand = subst (λ (ms : List Name). RepresentPasts (map (new_named d.keys d.programs) honest) (map (past_of_new d.keys d.programs) ms)) (sym (names_new d.keys d.programs honest)) (represent_new d.keys d.programs honest);
-      told = refl;
+      reported = refl;
       graphs = refl;
       notes = refl;
       frames = refl;

@@ -31,20 +31,20 @@ use Rattle.sg_role.specs.Sending.{with_notes}
 use Rattle.sg_node.specs.Answers.{GoesOn}
 use Rattle.sg_report.specs.Reported.{Reported, Sends, reported_answer}
 use Rattle.sg_report.proofs.Answered.{SendsNothing}
-use Rattle.sg_world.specs.Comes.{Comes, ComesOfCall}
-use Rattle.sg_world.specs.Kept.{StepResult, no_frame}
+use Rattle.sg_world.specs.StepResults.{IsResult, IsResultOfCall}
+use Rattle.sg_world.specs.RecordModel.{StepResult, no_frame}
 
 -- the notes of a call that begins with none
 noted_first : (blank : StepResult) (notes more : Notes) → blank ≡ no_frame → notes ≡ with_notes blank.notes more → notes ≡ with_notes no_notes more
 noted_first blank notes more none h = h ∙ ap (λ (z : StepResult). with_notes z.notes more) none
 
 -- the outcome of a call that sends nothing
-pub comes_quiet : (number : ℕ) (old new : NodeState) (past : Past) (call : Call) (told : Option Reported) (graph : Option Graph) (notes : Notes) (blank c : StepResult) → blank ≡ no_frame → c ≡ record blank { told = told; graph = graph; notes = notes } → IsCallInRange call
-    → SendsNothing number (answer real (node_of past) call) told → graph ≡ graph_of_call real (node_of past) call → notes ≡ with_notes blank.notes (noted_of real (node_of past) call) → GoesOn old new call past → ComesOfCall number old new past call c
-comes_quiet number old new past call told graph notes blank c none e range h graphed noted goes =
-    subst (ComesOfCall number old new past call) (sym e) (record {
+pub comes_quiet : (number : ℕ) (old new : NodeState) (past : Past) (call : Call) (reported : Option Reported) (graph : Option Graph) (notes : Notes) (blank c : StepResult) → blank ≡ no_frame → c ≡ record blank { reported = reported; graph = graph; notes = notes } → IsCallInRange call
+    → SendsNothing number (answer real (node_of past) call) reported → graph ≡ graph_of_call real (node_of past) call → notes ≡ with_notes blank.notes (noted_of real (node_of past) call) → GoesOn old new call past → IsResultOfCall number old new past call c
+comes_quiet number old new past call reported graph notes blank c none e range h graphed noted goes =
+    subst (IsResultOfCall number old new past call) (sym e) (record {
       range = range;
-      told = h.0;
+      reported = h.0;
       graph = graphed;
       frame = ap (λ (z : StepResult). z.frame) none ∙ h.1;
       notes = noted_first blank notes (noted_of real (node_of past) call) none noted;
@@ -59,9 +59,9 @@ if_is_ok Q (Err e) f = tt
 -- ---- the call of a step
 
 pub comes_start : (s : Schedule) (w : World) (k number : ℕ) (who : Name) (n : ℕ) (ds : List NamedSession) (cast : Cast) (old new : NodeState) (past : Past) (c : StepResult)
-    → ds ≡ s.sessions → option_map (λ (d : NamedSession). d.cast) (slice_get ds n) ≡ Some cast → ComesOfCall number old new past (Start cast) c → Comes number old new past (call_of real s w k (StartStep who n)) c
+    → ds ≡ s.sessions → option_map (λ (d : NamedSession). d.cast) (slice_get ds n) ≡ Some cast → IsResultOfCall number old new past (Start cast) c → IsResult number old new past (call_of real s w k (StartStep who n)) c
 comes_start s w k number who n ds cast old new past c same at h =
-    subst (λ (o : Option Call). Comes number old new past o c) (sym (ap (option_map Start) (ap (λ (ds : List NamedSession). option_map (λ (d : NamedSession). d.cast) (slice_get ds n)) (sym same) ∙ at))) h
+    subst (λ (o : Option Call). IsResult number old new past o c) (sym (ap (option_map Start) (ap (λ (ds : List NamedSession). option_map (λ (d : NamedSession). d.cast) (slice_get ds n)) (sym same) ∙ at))) h
 
 -- the identifier at an index
 sid_is : (s : Schedule) (n : ℕ) (ds : List NamedSession) (sid : List ℕ) → ds ≡ s.sessions → option_map (λ (d : NamedSession). session_id real d.cast) (slice_get ds n) ≡ Some sid → sid ≡ sid_at real s n
@@ -73,22 +73,22 @@ sid_is s n ds sid same at = by (slice_get ds n) at ∙ ap (λ (ds : List NamedSe
 
 pub comes_act : (s : Schedule) (w : World) (k number : ℕ) (who : Name) (n label : ℕ) (values : Map Value) (ds : List NamedSession) (sid : List ℕ) (confounders : List (List ℕ)) (old new : NodeState) (past : Past) (c : StepResult)
     → ds ≡ s.sessions → option_map (λ (d : NamedSession). session_id real d.cast) (slice_get ds n) ≡ Some sid → confounders ≡ map (λ (v : ℕ × Value). confounder k v.0) values
-    → ComesOfCall number old new past (Act sid label values confounders) c → Comes number old new past (call_of real s w k (ActStep who n label values)) c
+    → IsResultOfCall number old new past (Act sid label values confounders) c → IsResult number old new past (call_of real s w k (ActStep who n label values)) c
 comes_act s w k number who n label values ds sid confounders old new past c same at are h =
-    subst (λ (z : List ℕ). ComesOfCall number old new past (Act z label values (map (λ (v : ℕ × Value). confounder k v.0) values)) c) (sid_is s n ds sid same at)
-    (subst (λ (z : List (List ℕ)). ComesOfCall number old new past (Act sid label values z) c) are h)
+    subst (λ (z : List ℕ). IsResultOfCall number old new past (Act z label values (map (λ (v : ℕ × Value). confounder k v.0) values)) c) (sid_is s n ds sid same at)
+    (subst (λ (z : List (List ℕ)). IsResultOfCall number old new past (Act sid label values z) c) are h)
 
 -- ---- answers
 
 -- the outcome of a step that was sent
 pub comes_sent : (number : ℕ) (old new : NodeState) (past : Past) (sid : List ℕ) (label : ℕ) (values : Map Value) (confounders : List (List ℕ)) (e : Protocol.Event) (to bytes : List ℕ) (graph : Option Graph) (notes : Notes) (blank c : StepResult)
-    → blank ≡ no_frame → c ≡ record { told = Some (Sends e to number); graph = graph; frame = Some bytes; notes = notes } → (f : Frame) → answer real (node_of past) (Act sid label values confounders) ≡ Protocol.Sends e to f → bytes ≡ spelling f
+    → blank ≡ no_frame → c ≡ record { reported = Some (Sends e to number); graph = graph; frame = Some bytes; notes = notes } → (f : Frame) → answer real (node_of past) (Act sid label values confounders) ≡ Protocol.Sends e to f → bytes ≡ spelling f
     → AreValues values confounders → graph ≡ graph_of_call real (node_of past) (Act sid label values confounders) → notes ≡ with_notes blank.notes (noted_of real (node_of past) (Act sid label values confounders)) → GoesOn old new (Act sid label values confounders) past
-    → ComesOfCall number old new past (Act sid label values confounders) c
+    → IsResultOfCall number old new past (Act sid label values confounders) c
 comes_sent number old new past sid label values confounders e to bytes graph notes blank c none is f given spelled range graphed noted goes =
-    subst (ComesOfCall number old new past (Act sid label values confounders)) (sym is) (record {
+    subst (IsResultOfCall number old new past (Act sid label values confounders)) (sym is) (record {
       range = range;
-      told = ap (λ (a : Answer). Some (reported_answer number a)) (sym given);
+      reported = ap (λ (a : Answer). Some (reported_answer number a)) (sym given);
       graph = graphed;
       frame = ap (λ (z : List ℕ). Some z) spelled ∙ ap frame_in (sym given);
       notes = noted_first blank notes (noted_of real (node_of past) (Act sid label values confounders)) none noted;

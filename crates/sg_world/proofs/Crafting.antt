@@ -13,9 +13,9 @@ use Rattle.sg_protocol.specs.Schedule.{Schedule, Craft, Step, CraftStep}
 use Rattle.sg_protocol.specs.Steps.{with_step, is_taken, record_size}
 use Rattle.sg_protocol.specs.Texts.{real}
 use Rattle.sg_protocol.specs.World.{World}
-use Rattle.sg_world.specs.Crafts.{ComesOfCraft}
+use Rattle.sg_world.specs.Crafts.{IsResultOfCraft}
 use Rattle.sg_world.specs.Holds.{Holds, schedule_of}
-use Rattle.sg_world.specs.Kept.{StepResult, Taken, Recorded, HoldsRun, with_result, added_size}
+use Rattle.sg_world.specs.RecordModel.{StepResult, TakenStep, Recorded, HoldsRun, with_result, added_size}
 use Rattle.sg_world.specs.Setting.{Setting}
 use Rattle.sg_world.proofs.EntryGraphs.{is_before}
 use Rattle.sg_world.proofs.Goes.{craft_held}
@@ -24,7 +24,7 @@ use Rattle.sg_world.proofs.Pasts.{Named}
 
 module _ (d : Setting) (nodes : List Named) (r : Recorded) (x : Craft) (c : StepResult)
     (h : Holds d nodes r) (room : length r.entries < most_steps) (step : IsStep real (schedule_of d nodes r) (CraftStep x))
-    (performed : ComesOfCraft (length r.frames + 1) (schedule_of d nodes r) (run real d.programs (schedule_of d nodes r)) x c) where
+    (performed : IsResultOfCraft (length r.frames + 1) (schedule_of d nodes r) (run real d.programs (schedule_of d nodes r)) x c) where
   abbrev S : Schedule
   S = schedule_of d nodes r
 
@@ -32,10 +32,10 @@ module _ (d : Setting) (nodes : List Named) (r : Recorded) (x : Craft) (c : Step
   W = run real d.programs (schedule_of d nodes r)
 
   held : HoldsRun d.programs (with_step (schedule_of d nodes r) (CraftStep x)) (world_after real (schedule_of d nodes r) (run real d.programs (schedule_of d nodes r)) (length (schedule_of d nodes r).steps + 1) (CraftStep x)) nodes (with_result r (CraftStep x) c)
-  held = craft_held d.programs S W nodes r (length S.steps + 1) x c (is_before d.programs S (length S.steps + 1) (CraftStep x) refl) h.run performed.told performed.graph performed.frame performed.notes
+  held = craft_held d.programs S W nodes r (length S.steps + 1) x c (is_before d.programs S (length S.steps + 1) (CraftStep x) refl) h.run performed.reported performed.graph performed.frame performed.notes
 
   same : schedule_of d nodes (with_result r (CraftStep x) c) ≡ with_step (schedule_of d nodes r) (CraftStep x)
-  same = ap (λ (z : List Step). record (schedule_of d nodes r) { steps = z }) (map-append (λ (e : Taken). e.step) r.entries (record { step = CraftStep x; told = c.told; graph = c.graph } ∷ []))
+  same = ap (λ (z : List Step). record (schedule_of d nodes r) { steps = z }) (map-append (λ (e : TakenStep). e.step) r.entries (record { step = CraftStep x; reported = c.reported; graph = c.graph } ∷ []))
 
   all_taken : list_all (is_taken (with_step (schedule_of d nodes r) (CraftStep x))) (with_step (schedule_of d nodes r) (CraftStep x)).steps ≡ true
   all_taken = list_all-append (is_taken S) S.steps (CraftStep x ∷ []) ∙ ap (λ b. b && true) h.taken
@@ -46,7 +46,7 @@ module _ (d : Setting) (nodes : List Named) (r : Recorded) (x : Craft) (c : Step
       schedule = subst (IsSchedule real) (sym same) (schedule_more real S (CraftStep x) h.schedule step);
       compiled = h.compiled;
       taken = subst (λ (z : Schedule). list_all (is_taken z) z.steps ≡ true) (sym same) all_taken;
-      few = (let e = length-append r.entries (record { step = CraftStep x; told = c.told; graph = c.graph } ∷ []) in omega (arith, e, room));
+      few = (let e = length-append r.entries (record { step = CraftStep x; reported = c.reported; graph = c.graph } ∷ []) in omega (arith, e, room));
       run = subst (λ (z : Schedule). HoldsRun d.programs z (run real d.programs z) nodes (with_result r (CraftStep x) c)) (sym same)
           (subst (λ (w : World). HoldsRun d.programs (with_step S (CraftStep x)) w nodes (with_result r (CraftStep x) c)) (sym (runs_go_by_step real d.programs S (CraftStep x))) held);
     },

@@ -13,7 +13,7 @@ use Rattle.sg_craft.specs.Means.{Means}
 use Rattle.sg_craft.proofs.MeansLaws.{can_by_means}
 use Rattle.sg_world.specs.Crafts.{CanBeCrafted, IsCraftable}
 use Rattle.sg_world.specs.Holds.{schedule_of}
-use Rattle.sg_world.specs.Kept.{Recorded}
+use Rattle.sg_world.specs.RecordModel.{Recorded}
 use Rattle.sg_world.specs.Setting.{Setting}
 use Rattle.sg_world.proofs.Pasts.{Named}
 

@@ -15,7 +15,7 @@ use Rattle.sg_report.specs.Report.{StepLine}
 use Rattle.sg_report.specs.Reported.{Reported, reported_outcome, reported_after, event_reported, session_reported, sid_left}
 use Rattle.sg_world.specs.Account.{CanBeNamed, graph_reported, line_of_entry}
 use Rattle.sg_world.specs.Entries.{graph_of_entry}
-use Rattle.sg_world.specs.Kept.{Taken}
+use Rattle.sg_world.specs.RecordModel.{TakenStep}
 use Rattle.sg_world.specs.KeptLines.{sid_kept, left_by, line_kept}
 use Rattle.sg_world.specs.Replay.{Replay}
 use Rattle.sg_world.specs.Setting.{Setting}
@@ -46,33 +46,33 @@ left_is s w k (CraftStep c) h = refl
 -- ---- lines
 
 module _ (r : Replay) (d : Setting) (sessions : d.sessions ≡ r.schedule.sessions) (graphs : d.graphs ≡ r.schedule.graphs) where
-  line_is : (e : Taken) (l : Logged) (t : Reported) → e.told ≡ Some t → e.graph ≡ graph_of_entry r.programs r.schedule l → EntryOf r.schedule e.step l → CanBeNamed r.schedule e.step → line_kept d e ≡ Some (line_of_entry r (l, t))
-  line_is e l t told graph of named =
-      ap (option_map (λ (t : Reported). record { who = who_of e.step; session = session_reported (left_by d.sessions e.step) t; graph = graph_reported d.graphs e.graph t; told = t })) told
+  line_is : (e : TakenStep) (l : Logged) (t : Reported) → e.reported ≡ Some t → e.graph ≡ graph_of_entry r.programs r.schedule l → EntryOf r.schedule e.step l → CanBeNamed r.schedule e.step → line_kept d e ≡ Some (line_of_entry r (l, t))
+  line_is e l t reported graph of named =
+      ap (option_map (λ (t : Reported). record { who = who_of e.step; session = session_reported (left_by d.sessions e.step) t; graph = graph_reported d.graphs e.graph t; reported = t })) reported
       ∙ (let who = sym of.who in λ i. Some (record {
         who = who i;
         session = session_reported (left i) t;
         graph = graph_reported (graphs i) (graph i) t;
-        told = t;
+        reported = t;
       }))
     where
       left : left_by d.sessions e.step ≡ option_and_then sid_left l.call
       left = ap (λ (ss : List NamedSession). left_by ss e.step) sessions ∙ sym (left_is r.schedule of.world of.number e.step named) ∙ ap (option_and_then sid_left) (sym of.call)
 
   -- the lines that are kept are those of the account
-  pub lines_alike : (es : List Taken) (ls : List Logged) (ts : List Reported) → map (λ (e : Taken). e.told) es ≡ map {B = Option Reported} Some ts → map (λ (e : Taken). e.graph) es ≡ map (graph_of_entry r.programs r.schedule) ls
-      → AllZip (EntryOf r.schedule) (map (λ (e : Taken). e.step) es) ls → AllByRecursion (CanBeNamed r.schedule) (map (λ (e : Taken). e.step) es) → map (line_kept d) es ≡ map {B = Option StepLine} Some (map (line_of_entry r) (zip ls ts))
-  lines_alike [] [] ts told graph are named = refl
-  lines_alike [] (l ∷ ls) ts told graph are named = absurd are
-  lines_alike (e ∷ es) [] ts told graph are named = absurd are
-  lines_alike (e ∷ es) (l ∷ ls) [] told graph are named = absurd (cc)
-  lines_alike (e ∷ es) (l ∷ ls) (t ∷ ts) told graph are named =
-      let is_told : e.told ≡ Some t = cc in
-      let are_told : map (λ (e : Taken). e.told) es ≡ map {B = Option Reported} Some ts = cc in
+  pub lines_alike : (es : List TakenStep) (ls : List Logged) (ts : List Reported) → map (λ (e : TakenStep). e.reported) es ≡ map {B = Option Reported} Some ts → map (λ (e : TakenStep). e.graph) es ≡ map (graph_of_entry r.programs r.schedule) ls
+      → AllZip (EntryOf r.schedule) (map (λ (e : TakenStep). e.step) es) ls → AllByRecursion (CanBeNamed r.schedule) (map (λ (e : TakenStep). e.step) es) → map (line_kept d) es ≡ map {B = Option StepLine} Some (map (line_of_entry r) (zip ls ts))
+  lines_alike [] [] ts reported graph are named = refl
+  lines_alike [] (l ∷ ls) ts reported graph are named = absurd are
+  lines_alike (e ∷ es) [] ts reported graph are named = absurd are
+  lines_alike (e ∷ es) (l ∷ ls) [] reported graph are named = absurd (cc)
+  lines_alike (e ∷ es) (l ∷ ls) (t ∷ ts) reported graph are named =
+      let is_reported : e.reported ≡ Some t = cc in
+      let are_reported : map (λ (e : TakenStep). e.reported) es ≡ map {B = Option Reported} Some ts = cc in
       let is_graph : e.graph ≡ graph_of_entry r.programs r.schedule l = cc in
-      let are_graphs : map (λ (e : Taken). e.graph) es ≡ map (graph_of_entry r.programs r.schedule) ls = cc in
-      let here : line_kept d e ≡ Some (line_of_entry r (l, t)) = line_is e l t is_told is_graph are.0 named.0 in
-      let rest : map (line_kept d) es ≡ map {B = Option StepLine} Some (map (line_of_entry r) (zip ls ts)) = lines_alike es ls ts are_told are_graphs are.1 named.1 in
+      let are_graphs : map (λ (e : TakenStep). e.graph) es ≡ map (graph_of_entry r.programs r.schedule) ls = cc in
+      let here : line_kept d e ≡ Some (line_of_entry r (l, t)) = line_is e l t is_reported is_graph are.0 named.0 in
+      let rest : map (line_kept d) es ≡ map {B = Option StepLine} Some (map (line_of_entry r) (zip ls ts)) = lines_alike es ls ts are_reported are_graphs are.1 named.1 in
       λ i. here i ∷ rest i
 
 -- ---- events
@@ -89,14 +89,14 @@ kept_first None es sids h = h
 kept_first (Some e) es sids h = ap (λ (z : List (List ℕ)). sid_of e ∷ z) h
 
 -- the sids of the events that are kept are those of the events of the run
-pub events_alike : (es : List Taken) (before ls : List Logged) → map (λ (e : Taken). e.told) es ≡ map {B = Option Reported} Some (reported_after before ls) → filter_map sid_kept es ≡ map sid_of (flat_map (λ (l : Logged). events_of_outcome l.outcome) ls)
+pub events_alike : (es : List TakenStep) (before ls : List Logged) → map (λ (e : TakenStep). e.reported) es ≡ map {B = Option Reported} Some (reported_after before ls) → filter_map sid_kept es ≡ map sid_of (flat_map (λ (l : Logged). events_of_outcome l.outcome) ls)
 events_alike [] before [] h = refl
 events_alike [] before (l ∷ ls) h = absurd (cc)
 events_alike (e ∷ es) before [] h = absurd (cc)
 events_alike (e ∷ es) before (l ∷ ls) h =
     let t : Reported = reported_outcome (frame_number before) l.outcome in
-    let here : e.told ≡ Some (reported_outcome (frame_number before) l.outcome) = cc in
-    let later : map (λ (e : Taken). e.told) es ≡ map {B = Option Reported} Some (reported_after (before ++ l ∷ []) ls) = cc in
+    let here : e.reported ≡ Some (reported_outcome (frame_number before) l.outcome) = cc in
+    let later : map (λ (e : TakenStep). e.reported) es ≡ map {B = Option Reported} Some (reported_after (before ++ l ∷ []) ls) = cc in
     let rest : filter_map sid_kept es ≡ map sid_of (flat_map (λ (l : Logged). events_of_outcome l.outcome) ls) = events_alike es (before ++ l ∷ []) ls later in
     ap (λ (o : Option Reported). cons_option (option_map sid_of (option_and_then event_reported o)) (filter_map sid_kept es)) here
     ∙ kept_first (event_reported t) (flat_map (λ (l : Logged). events_of_outcome l.outcome) ls) (filter_map sid_kept es) rest

@@ -11,7 +11,7 @@ use Rattle.sg_text.specs.Sessions.{KnownSessions, with_declared}
 use Rattle.sg_model.specs.Lists.{has_text}
 use Rattle.sg_protocol.specs.Schedule.{NamedSession}
 use Rattle.sg_protocol.specs.Texts.{real, session_id}
-use Rattle.sg_world.specs.Kept.{Taken}
+use Rattle.sg_world.specs.RecordModel.{TakenStep}
 use Rattle.sg_world.specs.Account.{declared_in}
 use Rattle.sg_world.specs.KeptLines.{met_in, sid_kept}
 
@@ -35,26 +35,26 @@ one None = refl
 one (Some sid) = refl
 
 -- the sids of one more step
-pub sids_next : (es : List Taken) (i : ℕ) (e : Taken) → i < length es → e ≡ get_or es i e → filter_map sid_kept (take (i + 1) es) ≡ filter_map sid_kept (take i es) ++ option_to_list (sid_kept e)
+pub sids_next : (es : List TakenStep) (i : ℕ) (e : TakenStep) → i < length es → e ≡ get_or es i e → filter_map sid_kept (take (i + 1) es) ≡ filter_map sid_kept (take i es) ++ option_to_list (sid_kept e)
 sids_next es i e l at =
     let more : take (i + 1) es ≡ take i es ++ e ∷ [] = take_more es i e l ∙ ap (λ y. take i es ++ y ∷ []) (sym at) in
     ap (filter_map sid_kept) more ∙ filter_map-append sid_kept (take i es) (e ∷ []) ∙ ap (λ z. filter_map sid_kept (take i es) ++ z) (one (sid_kept e))
 
 -- one more step
-pub met_next : (m : KnownSessions) (es : List Taken) (i : ℕ) (e : Taken) → i < length es → e ≡ get_or es i e → met_with (met_with m (filter_map sid_kept (take i es))) (option_to_list (sid_kept e)) ≡ met_with m (filter_map sid_kept (take (i + 1) es))
+pub met_next : (m : KnownSessions) (es : List TakenStep) (i : ℕ) (e : TakenStep) → i < length es → e ≡ get_or es i e → met_with (met_with m (filter_map sid_kept (take i es))) (option_to_list (sid_kept e)) ≡ met_with m (filter_map sid_kept (take (i + 1) es))
 met_next m es i e l at =
     ap (λ (z : List (List ℕ)). let n : KnownSessions = record { declared = m.declared; events = z } in n)
     (append_assoc m.events (filter_map sid_kept (take i es)) (option_to_list (sid_kept e)) ∙ ap (λ z. m.events ++ z) (sym (sids_next es i e l at)))
 
 -- a sid that is not met so far is not met with a step of another session
-pub not_met : (sid : List ℕ) (es : List Taken) (i : ℕ) (e : Taken) → i < length es → e ≡ get_or es i e → has_text sid (filter_map sid_kept (take i es)) ≡ false → has_text sid (option_to_list (sid_kept e)) ≡ false
+pub not_met : (sid : List ℕ) (es : List TakenStep) (i : ℕ) (e : TakenStep) → i < length es → e ≡ get_or es i e → has_text sid (filter_map sid_kept (take i es)) ≡ false → has_text sid (option_to_list (sid_kept e)) ≡ false
     → has_text sid (filter_map sid_kept (take (i + 1) es)) ≡ false
 not_met sid es i e l at before here =
     ap (has_text sid) (sids_next es i e l at) ∙ list_any-append (bytes_eq sid) (filter_map sid_kept (take i es)) (option_to_list (sid_kept e))
     ∙ (λ j. before j || here j)
 
 -- and is met with one of this session
-pub is_met : (sid : List ℕ) (es : List Taken) (i : ℕ) (e : Taken) → i < length es → e ≡ get_or es i e → has_text sid (option_to_list (sid_kept e)) ≡ true → has_text sid (filter_map sid_kept es) ≡ true
+pub is_met : (sid : List ℕ) (es : List TakenStep) (i : ℕ) (e : TakenStep) → i < length es → e ≡ get_or es i e → has_text sid (option_to_list (sid_kept e)) ≡ true → has_text sid (filter_map sid_kept es) ≡ true
 is_met sid es i e l at here =
     let so_far : has_text sid (filter_map sid_kept (take (i + 1) es)) ≡ true =
     ap (has_text sid) (sids_next es i e l at) ∙ list_any-append (bytes_eq sid) (filter_map sid_kept (take i es)) (option_to_list (sid_kept e))

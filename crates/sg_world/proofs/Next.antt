@@ -21,10 +21,10 @@ use Rattle.sg_protocol.specs.Schedule.{Schedule, Step, who_of}
 use Rattle.sg_protocol.specs.Steps.{with_step, is_taken, record_size}
 use Rattle.sg_protocol.specs.Texts.{real}
 use Rattle.sg_protocol.specs.World.{World, Logged}
-use Rattle.sg_world.specs.Comes.{ComesAt}
+use Rattle.sg_world.specs.StepResults.{IsResultAt}
 use Rattle.sg_world.specs.Entries.{graph_of_entry}
 use Rattle.sg_world.specs.Holds.{Holds, schedule_of}
-use Rattle.sg_world.specs.Kept.{StepResult, Taken, Recorded, HoldsRun, with_result, added_size}
+use Rattle.sg_world.specs.RecordModel.{StepResult, TakenStep, Recorded, HoldsRun, with_result, added_size}
 use Rattle.sg_world.specs.Indices.{IsIndexOf}
 use Rattle.sg_world.specs.Setting.{Setting}
 use Rattle.sg_world.proofs.EntryGraphs.{is_before}
@@ -46,7 +46,7 @@ frames_few programs s w nodes r h =
     let a = ap (λ (z : List (List ℕ)). length z) h.frames in
     let b = few_framed w.log in
     let c = ap (λ (z : List (Option Graph)). length z) h.graphs in
-    let d = length-map r.entries (λ (e : Taken). e.graph) in
+    let d = length-map r.entries (λ (e : TakenStep). e.graph) in
     let e = length-map w.log (graph_of_entry programs s) in
     omega (arith, a, b, c, d, e)
 
@@ -58,7 +58,7 @@ names_same (n ∷ ns) (suc i) new = ap (λ (z : List Name). n.0 ∷ z) (names_sa
 
 module _ (d : Setting) (nodes now : List Named) (r : Recorded) (x : Step) (c : StepResult) (index k : ℕ)
     (h : Holds d nodes r) (at : IsIndexOf nodes x (Some index)) (room : length r.entries < most_steps) (step : IsStep real (schedule_of d nodes r) x) (number : k ≡ length r.entries + 1)
-    (performed : ComesAt d.sessions r.frames k x index nodes now c) where
+    (performed : IsResultAt d.sessions r.frames k x index nodes now c) where
   abbrev S : Schedule
   S = schedule_of d nodes r
 
@@ -69,7 +69,7 @@ module _ (d : Setting) (nodes now : List Named) (r : Recorded) (x : Step) (c : S
   who = let q : Some at.0 ≡ Some (performed.who, performed.old) = sym at.1 ∙ performed.is_old in at.2 ∙ ap (λ (z : Option Named). option_map (λ (n : Named). n.0) z) q
 
   at_end : k ≡ length (schedule_of d nodes r).steps + 1
-  at_end = let e = length-map r.entries (λ (e : Taken). e.step) in omega (arith, e, number)
+  at_end = let e = length-map r.entries (λ (e : TakenStep). e.step) in omega (arith, e, number)
 
   held : HoldsRun d.programs (with_step (schedule_of d nodes r) x) (world_after real (schedule_of d nodes r) (run real d.programs (schedule_of d nodes r)) k x) (set_value_at nodes index performed.new) (with_result r x c)
   held = step_held d.programs S W nodes r k x c performed.who index performed.old performed.new who (is_before d.programs S k x at_end) h.run (and_parts (all_differ (names nodes)) (list_all is_name (names nodes)) h.schedule.honest_names).0 performed.is_old
@@ -81,7 +81,7 @@ module _ (d : Setting) (nodes now : List Named) (r : Recorded) (x : Step) (c : S
   same : schedule_of d now (with_result r x c) ≡ with_step (schedule_of d nodes r) x
   same =
       let honest : names now ≡ names nodes = ap names performed.is_new ∙ names_same nodes index performed.new in
-      let steps : map (λ (e : Taken). e.step) (with_result r x c).entries ≡ map (λ (e : Taken). e.step) r.entries ++ x ∷ [] = map-append (λ (e : Taken). e.step) r.entries (record { step = x; told = c.told; graph = c.graph } ∷ []) in
+      let steps : map (λ (e : TakenStep). e.step) (with_result r x c).entries ≡ map (λ (e : TakenStep). e.step) r.entries ++ x ∷ [] = map-append (λ (e : TakenStep). e.step) r.entries (record { step = x; reported = c.reported; graph = c.graph } ∷ []) in
       (λ i. record { graphs = d.graphs; honest = honest i; keys = d.keys; sessions = d.sessions; steps = steps i })
 
   is_one : is_taken (schedule_of d nodes r) x ≡ true
@@ -96,7 +96,7 @@ module _ (d : Setting) (nodes now : List Named) (r : Recorded) (x : Step) (c : S
       schedule = subst (IsSchedule real) (sym same) (schedule_more real S x h.schedule step);
       compiled = h.compiled;
       taken = subst (λ (z : Schedule). list_all (is_taken z) z.steps ≡ true) (sym same) all_taken;
-      few = (let e = length-append r.entries (record { step = x; told = c.told; graph = c.graph } ∷ []) in omega (arith, e, room));
+      few = (let e = length-append r.entries (record { step = x; reported = c.reported; graph = c.graph } ∷ []) in omega (arith, e, room));
       run = subst (λ (z : Schedule). HoldsRun d.programs z (run real d.programs z) now (with_result r x c)) (sym same)
           (subst (λ (w : World). HoldsRun d.programs (with_step S x) w now (with_result r x c)) (sym run_is)
           (subst (λ (ns : List Named). HoldsRun d.programs (with_step S x) (world_after real S W k x) ns (with_result r x c)) (sym performed.is_new) held));

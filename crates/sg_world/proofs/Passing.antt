@@ -14,14 +14,14 @@ use Rattle.sg_protocol.specs.World as Core
 use Rattle.sg_protocol.specs.World.{Logged, frames}
 use Rattle.sg_report.specs.Reported.{Reported, reported_after, reported_log, reported_outcome, event_reported}
 use Rattle.sg_world.specs.EntriesOfRun.{AreOfRun, IsOfStep}
-use Rattle.sg_world.specs.Kept.{Taken}
+use Rattle.sg_world.specs.RecordModel.{TakenStep}
 use Rattle.sg_world.proofs.EntryCalls.{entry_call}
 
 -- ---- events
 
 -- the event of an outcome is that which is reported
-pub told_event : (n : ℕ) (o : Core.Outcome) → events_of_outcome o ≡ option_to_list (event_reported (reported_outcome n o))
-told_event n (Core.Outcome.Answered a) = of_answer a
+pub reported_event : (n : ℕ) (o : Core.Outcome) → events_of_outcome o ≡ option_to_list (event_reported (reported_outcome n o))
+reported_event n (Core.Outcome.Answered a) = of_answer a
   where
     of_answer : (a : Protocol.Answer) → events_of_answer a ≡ option_to_list (event_reported (reported_outcome n (Core.Outcome.Answered a)))
     of_answer (Protocol.Answer.Happened e) = refl
@@ -31,26 +31,26 @@ told_event n (Core.Outcome.Answered a) = of_answer a
     of_answer (Protocol.Answer.NotActed f) = refl
     of_answer Protocol.Answer.NotAbandoned = refl
     of_answer (Protocol.Answer.NotDelivered r) = refl
-told_event n Core.Outcome.Crafted = refl
-told_event n Core.Outcome.NoFrame = refl
+reported_event n Core.Outcome.Crafted = refl
+reported_event n Core.Outcome.NoFrame = refl
 
 -- the events of an entry, by its reported outcome
-pub events_told : (l : Logged) (n : ℕ) (told : Option Reported) (e : Option Event) → told ≡ Some (reported_outcome n l.outcome) → e ≡ option_and_then event_reported told → events_of_outcome l.outcome ≡ option_to_list e
-events_told l n told e is of = told_event n l.outcome ∙ ap option_to_list (sym (of ∙ ap (option_and_then event_reported) is))
+pub events_reported : (l : Logged) (n : ℕ) (reported : Option Reported) (e : Option Event) → reported ≡ Some (reported_outcome n l.outcome) → e ≡ option_and_then event_reported reported → events_of_outcome l.outcome ≡ option_to_list e
+events_reported l n reported e is of = reported_event n l.outcome ∙ ap option_to_list (sym (of ∙ ap (option_and_then event_reported) is))
 
 -- ---- frames
 
 -- ---- entries
 
 -- what is reported of a log, at an index
-told_at : (before xs : List Logged) (i : ℕ) (l : Logged) → slice_get xs i ≡ Some l → slice_get (reported_after before xs) i ≡ Some (reported_outcome (frame_number (before ++ take i xs)) l.outcome)
-told_at before [] i l e = absurd (cc)
-told_at before (x ∷ xs) zero l e = (let same : x ≡ l = cc in ap (λ (z : Logged). Some (reported_outcome (frame_number before) z.outcome)) same ∙ ap (λ (ls : List Logged). Some (reported_outcome (frame_number ls) l.outcome)) (sym (append-nil before)))
-told_at before (x ∷ xs) (suc i) l e = told_at (before ++ x ∷ []) xs i l e ∙ ap (λ (ls : List Logged). Some (reported_outcome (frame_number ls) l.outcome)) (append_assoc before (x ∷ []) (take i xs))
+reported_at : (before xs : List Logged) (i : ℕ) (l : Logged) → slice_get xs i ≡ Some l → slice_get (reported_after before xs) i ≡ Some (reported_outcome (frame_number (before ++ take i xs)) l.outcome)
+reported_at before [] i l e = absurd (cc)
+reported_at before (x ∷ xs) zero l e = (let same : x ≡ l = cc in ap (λ (z : Logged). Some (reported_outcome (frame_number before) z.outcome)) same ∙ ap (λ (ls : List Logged). Some (reported_outcome (frame_number ls) l.outcome)) (sym (append-nil before)))
+reported_at before (x ∷ xs) (suc i) l e = reported_at (before ++ x ∷ []) xs i l e ∙ ap (λ (ls : List Logged). Some (reported_outcome (frame_number ls) l.outcome)) (append_assoc before (x ∷ []) (take i xs))
 
-told_length : (before xs : List Logged) → length (reported_after before xs) ≡ length xs
-told_length before [] = refl
-told_length before (x ∷ xs) = ap suc (told_length (before ++ x ∷ []) xs)
+reported_length : (before xs : List Logged) → length (reported_after before xs) ≡ length xs
+reported_length before [] = refl
+reported_length before (x ∷ xs) = ap suc (reported_length (before ++ x ∷ []) xs)
 
 map_at : {A B : Type 0} (f : A → B) (xs : List A) (i : ℕ) (x : A) → slice_get xs i ≡ Some x → slice_get (map f xs) i ≡ Some (f x)
 map_at f [] i x e = absurd (cc)
@@ -82,33 +82,33 @@ take_whole (x ∷ xs) zero e = absurd (omega (arith, e))
 take_whole (x ∷ xs) (suc i) e = ap (λ ls. x ∷ ls) (take_whole xs i (omega (arith, e)))
 
 -- the entry at an index is of the log's step there
-pub record IsAt (programs : List Program) (s : Schedule) (recorded : List (List ℕ)) (i : ℕ) (e : Taken) : Type 0 where
+pub record IsAt (programs : List Program) (s : Schedule) (recorded : List (List ℕ)) (i : ℕ) (e : TakenStep) : Type 0 where
   pub entry : Logged
   pub after : List Logged
   pub parts : (run real programs s).log ≡ take i (run real programs s).log ++ entry ∷ after
   pub next : take (i + 1) (run real programs s).log ≡ take i (run real programs s).log ++ entry ∷ []
   pub of_step : IsOfStep s (take i (run real programs s).log) entry recorded e
 
-module _ (programs : List Program) (s : Schedule) (entries : List Taken) (recorded : List (List ℕ)) (h : AreOfRun programs s entries recorded) where
+module _ (programs : List Program) (s : Schedule) (entries : List TakenStep) (recorded : List (List ℕ)) (h : AreOfRun programs s entries recorded) where
   abbrev log : List Logged
   log = (run real programs s).log
 
   pub as_many : length entries ≡ length log
-  as_many = sym (length_map (λ (e : Taken). e.told) entries) ∙ ap length h.told ∙ length_map {B = Option Reported} Some (reported_log log) ∙ told_length [] log
+  as_many = sym (length_map (λ (e : TakenStep). e.reported) entries) ∙ ap length h.reported ∙ length_map {B = Option Reported} Some (reported_log log) ∙ reported_length [] log
 
   pub all_taken : (i : ℕ) → i ≡ length entries → take i log ≡ log
   all_taken i e = take_whole log i (e ∙ as_many)
 
-  pub entry_at : (i : ℕ) (e : Taken) → slice_get entries i ≡ Some e → i < length entries → IsAt programs s recorded i e
+  pub entry_at : (i : ℕ) (e : TakenStep) → slice_get entries i ≡ Some e → i < length entries → IsAt programs s recorded i e
   entry_at i e at less =
       let within : i < length log = (let many = as_many in omega (arith, less, many)) in
       let p = parted log i within in
       let l : Logged = p.0 in
-      let step : slice_get s.steps (length (take i log)) ≡ Some e.step = ap (slice_get s.steps) (take_length log i within) ∙ ap (λ (xs : List Step). slice_get xs i) h.steps ∙ map_at (λ (x : Taken). x.step) entries i e at in
+      let step : slice_get s.steps (length (take i log)) ≡ Some e.step = ap (slice_get s.steps) (take_length log i within) ∙ ap (λ (xs : List Step). slice_get xs i) h.steps ∙ map_at (λ (x : TakenStep). x.step) entries i e at in
       let b = entry_call programs s (take i log) l (drop (suc i) log) e.step h.taken p.2 step in
-      let both : Some e.told ≡ Some (Some (reported_outcome (frame_number (take i log)) l.outcome)) =
-      sym (map_at (λ (x : Taken). x.told) entries i e at) ∙ ap (λ (ts : List (Option Reported)). slice_get ts i) h.told ∙ map_at {B = Option Reported} Some (reported_log log) i (reported_outcome (frame_number (take i log)) l.outcome) (told_at [] log i l p.1) in
-      let told : e.told ≡ Some (reported_outcome (frame_number (take i log)) l.outcome) = cc in
+      let both : Some e.reported ≡ Some (Some (reported_outcome (frame_number (take i log)) l.outcome)) =
+      sym (map_at (λ (x : TakenStep). x.reported) entries i e at) ∙ ap (λ (ts : List (Option Reported)). slice_get ts i) h.reported ∙ map_at {B = Option Reported} Some (reported_log log) i (reported_outcome (frame_number (take i log)) l.outcome) (reported_at [] log i l p.1) in
+      let reported : e.reported ≡ Some (reported_outcome (frame_number (take i log)) l.outcome) = cc in
       record {
         entry = l;
         after = drop (suc i) log;
@@ -119,7 +119,7 @@ module _ (programs : List Program) (s : Schedule) (entries : List Taken) (record
           call = b.call;
           silent = b.silent;
           number = frame_number (take i log);
-          told = told;
+          reported = reported;
           last = run real programs s;
           whole = sym h.frames;
           later = b.later;
@@ -127,10 +127,10 @@ module _ (programs : List Program) (s : Schedule) (entries : List Taken) (record
         };
       }
 
-  pub entry_there : (i : ℕ) (e : Taken) → i < length entries → e ≡ get_or entries i e → IsAt programs s recorded i e
+  pub entry_there : (i : ℕ) (e : TakenStep) → i < length entries → e ≡ get_or entries i e → IsAt programs s recorded i e
   entry_there i e less is = entry_at i e (got entries i e less is) less
     where
-      got : (xs : List Taken) (i : ℕ) (x : Taken) → i < length xs → x ≡ get_or xs i x → slice_get xs i ≡ Some x
+      got : (xs : List TakenStep) (i : ℕ) (x : TakenStep) → i < length xs → x ≡ get_or xs i x → slice_get xs i ≡ Some x
       got [] i x h is = absurd (omega (arith, h))
       got (y ∷ ys) zero x h is = ap (λ z. Some z) (sym is)
       got (y ∷ ys) (suc i) x h is = got ys i x (omega (arith, h)) is

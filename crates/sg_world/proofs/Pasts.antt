@@ -9,7 +9,7 @@ use Rattle.sg_protocol.specs.Calls.{Call}
 use Rattle.sg_protocol.specs.NodeStates.{NodeState, RepresentsPast}
 use Rattle.sg_protocol.specs.Past.{Past, past_after}
 use Rattle.sg_protocol.specs.Texts.{real}
-use Rattle.sg_node.specs.Answers.{IsTold}
+use Rattle.sg_node.specs.Answers.{IsAnsweredPast}
 use Rattle.sg_world.specs.Representation.{RepresentsAs, RepresentPasts}
 
 abbrev pub Named : Type 0
@@ -28,7 +28,7 @@ pub record Found (old : NodeState) (who : Name) (ps : List Past) : Type 0 where
   pub past : Past
   pub is_past : find (λ (p : Past). bytes_eq p.keys.me who) ps ≡ Some past
   pub represents : RepresentsPast old past
-  pub told : IsTold past
+  pub answered : IsAnsweredPast past
 
 pub in_names : (ns : List Named) (i : ℕ) (who : Name) (old : NodeState) → slice_get ns i ≡ Some (who, old) → has_text who (names ns) ≡ true
 in_names [] i who old e = absurd (cc)
@@ -52,12 +52,12 @@ found (n ∷ ns) (p ∷ ps) zero who old h d e =
       past = p;
       is_past = rw (bytes_same p.keys.me who (h.0.me ∙ ap (λ (z : Named). z.0) q)) refl;
       represents = subst (λ (z : Named). RepresentsPast z.1 p) q h.0.represents;
-      told = h.0.told;
+      answered = h.0.answered;
     }
 found (n ∷ ns) (p ∷ ps) (suc i) who old h d e =
     let later = found ns ps i who old h.1 (and_parts (not (has_text n.0 (names ns))) (all_differ (names ns)) d).1 e in
     let other : bytes_eq p.keys.me who ≡ false = subst (λ (z : Name). bytes_eq z who ≡ false) (sym h.0.me) (first_differs n ns who d (in_names ns i who old e)) in
-    record { past = later.past; is_past = rw other later.is_past; represents = later.represents; told = later.told }
+    record { past = later.past; is_past = rw other later.is_past; represents = later.represents; answered = later.answered }
 
 -- a call at one node leaves the pasts of the others
 others : (ns : List Named) (ps : List Past) (who : Name) (call : Call) → RepresentPasts ns ps → has_text who (names ns) ≡ false → map (next who call) ps ≡ ps
@@ -77,7 +77,7 @@ others (n ∷ ns) (p ∷ ps) who call h a =
         by true q = clash (bytes_eq a b) (bytes_same a b (sym (same_bytes b a q))) e
 
 pub after : (ns : List Named) (ps : List Past) (i : ℕ) (who : Name) (old new : NodeState) (call : Call) → RepresentPasts ns ps → all_differ (names ns) ≡ true → slice_get ns i ≡ Some (who, old)
-    → ((past : Past) → past.keys.me ≡ who → RepresentsPast old past → IsTold past → RepresentsAs (who, new) (past_after real past call)) → RepresentPasts (set_value_at ns i new) (map (next who call) ps)
+    → ((past : Past) → past.keys.me ≡ who → RepresentsPast old past → IsAnsweredPast past → RepresentsAs (who, new) (past_after real past call)) → RepresentPasts (set_value_at ns i new) (map (next who call) ps)
 after [] ps i who old new call h d e go = absurd (cc)
 after (n ∷ ns) [] i who old new call h d e go = absurd h
 after (n ∷ ns) (p ∷ ps) zero who old new call h d e go =
@@ -85,7 +85,7 @@ after (n ∷ ns) (p ∷ ps) zero who old new call h d e go =
     let named : n.0 ≡ who = ap (λ (z : Named). z.0) q in
     let me : p.keys.me ≡ who = h.0.me ∙ named in
     let apart = not-true (has_text n.0 (names ns)) (and_parts (not (has_text n.0 (names ns))) (all_differ (names ns)) d).0 in
-    let now : RepresentsAs (n.0, new) (past_after real p call) = subst (λ (z : Name). RepresentsAs (z, new) (past_after real p call)) (sym named) (go p me (subst (λ (z : Named). RepresentsPast z.1 p) q h.0.represents) h.0.told) in
+    let now : RepresentsAs (n.0, new) (past_after real p call) = subst (λ (z : Name). RepresentsAs (z, new) (past_after real p call)) (sym named) (go p me (subst (λ (z : Named). RepresentsPast z.1 p) q h.0.represents) h.0.answered) in
     let first : next who call p ≡ past_after real p call = (rw (bytes_same p.keys.me who me) refl) in
     (subst (RepresentsAs (n.0, new)) (sym first) now, subst (RepresentPasts ns) (sym (others ns ps who call h.1 (subst (λ (z : Name). has_text z (names ns) ≡ false) named apart))) h.1)
 after (n ∷ ns) (p ∷ ps) (suc i) who old new call h d e go =

@@ -1,5 +1,5 @@
 -- What breaks an assumption of a replay's run, by what is kept.
-use Rattle.std.proofs.Common.{◌≡◌, ℕ, suc, ◌+◌, ◌<◌, ◌≤◌, List, [], ◌∷◌, ◌++◌, length, find, Option, Some, None, option_map, IfOk, IfSome, MatchOption, Result, Ok, Err, false, is_some, slice_get, sym, ◌∙◌, ap, subst, arith}
+use Rattle.std.proofs.Common.{◌≡◌, ℕ, suc, ◌+◌, ◌<◌, ◌≤◌, List, [], ◌∷◌, ◌++◌, map, flat_map, length, find, refl, Option, Some, None, option_map, IfOk, IfSome, MatchOption, Result, Ok, Err, false, is_some, slice_get, sym, ◌∙◌, ap, subst, arith}
 use Rattle.std.specs.Option.{option_or}
 use Rattle.std.proofs.lemmas.List.{length-map}
 use Rattle.sg_model.specs.Limits.{most_steps}
@@ -8,17 +8,18 @@ use Rattle.sg_model.specs.Names.{Name}
 use Rattle.sg_certify.specs.Forged.{IsRecord, is_unmade, forged_from}
 use Rattle.sg_protocol.proofs.Broken.{forged_is_first, collision_is_first}
 use Rattle.sg_protocol.proofs.Steps.{logs_are_numbered}
-use Rattle.sg_protocol.specs.Broken.{first_forged, first_collision}
+use Rattle.sg_protocol.specs.Broken.{found_notes, is_forged, first_forged, first_collision}
 use Rattle.sg_protocol.specs.Graph.{Graph}
 use Rattle.sg_protocol.specs.NodeStates.{NodeState}
 use Rattle.sg_protocol.specs.Notes.{Note, Notes}
 use Rattle.sg_protocol.specs.Premises.{Unforged, CollisionFree, hashed}
-use Rattle.sg_protocol.specs.Run.{run}
-use Rattle.sg_protocol.specs.Texts.{real}
-use Rattle.sg_protocol.specs.World.{Logged}
+use Rattle.sg_protocol.specs.Run.{run, world_after_all}
+use Rattle.sg_protocol.specs.Schedule.{Step}
+use Rattle.sg_protocol.specs.Texts.{real, graph_text_of}
+use Rattle.sg_protocol.specs.World.{Logged, new_world}
 use Rattle.sg_world.specs.Entries.{graph_of_entry}
 use Rattle.sg_world.specs.Holds.{Holds, schedule_of}
-use Rattle.sg_world.specs.Kept.{Recorded, Taken}
+use Rattle.sg_world.specs.RecordModel.{Recorded, TakenStep}
 use Rattle.sg_world.specs.PremiseFaults.{IsForgedAs, IsForgedFault, IsCollisionAs, IsCollisionFault}
 use Rattle.sg_world.specs.Replay.{Replay, run_of}
 use Rattle.sg_world.specs.Setting.{Setting}
@@ -28,6 +29,10 @@ use Rattle.sg_world.specs.declared.premises.ForgedFault.{ForgedFault}
 use Rattle.sg_world.specs.declared.premises.ForgedFault.TheVariants as forged
 use Rattle.sg_world.proofs.Pasts.{Named, names, in_names}
 
+no_items : {A : Type 0} (xs : List A) → length xs ≡ 0 → xs ≡ []
+no_items [] h = refl
+no_items (x ∷ xs) h = absurd (cc)
+
 -- ---- the first assumption
 
 -- as many steps were taken as have notes
@@ -36,7 +41,7 @@ as_many d nodes r h =
     let log = (run real d.programs (schedule_of d nodes r)).log in
     let a = ap (λ (z : List Notes). length z) h.run.notes in
     let b = ap (λ (z : List (Option Graph)). length z) h.run.graphs in
-    let e = length-map r.entries (λ (e : Taken). e.graph) in
+    let e = length-map r.entries (λ (e : TakenStep). e.graph) in
     let f = length-map log (graph_of_entry d.programs (schedule_of d nodes r)) in
     let g = length-map log (λ (l : Logged). l.notes) in
     omega (arith, a, b, e, f, g)
@@ -45,7 +50,7 @@ as_many d nodes r h =
 pub is_record : (d : Setting) (nodes : List Named) (r : Recorded) (noted : List Notes) → Holds d nodes r → noted ≡ r.notes → IsRecord (run real d.programs (schedule_of d nodes r)) noted
 is_record d nodes r noted h same = subst (IsRecord (run real d.programs (schedule_of d nodes r))) (sym same) (record {
   notes = sym h.run.notes;
-  numbers = logs_are_numbered real d.programs (schedule_of d nodes r) h.taken ∙ ap (range_from 1) (length-map r.entries (λ (e : Taken). e.step) ∙ sym (as_many d nodes r h));
+  numbers = logs_are_numbered real d.programs (schedule_of d nodes r) h.taken ∙ ap (range_from 1) (length-map r.entries (λ (e : TakenStep). e.step) ∙ sym (as_many d nodes r h));
 })
 
 -- a forged note is found in one of these steps
@@ -93,3 +98,23 @@ pub collision_fault_is : (r : Replay) (found : List ℕ × List ℕ) (e : Collis
 collision_fault_is r found (collision.Collision one other) q h =
     (q ∙ ap (λ (z : List ℕ × List ℕ). Some z) h, λ u. (let none : None ≡ Some found = sym ((collision_is_first real (hashed r.schedule (run_of r))).0.1 u) ∙ q in cc))
 collision_fault_is r found collision.OutOfMemory q h = tt
+
+-- ---- before the first step
+
+-- nothing is logged
+pub no_log : (r : Replay) → length r.schedule.steps ≡ 0 → (run_of r).log ≡ []
+no_log r h = ap (λ (xs : List Step). (world_after_all real r.schedule (new_world r.programs r.schedule) 1 xs).log) (no_items r.schedule.steps h)
+
+-- nothing is forged
+pub none_forged : (r : Replay) → length r.schedule.steps ≡ 0 → None ≡ first_forged r.schedule (run_of r)
+none_forged r h = sym (ap (λ (log : List Logged). find (is_forged r.schedule (run_of r)) (found_notes log)) (no_log r h))
+
+alone : (gs : List Graph) → length gs ≤ 1 → first_collision real (map graph_text_of gs ++ []) ≡ None
+alone [] h = refl
+alone (g ∷ []) h = refl
+alone (g ∷ k ∷ gs) h = absurd (omega (arith, h))
+
+-- and the text of one graph collides with none
+pub none_collide : (r : Replay) → length r.schedule.steps ≡ 0 → length r.schedule.graphs ≤ 1 → None ≡ first_collision real (hashed r.schedule (run_of r))
+none_collide r h few =
+    sym (ap (λ (log : List Logged). first_collision real (map graph_text_of r.schedule.graphs ++ flat_map (λ (l : Logged). l.notes.hashed) log)) (no_log r h) ∙ alone r.schedule.graphs few)

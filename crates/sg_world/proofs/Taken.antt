@@ -6,9 +6,9 @@ use Rattle.sg_protocol.specs.Run.{run}
 use Rattle.sg_protocol.specs.Schedule.{Step}
 use Rattle.sg_protocol.specs.Steps.{with_step}
 use Rattle.sg_protocol.specs.Texts.{real}
-use Rattle.sg_world.specs.Crafts.{ComesOfCraft, ComesOfCrafting, ComesOfIndex}
+use Rattle.sg_world.specs.Crafts.{IsResultOfCraft, IsResultOfCrafting, IsResultAtIndex}
 use Rattle.sg_world.specs.Holds.{Holds, schedule_of}
-use Rattle.sg_world.specs.Kept.{StepResult, Recorded, with_result, added_size}
+use Rattle.sg_world.specs.RecordModel.{StepResult, Recorded, with_result, added_size}
 use Rattle.sg_world.specs.Indices.{IsIndexOf}
 use Rattle.sg_world.specs.Setting.{Setting}
 use Rattle.sg_world.proofs.Crafting.{next_craft, craft_fits}
@@ -22,10 +22,10 @@ Goes d nodes now r r2 x = Holds d now r2 × (schedule_of d now r2 ≡ with_step 
 module _ (d : Setting) (nodes now : List Named) (r : Recorded) (x : Step) (c : StepResult) (k : ℕ)
     (h : Holds d nodes r) (room : length r.entries < most_steps) (step : IsStep real (schedule_of d nodes r) x) (number : k ≡ length r.entries + 1) where
   -- what comes of a craft, in the run so far
-  crafted_here : (comes : ComesOfCrafting d r.frames x c) → ComesOfCraft (length r.frames + 1) (schedule_of d nodes r) (run real d.programs (schedule_of d nodes r)) comes.craft c
+  crafted_here : (comes : IsResultOfCrafting d r.frames x c) → IsResultOfCraft (length r.frames + 1) (schedule_of d nodes r) (run real d.programs (schedule_of d nodes r)) comes.craft c
   crafted_here comes = comes.comes (schedule_of d nodes r) (run real d.programs (schedule_of d nodes r)) (refl, refl, refl) (sym h.run.frames)
 
-  pub goes : (index : Option ℕ) → IsIndexOf nodes x index → ComesOfIndex d r.frames k x index nodes now c → Goes d nodes now r (with_result r x c) x
+  pub goes : (index : Option ℕ) → IsIndexOf nodes x index → IsResultAtIndex d r.frames k x index nodes now c → Goes d nodes now r (with_result r x c) x
   goes None at comes =
       let is = comes.1.is_craft in
       subst (λ (z : List Named). Goes d nodes z r (with_result r x c) x) (sym comes.0)
@@ -33,20 +33,20 @@ module _ (d : Setting) (nodes now : List Named) (r : Recorded) (x : Step) (c : S
       (next_craft d nodes r comes.1.craft c h room (subst (λ (z : Step). IsStep real (schedule_of d nodes r) z) is step) (crafted_here comes.1)))
   goes (Some index) at comes = next d nodes now r x c index k h at room step number comes
 
-  pub goes_in : (index : Option ℕ) → IsIndexOf nodes x index → ComesOfIndex d r.frames k x index nodes now c → r.size ≤ 264241152 → r.size + added_size c < 2 ^ 64
+  pub goes_in : (index : Option ℕ) → IsIndexOf nodes x index → IsResultAtIndex d r.frames k x index nodes now c → r.size ≤ 264241152 → r.size + added_size c < 2 ^ 64
   goes_in None at comes full =
       craft_fits d nodes r comes.1.craft c h room (subst (λ (z : Step). IsStep real (schedule_of d nodes r) z) comes.1.is_craft step) (crafted_here comes.1) full
   goes_in (Some index) at comes full = fits d nodes now r x c index k h at room step number comes full
 
 pub step_taken : (d : Setting) (nodes now : List Named) (r r1 r2 : Recorded) (x x1 : Step) (c : StepResult) (index : Option ℕ) (k : ℕ) → Holds d nodes r → IsIndexOf nodes x index → length r.entries < most_steps → IsStep real (schedule_of d nodes r) x
-    → r1 ≡ r → k ≡ length r1.entries + 1 → ComesOfIndex d r1.frames k x index nodes now c → x1 ≡ x → r2 ≡ with_result r1 x1 c → Goes d nodes now r r2 x
+    → r1 ≡ r → k ≡ length r1.entries + 1 → IsResultAtIndex d r1.frames k x index nodes now c → x1 ≡ x → r2 ≡ with_result r1 x1 c → Goes d nodes now r r2 x
 step_taken d nodes now r r1 r2 x x1 c index k h at room step same number performed copied put =
     let there : r2 ≡ with_result r x c = put ∙ (λ i. with_result (same i) (copied i) c) in
     subst (λ (z : Recorded). Goes d nodes now r z x) (sym there)
-    (goes d nodes now r x c k h room step (number ∙ ap (λ (z : Recorded). length z.entries + 1) same) index at (subst (λ (z : Recorded). ComesOfIndex d z.frames k x index nodes now c) same performed))
+    (goes d nodes now r x c k h room step (number ∙ ap (λ (z : Recorded). length z.entries + 1) same) index at (subst (λ (z : Recorded). IsResultAtIndex d z.frames k x index nodes now c) same performed))
 
 pub step_fits : (d : Setting) (nodes now : List Named) (r r1 : Recorded) (x : Step) (c : StepResult) (index : Option ℕ) (k : ℕ) → Holds d nodes r → IsIndexOf nodes x index → length r.entries < most_steps → IsStep real (schedule_of d nodes r) x
-    → r1 ≡ r → k ≡ length r1.entries + 1 → ComesOfIndex d r1.frames k x index nodes now c → r.size ≤ 264241152 → r1.size + added_size c < 2 ^ 64
+    → r1 ≡ r → k ≡ length r1.entries + 1 → IsResultAtIndex d r1.frames k x index nodes now c → r.size ≤ 264241152 → r1.size + added_size c < 2 ^ 64
 step_fits d nodes now r r1 x c index k h at room step same number performed full =
     subst (λ (z : Recorded). z.size + added_size c < 2 ^ 64) (sym same)
-    (goes_in d nodes now r x c k h room step (number ∙ ap (λ (z : Recorded). length z.entries + 1) same) index at (subst (λ (z : Recorded). ComesOfIndex d z.frames k x index nodes now c) same performed) full)
+    (goes_in d nodes now r x c k h room step (number ∙ ap (λ (z : Recorded). length z.entries + 1) same) index at (subst (λ (z : Recorded). IsResultAtIndex d z.frames k x index nodes now c) same performed) full)

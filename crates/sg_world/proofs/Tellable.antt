@@ -11,7 +11,7 @@ use Rattle.sg_law.proofs.Upto.{In, in_from_Contains}
 use Rattle.sg_model.specs.Lists.{is_in, keys_of, first_some}
 use Rattle.sg_model.specs.Names.{Name}
 use Rattle.sg_protocol.proofs.RealHash.{real_hash}
-use Rattle.sg_protocol.proofs.ToldRuns.{entries_are_answered, entries_are_told}
+use Rattle.sg_protocol.proofs.ToldRuns.{entries_are_answered, entries_are_named}
 use Rattle.sg_protocol.specs.Acting.{answer, started, rows_of_start}
 use Rattle.sg_protocol.specs.Calls.{Answer, Happened, Sends, NotActed, NotDelivered, NotStarted, Call, Start, Act, Abandon, Deliver, ActFault, SendFault, StartFault, Refusal}
 use Rattle.sg_protocol.specs.Beginnings.{first_steps}
@@ -27,10 +27,10 @@ use Rattle.sg_protocol.specs.Schedule.{Step, StartStep, ActStep, AbandonStep, De
 use Rattle.sg_protocol.specs.Session.{Session}
 use Rattle.sg_protocol.specs.Steps.{is_taken, frame_number}
 use Rattle.sg_protocol.specs.Texts.{real, session_id}
-use Rattle.sg_protocol.specs.Told.{HasNamed, names_numbers, IsAnswered, IsTold, graph_of_call}
+use Rattle.sg_protocol.specs.Told.{HasNamed, names_numbers, IsAnswered, IsNamed, graph_of_call}
 use Rattle.sg_protocol.specs.Verdict.{verdict_on, decided, receipt, rows}
 use Rattle.sg_protocol.specs.World.{World, Logged, Outcome, Answered, bytes_of, call_of, past_of}
-use Rattle.sg_report.proofs.Tellable.{told-without_numbers}
+use Rattle.sg_report.proofs.Tellable.{reported-without_numbers}
 use Rattle.sg_report.specs.Report.{StepLine}
 use Rattle.sg_report.specs.Reported.{CanBeReported, reported_answer, reported_outcome, reported_after}
 use Rattle.sg_world.specs.Account.{graph_reported, line_of_entry, lines_of, CanBeNamed}
@@ -143,45 +143,45 @@ module _ (r : Replay) (compiled : AreCompiled real r.schedule.graphs r.programs)
       by (Some bs) e = subst (GivesFor r.schedule.graphs) (same_Some (Deliver bs) c e) tt
   given_for w k (CraftStep d) c h e = absurd (cc)
 
-  silent_told : (n : ℕ) (g : Option Graph) (o : Outcome) → IsSilent o → CanBeReported g (reported_outcome n o)
-  silent_told n g (Answered a) h = absurd h
-  silent_told n g Outcome.Crafted h = tt
-  silent_told n g Outcome.NoFrame h = tt
+  silent_reported : (n : ℕ) (g : Option Graph) (o : Outcome) → IsSilent o → CanBeReported g (reported_outcome n o)
+  silent_reported n g (Answered a) h = absurd h
+  silent_reported n g Outcome.Crafted h = tt
+  silent_reported n g Outcome.NoFrame h = tt
 
   module _ (l : Logged) (x : Step) (n : ℕ) (there : Contains (run_of r).log l) (of : EntryOf r.schedule x l) (named : CanBeNamed r.schedule x) where
     -- the graph of an entry that names numbers
-    graph_is : (c : Call) (e : l.call ≡ Some c) (a : IsAnswered real r.programs r.schedule l c) (t : IsTold real (node_of a.past) c (answer real (node_of a.past) c)) → graph_of_entry r.programs r.schedule l ≡ Some t.program.graph
+    graph_is : (c : Call) (e : l.call ≡ Some c) (a : IsAnswered real r.programs r.schedule l c) (t : IsNamed real (node_of a.past) c (answer real (node_of a.past) c)) → graph_of_entry r.programs r.schedule l ≡ Some t.program.graph
     graph_is c e a t =
         ap (λ (o : Option Call). option_and_then (λ c. option_and_then (λ past. graph_of_call real (node_of past) c) (past_before r.programs r.schedule l)) o) e
         ∙ ap (λ (o : Option Past). option_and_then (λ past. graph_of_call real (node_of past) c) o) (ap (λ (o : Option Name). option_and_then (past_of (run real r.programs (first_steps (l.number - 1) r.schedule))) o) a.is_who ∙ a.is_past)
         ∙ ap (λ (o : Option (Program × Session)). option_map (λ (x : Program × Session). x.0.graph) o) t.is_session
 
-    answered_told : (c : Call) (e : l.call ≡ Some c) (a : IsAnswered real r.programs r.schedule l c) (b : Bool) → names_numbers (answer real (node_of a.past) c) ≡ b
+    answered_reported : (c : Call) (e : l.call ≡ Some c) (a : IsAnswered real r.programs r.schedule l c) (b : Bool) → names_numbers (answer real (node_of a.past) c) ≡ b
         → CanBeReported (graph_reported r.schedule.graphs (graph_of_entry r.programs r.schedule l) (reported_answer n (answer real (node_of a.past) c))) (reported_answer n (answer real (node_of a.past) c))
-    answered_told c e a false q = told-without_numbers (graph_reported r.schedule.graphs (graph_of_entry r.programs r.schedule l) (reported_answer n (answer real (node_of a.past) c))) n (answer real (node_of a.past) c) q
-    answered_told c e a true q =
-        let t : IsTold real (node_of a.past) c (answer real (node_of a.past) c) = entries_are_told real real_hash r.programs r.schedule compiled schedule l c there e a q in
+    answered_reported c e a false q = reported-without_numbers (graph_reported r.schedule.graphs (graph_of_entry r.programs r.schedule l) (reported_answer n (answer real (node_of a.past) c))) n (answer real (node_of a.past) c) q
+    answered_reported c e a true q =
+        let t : IsNamed real (node_of a.past) c (answer real (node_of a.past) c) = entries_are_named real real_hash r.programs r.schedule compiled schedule l c there e a q in
         subst (λ (g : Option Graph). CanBeReported (graph_reported r.schedule.graphs g (reported_answer n (answer real (node_of a.past) c))) (reported_answer n (answer real (node_of a.past) c))) (sym (graph_is c e a t))
         (can_tell r.schedule.graphs t.program.graph n (node_of a.past) c (answer real (node_of a.past) c) refl (given_for of.world of.number x c named (sym of.call ∙ e)) t.named)
 
-    line_told : CanBeReported (graph_reported r.schedule.graphs (graph_of_entry r.programs r.schedule l) (reported_outcome n l.outcome)) (reported_outcome n l.outcome)
-    line_told = by l.call refl
+    line_reported : CanBeReported (graph_reported r.schedule.graphs (graph_of_entry r.programs r.schedule l) (reported_outcome n l.outcome)) (reported_outcome n l.outcome)
+    line_reported = by l.call refl
       where
         by : (o : Option Call) → l.call ≡ o → CanBeReported (graph_reported r.schedule.graphs (graph_of_entry r.programs r.schedule l) (reported_outcome n l.outcome)) (reported_outcome n l.outcome)
-        by None e = silent_told n (graph_reported r.schedule.graphs (graph_of_entry r.programs r.schedule l) (reported_outcome n l.outcome)) l.outcome (of.silent e)
+        by None e = silent_reported n (graph_reported r.schedule.graphs (graph_of_entry r.programs r.schedule l) (reported_outcome n l.outcome)) l.outcome (of.silent e)
         by (Some c) e =
             let a : IsAnswered real r.programs r.schedule l c = entries_are_answered real r.programs r.schedule l c there e in
-            subst (λ (o : Outcome). CanBeReported (graph_reported r.schedule.graphs (graph_of_entry r.programs r.schedule l) (reported_outcome n o)) (reported_outcome n o)) (sym a.outcome) (answered_told c e a (names_numbers (answer real (node_of a.past) c)) refl)
+            subst (λ (o : Outcome). CanBeReported (graph_reported r.schedule.graphs (graph_of_entry r.programs r.schedule l) (reported_outcome n o)) (reported_outcome n o)) (sym a.outcome) (answered_reported c e a (names_numbers (answer real (node_of a.past) c)) refl)
 
-  all_told : (xs : List Step) (ls before : List Logged) → AllZip (EntryOf r.schedule) xs ls → AllByRecursion (CanBeNamed r.schedule) xs → ((l : Logged) → In ls l → In (run_of r).log l)
-      → AllByRecursion (λ (ln : StepLine). CanBeReported ln.graph ln.told) (map (line_of_entry r) (zip ls (reported_after before ls)))
-  all_told [] [] before a h i = tt
-  all_told [] (l ∷ ls) before a h i = absurd a
-  all_told (x ∷ xs) [] before a h i = absurd a
-  all_told (x ∷ xs) (l ∷ ls) before a h i =
-      (line_told l x (frame_number before) (contains_from_in (run_of r).log l (i l (inl refl))) a.0 h.0, all_told xs ls (before ++ l ∷ []) a.1 h.1 (λ m j. i m (inr j)))
+  all_reported : (xs : List Step) (ls before : List Logged) → AllZip (EntryOf r.schedule) xs ls → AllByRecursion (CanBeNamed r.schedule) xs → ((l : Logged) → In ls l → In (run_of r).log l)
+      → AllByRecursion (λ (ln : StepLine). CanBeReported ln.graph ln.reported) (map (line_of_entry r) (zip ls (reported_after before ls)))
+  all_reported [] [] before a h i = tt
+  all_reported [] (l ∷ ls) before a h i = absurd a
+  all_reported (x ∷ xs) [] before a h i = absurd a
+  all_reported (x ∷ xs) (l ∷ ls) before a h i =
+      (line_reported l x (frame_number before) (contains_from_in (run_of r).log l (i l (inl refl))) a.0 h.0, all_reported xs ls (before ++ l ∷ []) a.1 h.1 (λ m j. i m (inr j)))
 
   -- each line of the account has its names
-  pub lines_can_be_told : list_all (is_taken r.schedule) r.schedule.steps ≡ true → All (CanBeNamed r.schedule) r.schedule.steps → AllByRecursion (λ (ln : StepLine). CanBeReported ln.graph ln.told) (lines_of r)
-  lines_can_be_told taken named =
-      all_told r.schedule.steps (run_of r).log [] (entries_of_steps r.programs r.schedule taken) (recursion_from_All (CanBeNamed r.schedule) r.schedule.steps named) (λ l i. i)
+  pub lines_can_be_reported : list_all (is_taken r.schedule) r.schedule.steps ≡ true → All (CanBeNamed r.schedule) r.schedule.steps → AllByRecursion (λ (ln : StepLine). CanBeReported ln.graph ln.reported) (lines_of r)
+  lines_can_be_reported taken named =
+      all_reported r.schedule.steps (run_of r).log [] (entries_of_steps r.programs r.schedule taken) (recursion_from_All (CanBeNamed r.schedule) r.schedule.steps named) (λ l i. i)

@@ -5,7 +5,7 @@ use Rattle.std.specs.Map.{lookup}
 use Rattle.std.specs.Option.{option_map_or, option_to_list}
 use Rattle.std.proofs.Common.{zero, suc, ◌+◌, take, slice_get, append_assoc, sym, ◌∙◌, ap, subst, arith}
 use Rattle.std.proofs.lemmas.Grind.{flat_map-append}
-use Rattle.std.proofs.lemmas.List.{length-map}
+use Rattle.std.proofs.lemmas.List.{length-map, map-append}
 use Rattle.std.proofs.lemmas.Option.{same_Some}
 use Rattle.std.proofs.Math.Seq.{take-length}
 use Rattle.std.proofs.lemmas.Slice.Eq.{bytes_eq-Decides}
@@ -37,7 +37,7 @@ use Rattle.sg_walk.specs.Model.{steps_of}
 use Rattle.sg_walk.specs.declared.stored.StoredWalk.{StoredWalk}
 use Rattle.sg_world.specs.Account.{account, cast_met, graph_of, honest_in}
 use Rattle.sg_world.specs.Replay.{Replay, run_of}
-use Rattle.sg_world.specs.Walked.{CanWalkAll, IsPath, Path, PremisesHold, WalksAreMade, WalksAreWritten, path_at, path_of_trace, path_line, steps_of_trace}
+use Rattle.sg_world.specs.Walked.{CanWalkAll, IsPath, Path, PremisesHold, WalksAreMade, WalksAreWritten, path_at, path_of_trace, path_line, sid_and_steps, sid_and_walk, steps_of_trace}
 
 -- ---- events
 
@@ -83,9 +83,9 @@ module _ {X : Type 0} (path_of : List ℕ × X → Path) (is_of : (sid : List �
       by false q rest = rest
 
   -- each path that is reported is one
-  pub told_paths : (r : Replay) (es : List (List ℕ × X)) → AllByRecursion (λ (e : List ℕ × X). IsPath r (path_of e)) es → (sids : List (List ℕ)) → AllByRecursion (IsPath r) (filter_map (at es) sids)
-  told_paths r es h [] = tt
-  told_paths r es h (sid ∷ sids) = by (lookup (bytes_eq sid) es) (found_path r es h sid) (told_paths r es h sids)
+  pub reported_paths : (r : Replay) (es : List (List ℕ × X)) → AllByRecursion (λ (e : List ℕ × X). IsPath r (path_of e)) es → (sids : List (List ℕ)) → AllByRecursion (IsPath r) (filter_map (at es) sids)
+  reported_paths r es h [] = tt
+  reported_paths r es h (sid ∷ sids) = by (lookup (bytes_eq sid) es) (found_path r es h sid) (reported_paths r es h sids)
     where
       by : (o : Option X) → IfSome o (λ (w : X). IsPath r (path_of (sid, w))) → AllByRecursion (IsPath r) (filter_map (at es) sids) → AllByRecursion (IsPath r) (cons_option (option_map (λ (w : X). path_of (sid, w)) o) (filter_map (at es) sids))
       by None i rest = rest
@@ -102,9 +102,9 @@ module _ {X : Type 0} (path_of : List ℕ × X → Path) (is_of : (sid : List �
       by false rest = rest
 
   -- the sids that have a walk, in the order in which they are asked for
-  pub told_sids : (es : List (List ℕ × X)) (sids : List (List ℕ)) → map (λ (p : Path). p.sid) (filter_map (at es) sids) ≡ filter (λ sid. has_text sid (map (λ (e : List ℕ × X). e.0) es)) sids
-  told_sids es [] = refl
-  told_sids es (sid ∷ sids) = by (lookup (bytes_eq sid) es) (has_text sid (map (λ (e : List ℕ × X). e.0) es)) (key_found sid es) (told_sids es sids)
+  pub reported_sids : (es : List (List ℕ × X)) (sids : List (List ℕ)) → map (λ (p : Path). p.sid) (filter_map (at es) sids) ≡ filter (λ sid. has_text sid (map (λ (e : List ℕ × X). e.0) es)) sids
+  reported_sids es [] = refl
+  reported_sids es (sid ∷ sids) = by (lookup (bytes_eq sid) es) (has_text sid (map (λ (e : List ℕ × X). e.0) es)) (key_found sid es) (reported_sids es sids)
     where
       by : (o : Option X) (b : Bool) → option_map (λ (w : X). sid) o ≡ (if b then Some sid else None) → map (λ (p : Path). p.sid) (filter_map (at es) sids) ≡ filter (λ sid. has_text sid (map (λ (e : List ℕ × X). e.0) es)) sids
           → map (λ (p : Path). p.sid) (cons_option (option_map (λ (w : X). path_of (sid, w)) o) (filter_map (at es) sids))
@@ -115,8 +115,8 @@ module _ {X : Type 0} (path_of : List ℕ × X → Path) (is_of : (sid : List �
       by (Some w) false q rest = absurd (cc)
 
   -- if each session with an event has a walk, and no other, these are the sessions that are met
-  pub told_met : (es : List (List ℕ × X)) (m : KnownSessions) → ((sid : List ℕ) → has_text sid (map (λ (e : List ℕ × X). e.0) es) ≡ has_text sid m.events) → map (λ (p : Path). p.sid) (filter_map (at es) (all_sids m)) ≡ sids_met m
-  told_met es m h = told_sids es (all_sids m) ∙ (λ i. filter (λ sid. h sid i) (all_sids m))
+  pub reported_met : (es : List (List ℕ × X)) (m : KnownSessions) → ((sid : List ℕ) → has_text sid (map (λ (e : List ℕ × X). e.0) es) ≡ has_text sid m.events) → map (λ (p : Path). p.sid) (filter_map (at es) (all_sids m)) ≡ sids_met m
+  reported_met es m h = reported_sids es (all_sids m) ∙ (λ i. filter (λ sid. h sid i) (all_sids m))
 
 -- ---- the steps of a walk
 
@@ -179,36 +179,35 @@ module _ (r : Replay) (compiled : AreCompiled real r.schedule.graphs r.programs)
   pub can_walk : (c : Traces) → AreTraces r.schedule (run_of r).log c → c.programs ≡ r.programs → CanWalkAll c
   can_walk c are same = have_steps c.traces (trace_paths c are same)
 
-  all_mapped : (es : List (List ℕ × Trace)) → AllByRecursion (λ (e : List ℕ × Trace). IsPath r (path_of_trace e)) es → AllByRecursion (IsPath r) (map path_of_trace es)
-  all_mapped [] h = tt
-  all_mapped (e ∷ es) h = (h.0, all_mapped es h.1)
+  all_explained : (es : List (List ℕ × Trace)) → AllByRecursion (λ (e : List ℕ × Trace). IsPath r (path_of_trace e)) es
+      → AllByRecursion (λ (w : List ℕ × List StoredStep). OnePath (graph_of r w.0) (honest_in r w.0) (events_of w.0 (run_of r).log) w.1) (map sid_and_walk es)
+  all_explained [] h = tt
+  all_explained (e ∷ es) h = (h.0.path, all_explained es h.1)
 
-  sids_mapped : (es : List (List ℕ × Trace)) → map (λ (p : Path). p.sid) (map path_of_trace es) ≡ map (λ (e : List ℕ × Trace). e.0) es
-  sids_mapped [] = refl
-  sids_mapped (e ∷ es) = ap (λ (z : List (List ℕ)). e.0 ∷ z) (sids_mapped es)
+  sids_beside : (es : List (List ℕ × Trace)) → map (λ (w : List ℕ × List StoredStep). w.0) (map sid_and_walk es) ≡ map (λ (e : List ℕ × Trace). e.0) es
+  sids_beside [] = refl
+  sids_beside (e ∷ es) = ap (λ (z : List (List ℕ)). e.0 ∷ z) (sids_beside es)
 
   -- the walks of all sessions with an event, in the order of their first events
-  pub walks_made : (c : Traces) → AreTraces r.schedule (run_of r).log c → c.programs ≡ r.programs → (count : ℕ) → count ≡ length c.traces → WalksAreMade r count
-  walks_made c are same count many = record {
-    paths = map path_of_trace c.traces;
-    each = all_mapped c.traces (trace_paths c are same);
-    sids = sids_mapped c.traces ∙ are.sids;
-    many = many ∙ sym (length-map c.traces path_of_trace);
-  }
+  pub walks_made : (c : Traces) → AreTraces r.schedule (run_of r).log c → c.programs ≡ r.programs → (walks : List (List ℕ × List StoredStep)) → walks ≡ map sid_and_walk c.traces → WalksAreMade r walks
+  walks_made c are same walks is = subst (WalksAreMade r) (sym is) (record {
+    sids = sids_beside c.traces ∙ are.sids;
+    each = all_explained c.traces (trace_paths c are same);
+  })
 
   -- the walks of all sessions with an event, in their order
   pub walks_written : (c : Traces) → AreTraces r.schedule (run_of r).log c → c.programs ≡ r.programs → (old new : List ℕ)
       → new ≡ old ++ flat_map (path_line (met (account r))) (filter_map (path_at c) (all_sids (met (account r)))) → WalksAreWritten r old new
   walks_written c are same old new text = record {
     paths = filter_map (path_at c) (all_sids (met (account r)));
-    each = told_paths path_of_trace (λ sid w. refl) r c.traces (trace_paths c are same) (all_sids (met (account r)));
-    sids = told_met path_of_trace (λ sid w. refl) c.traces (met (account r)) (λ sid. ap (has_text sid) are.sids ∙ has_text-firsts sid (sids_of (run_of r).log));
+    each = reported_paths path_of_trace (λ sid w. refl) r c.traces (trace_paths c are same) (all_sids (met (account r)));
+    sids = reported_met path_of_trace (λ sid w. refl) c.traces (met (account r)) (λ sid. ap (has_text sid) are.sids ∙ has_text-firsts sid (sids_of (run_of r).log));
     text = text;
   }
 
--- if so many walks are made as there are traces
-pub made_ok : {E : Type 0} {P : ℕ → Type 0} {n : ℕ} (res : Result ℕ E) → ((count : ℕ) → count ≡ n → P count) → IfOk res (λ count. count ≡ n) → IfOk res P
-made_ok (Ok count) f h = f count h
+-- of what is given, one thing follows from another
+pub made_ok : {V E : Type 0} {P Q : V → Type 0} (res : Result V E) → ((v : V) → P v → Q v) → IfOk res P → IfOk res Q
+made_ok (Ok v) f h = f v h
 made_ok (Err e) f h = tt
 
 -- what a trace's walk gives explains the session
@@ -232,12 +231,12 @@ found_can_walk sid (e ∷ es) c h q = by (bytes_eq sid e.0) q (found_can_walk si
     by true q rest = subst (λ (z : Trace). HasSteps z.graph (steps_of_trace z)) (same_Some e.1 c q) h.0
     by false q rest = rest q
 
-none_taken : (i : ℕ) → take {A = List ℕ} i [] ++ [] ≡ []
+none_taken : {A : Type 0} (i : ℕ) → take {A = A} i [] ++ [] ≡ []
 none_taken zero = refl
 none_taken (suc i) = refl
 
-next_taken : (xs : List (List ℕ)) (i : ℕ) → take (i + 1) xs ≡ take i xs ++ option_to_list (slice_get xs i)
-next_taken [] i = (let q : i + 1 ≡ suc i = omega arith in ap (λ n. take {A = List ℕ} n []) q) ∙ sym (none_taken i)
+next_taken : {A : Type 0} (xs : List A) (i : ℕ) → take (i + 1) xs ≡ take i xs ++ option_to_list (slice_get xs i)
+next_taken {A = A} [] i = (let q : i + 1 ≡ suc i = omega arith in ap (λ n. take {A = A} n []) q) ∙ sym (none_taken i)
 next_taken (x ∷ xs) zero = refl
 next_taken (x ∷ xs) (suc i) = (let q : suc i + 1 ≡ suc (i + 1) = omega arith in ap (λ n. take n (x ∷ xs)) q) ∙ ap (λ z. x ∷ z) (next_taken xs i)
 
@@ -254,3 +253,22 @@ walk_more f g xs i old mid new before more =
 pub all_walks : (m : KnownSessions) (f : Path → List ℕ) (g : List ℕ → Option Path) (i : ℕ) (old new : List ℕ) → new ≡ old ++ flat_map f (filter_map g (take i (all_sids m))) → i ≡ length (naming 120 m).names → new ≡ old ++ flat_map f (filter_map g (all_sids m))
 all_walks m f g i old new h l =
     h ∙ ap (λ n. old ++ flat_map f (filter_map g (take n (all_sids m)))) (l ∙ length-map (all_sids m) (λ (sid : List ℕ). (sid, session_name 120 m sid))) ∙ ap (λ z. old ++ flat_map f (filter_map g z)) (take-length (all_sids m))
+
+-- ---- made one after another
+
+-- one more walk is made
+pub walk_added : (old new : List (List ℕ × StoredWalk)) (o : Option (List ℕ × Trace)) (sid : List ℕ) (w : StoredWalk) (c : Trace) → new ≡ old ++ (sid, w) ∷ [] → steps_of w ≡ steps_of_trace c → Some (sid, c) ≡ o
+    → map sid_and_steps new ≡ map sid_and_steps old ++ map sid_and_walk (option_to_list o)
+walk_added old new o sid w c is steps at =
+    ap (map sid_and_steps) is ∙ map-append sid_and_steps old ((sid, w) ∷ []) ∙ ap (λ (s : List StoredStep). map sid_and_steps old ++ (sid, s) ∷ []) steps
+    ∙ ap (λ (z : Option (List ℕ × Trace)). map sid_and_steps old ++ map sid_and_walk (option_to_list z)) at
+
+-- so are those of one more trace
+pub more_made : (es : List (List ℕ × Trace)) (i : ℕ) (mid new : List (List ℕ × List StoredStep)) → mid ≡ map sid_and_walk (take i es) → new ≡ mid ++ map sid_and_walk (option_to_list (slice_get es i)) → new ≡ map sid_and_walk (take (i + 1) es)
+more_made es i mid new before more =
+    more ∙ ap (λ t. t ++ map sid_and_walk (option_to_list (slice_get es i))) before
+    ∙ sym (ap (map sid_and_walk) (next_taken es i) ∙ map-append sid_and_walk (take i es) (option_to_list (slice_get es i)))
+
+-- and those of all
+pub all_made : (es : List (List ℕ × Trace)) (i : ℕ) (walks : List (List ℕ × List StoredStep)) → walks ≡ map sid_and_walk (take i es) → i ≡ length es → walks ≡ map sid_and_walk es
+all_made es i walks h l = h ∙ ap (λ n. map sid_and_walk (take n es)) l ∙ ap (map sid_and_walk) (take-length es)

@@ -17,7 +17,7 @@ use Rattle.sg_protocol.specs.Texts.{real, graph_text_of}
 use Rattle.sg_protocol.specs.World.{Logged, World}
 use Rattle.sg_world.specs.Faults.{IsAdmitted, IsFull}
 use Rattle.sg_world.specs.Holds.{Holds, schedule_of}
-use Rattle.sg_world.specs.Kept.{Recorded, Taken}
+use Rattle.sg_world.specs.RecordModel.{Recorded, TakenStep}
 use Rattle.sg_world.specs.Indices.{IsIndexOf}
 use Rattle.sg_world.specs.Replay.{Replay, without_steps, with_taken, run_of, size_of, stepped}
 use Rattle.sg_world.specs.Setting.{Setting}
@@ -76,9 +76,9 @@ size_after rep new d nodes r x is h step taken small =
     omega (arith, more, after, there, sized, small)
 
 -- what is reported of the last step
-pub last_told : (rep : Replay) (d : Setting) (nodes : List Named) (r : Recorded) → replay d nodes r ≡ rep → Holds d nodes r → option_map (λ (e : Taken). e.told) (last r.entries) ≡ option_map {U = Option Reported} Some (last (reported_log (run_of rep).log))
-last_told rep d nodes r is h =
-    sym (last-option_map (λ (e : Taken). e.told) r.entries) ∙ ap (λ (z : List (Option Reported)). last z) h.run.told ∙ last-option_map (λ (t : Reported). Some t) (reported_log (run_of (replay d nodes r)).log)
+pub last_reported : (rep : Replay) (d : Setting) (nodes : List Named) (r : Recorded) → replay d nodes r ≡ rep → Holds d nodes r → option_map (λ (e : TakenStep). e.reported) (last r.entries) ≡ option_map {U = Option Reported} Some (last (reported_log (run_of rep).log))
+last_reported rep d nodes r is h =
+    sym (last-option_map (λ (e : TakenStep). e.reported) r.entries) ∙ ap (λ (z : List (Option Reported)). last z) h.run.reported ∙ last-option_map (λ (t : Reported). Some t) (reported_log (run_of (replay d nodes r)).log)
     ∙ ap (λ (z : Replay). option_map {U = Option Reported} Some (last (reported_log (run_of z).log))) is
 
 -- what was noted in each step
@@ -86,24 +86,24 @@ pub noted : (rep : Replay) (d : Setting) (nodes : List Named) (r : Recorded) →
 noted rep d nodes r is h = h.run.notes ∙ ap (λ (z : Replay). map (λ (l : Logged). l.notes) (run_of z).log) is
 
 -- as much is reported as steps were taken
-pub told_many : (rep : Replay) (d : Setting) (nodes : List Named) (r : Recorded) → replay d nodes r ≡ rep → Holds d nodes r → length r.entries ≡ length (reported_log (run_of rep).log)
-told_many rep d nodes r is h =
-    sym (length-map r.entries (λ (e : Taken). e.told)) ∙ ap (λ (z : List (Option Reported)). length z) h.run.told ∙ length-map (reported_log (run_of (replay d nodes r)).log) (λ (t : Reported). Some t)
+pub reported_many : (rep : Replay) (d : Setting) (nodes : List Named) (r : Recorded) → replay d nodes r ≡ rep → Holds d nodes r → length r.entries ≡ length (reported_log (run_of rep).log)
+reported_many rep d nodes r is h =
+    sym (length-map r.entries (λ (e : TakenStep). e.reported)) ∙ ap (λ (z : List (Option Reported)). length z) h.run.reported ∙ length-map (reported_log (run_of (replay d nodes r)).log) (λ (t : Reported). Some t)
     ∙ ap (λ (z : Replay). length (reported_log (run_of z).log)) is
 
 -- what is reported of the step at an index
-same_at : (es : List Taken) (ts : List Reported) (i : ℕ) (e : Taken) → map (λ (e : Taken). e.told) es ≡ map Some ts → slice_get es i ≡ Some e → e.told ≡ slice_get ts i
+same_at : (es : List TakenStep) (ts : List Reported) (i : ℕ) (e : TakenStep) → map (λ (e : TakenStep). e.reported) es ≡ map Some ts → slice_get es i ≡ Some e → e.reported ≡ slice_get ts i
 same_at [] ts i e h q = absurd (cc)
 same_at (x ∷ es) [] i e h q = absurd (cc)
 same_at (x ∷ es) (t ∷ ts) zero e h q = cc
 same_at (x ∷ es) (t ∷ ts) (suc i) e h q = same_at es ts i e (cc) q
 
-pub told_at : (rep : Replay) (d : Setting) (nodes : List Named) (r : Recorded) → replay d nodes r ≡ rep → Holds d nodes r → (i : ℕ) (e : Taken) → slice_get r.entries i ≡ Some e → e.told ≡ slice_get (reported_log (run_of rep).log) i
-told_at rep d nodes r is h i e q = same_at r.entries (reported_log (run_of (replay d nodes r)).log) i e h.run.told q ∙ ap (λ (z : Replay). slice_get (reported_log (run_of z).log) i) is
+pub reported_at : (rep : Replay) (d : Setting) (nodes : List Named) (r : Recorded) → replay d nodes r ≡ rep → Holds d nodes r → (i : ℕ) (e : TakenStep) → slice_get r.entries i ≡ Some e → e.reported ≡ slice_get (reported_log (run_of rep).log) i
+reported_at rep d nodes r is h i e q = same_at r.entries (reported_log (run_of (replay d nodes r)).log) i e h.run.reported q ∙ ap (λ (z : Replay). slice_get (reported_log (run_of z).log) i) is
 
 -- and so by a list that is the record's
-pub told_here : (rep : Replay) (d : Setting) (nodes : List Named) (r : Recorded) → replay d nodes r ≡ rep → Holds d nodes r → (es : List Taken) → es ≡ r.entries → (i : ℕ) (e : Taken) → i < length rep.schedule.steps → e ≡ get_or es i e
-    → e.told ≡ slice_get (reported_log (run_of rep).log) i
-told_here rep d nodes r is h es same i e below at =
-    let many : length rep.schedule.steps ≡ length r.entries = sym (ap (λ (z : Replay). length z.schedule.steps) is) ∙ length-map r.entries (λ (t : Taken). t.step) in
-    told_at rep d nodes r is h i e (slice_get_read r.entries (length rep.schedule.steps) i e many below (at ∙ ap (λ (ts : List Taken). get_or ts i e) same))
+pub reported_here : (rep : Replay) (d : Setting) (nodes : List Named) (r : Recorded) → replay d nodes r ≡ rep → Holds d nodes r → (es : List TakenStep) → es ≡ r.entries → (i : ℕ) (e : TakenStep) → i < length rep.schedule.steps → e ≡ get_or es i e
+    → e.reported ≡ slice_get (reported_log (run_of rep).log) i
+reported_here rep d nodes r is h es same i e below at =
+    let many : length rep.schedule.steps ≡ length r.entries = sym (ap (λ (z : Replay). length z.schedule.steps) is) ∙ length-map r.entries (λ (t : TakenStep). t.step) in
+    reported_at rep d nodes r is h i e (slice_get_read r.entries (length rep.schedule.steps) i e many below (at ∙ ap (λ (ts : List TakenStep). get_or ts i e) same))

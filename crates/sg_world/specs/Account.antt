@@ -28,7 +28,7 @@ variable_refused other = None
 
 -- the graph by which a line names its numbers: that of its call. If this one doesn't have the variable for which an act was refused, it is the first graph that has it
 abbrev pub graph_reported : List Graph → Option Graph → Reported → Option Graph
-graph_reported graphs g told = option_map_or (λ x. find (λ h. nat_lt x (length h.variables)) (option_to_list g ++ graphs)) (variable_refused told) g
+graph_reported graphs g reported = option_map_or (λ x. find (λ h. nat_lt x (length h.variables)) (option_to_list g ++ graphs)) (variable_refused reported) g
 
 -- the line of an entry of which this is reported
 abbrev pub line_of_entry : Replay → Logged × Reported → StepLine
@@ -36,7 +36,7 @@ line_of_entry r e = record {
   who = e.0.who;
   session = session_reported (option_and_then sid_left e.0.call) e.1;
   graph = graph_reported r.schedule.graphs (graph_of_entry r.programs r.schedule e.0) e.1;
-  told = e.1;
+  reported = e.1;
 }
 
 -- a line for each entry

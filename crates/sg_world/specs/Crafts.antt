@@ -12,8 +12,8 @@ use Rattle.sg_protocol.specs.Texts.{real, session_id}
 use Rattle.sg_protocol.specs.World.{World, frames}
 use Rattle.sg_craft.specs.Means.{CanBeMade}
 use Rattle.sg_report.specs.Reported.{Crafted}
-use Rattle.sg_world.specs.Comes.{ComesAt}
-use Rattle.sg_world.specs.Kept.{StepResult}
+use Rattle.sg_world.specs.StepResults.{IsResultAt}
+use Rattle.sg_world.specs.RecordModel.{StepResult}
 use Rattle.sg_world.specs.Setting.{Setting}
 
 -- the craft's session is declared, the graph of its cast is there, and its frame can be made
@@ -37,19 +37,19 @@ abbrev pub Declares : Schedule → Setting → Type 0
 Declares s d = (s.graphs ≡ d.graphs) × (s.keys ≡ d.keys) × (s.sessions ≡ d.sessions)
 
 -- what a craft makes, if the frame has this number
-pub record ComesOfCraft (number : ℕ) (s : Schedule) (w : World) (x : Craft) (c : StepResult) : Type 0 where
-  pub told : c.told ≡ Some (Crafted number)
+pub record IsResultOfCraft (number : ℕ) (s : Schedule) (w : World) (x : Craft) (c : StepResult) : Type 0 where
+  pub reported : c.reported ≡ Some (Crafted number)
   pub graph : c.graph ≡ None
   pub frame : c.frame ≡ option_map spelling (crafted real s w x)
   pub notes : c.notes ≡ no_notes
 
 -- the step is a craft, of which this comes for each schedule that declares this and each run that recorded these frames
-pub record ComesOfCrafting (d : Setting) (recorded : List (List ℕ)) (x : Step) (c : StepResult) : Type 0 where
+pub record IsResultOfCrafting (d : Setting) (recorded : List (List ℕ)) (x : Step) (c : StepResult) : Type 0 where
   pub craft : Craft
   pub is_craft : x ≡ CraftStep craft
-  pub comes : (s : Schedule) (w : World) → Declares s d → frames w ≡ recorded → ComesOfCraft (length recorded + 1) s w craft c
+  pub comes : (s : Schedule) (w : World) → Declares s d → frames w ≡ recorded → IsResultOfCraft (length recorded + 1) s w craft c
 
 -- what comes of step k: at the node at its index; or, if it has none, of a craft, which leaves the nodes as they are
-abbrev pub ComesOfIndex : Setting → List (List ℕ) → ℕ → Step → Option ℕ → List (Name × NodeState) → List (Name × NodeState) → StepResult → Type 0
-ComesOfIndex d recorded k x None nodes now c = (now ≡ nodes) × ComesOfCrafting d recorded x c
-ComesOfIndex d recorded k x (Some index) nodes now c = ComesAt d.sessions recorded k x index nodes now c
+abbrev pub IsResultAtIndex : Setting → List (List ℕ) → ℕ → Step → Option ℕ → List (Name × NodeState) → List (Name × NodeState) → StepResult → Type 0
+IsResultAtIndex d recorded k x None nodes now c = (now ≡ nodes) × IsResultOfCrafting d recorded x c
+IsResultAtIndex d recorded k x (Some index) nodes now c = IsResultAt d.sessions recorded k x index nodes now c

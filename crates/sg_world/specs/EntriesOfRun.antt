@@ -8,22 +8,22 @@ use Rattle.sg_protocol.specs.Steps.{is_taken}
 use Rattle.sg_protocol.specs.Texts.{real}
 use Rattle.sg_protocol.specs.World.{World, Logged, call_of, frames}
 use Rattle.sg_report.specs.Reported.{reported_log, reported_outcome}
-use Rattle.sg_world.specs.Kept.{Taken}
+use Rattle.sg_world.specs.RecordModel.{TakenStep}
 
 -- the entries are those of the run of the schedule, each step of which was a craft or an honest principal's, and these are its frames
-pub record AreOfRun (programs : List Program) (s : Schedule) (entries : List Taken) (recorded : List (List ℕ)) : Type 0 where
+pub record AreOfRun (programs : List Program) (s : Schedule) (entries : List TakenStep) (recorded : List (List ℕ)) : Type 0 where
   pub steps : s.steps ≡ map (λ e. e.step) entries
   pub taken : list_all (is_taken s) s.steps ≡ true
-  pub told : map (λ e. e.told) entries ≡ map Some (reported_log (run real programs s).log)
+  pub reported : map (λ e. e.reported) entries ≡ map Some (reported_log (run real programs s).log)
   pub frames : recorded ≡ frames (run real programs s)
 
 -- the entry is of the log's step after these, which made its call in a world that had recorded the first of these frames
-pub record IsOfStep (s : Schedule) (before : List Logged) (l : Logged) (recorded : List (List ℕ)) (e : Taken) : Type 0 where
+pub record IsOfStep (s : Schedule) (before : List Logged) (l : Logged) (recorded : List (List ℕ)) (e : TakenStep) : Type 0 where
   pub world : World
   pub call : l.call ≡ call_of real s world (suc (length before)) e.step
   pub silent : l.call ≡ None → events_of_outcome l.outcome ≡ []
   pub number : ℕ
-  pub told : e.told ≡ Some (reported_outcome number l.outcome)
+  pub reported : e.reported ≡ Some (reported_outcome number l.outcome)
   pub last : World
   pub whole : frames last ≡ recorded
   pub later : List (List ℕ)

@@ -9,7 +9,7 @@ use Rattle.sg_protocol.specs.Run.{run}
 use Rattle.sg_protocol.specs.Schedule.{Schedule}
 use Rattle.sg_protocol.specs.Steps.{is_taken}
 use Rattle.sg_protocol.specs.Texts.{real}
-use Rattle.sg_world.specs.Kept.{Recorded, HoldsRun}
+use Rattle.sg_world.specs.RecordModel.{Recorded, HoldsRun}
 use Rattle.sg_world.specs.Setting.{Setting}
 
 -- the schedule so far. The honest principals are those that have a node

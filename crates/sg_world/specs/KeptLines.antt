@@ -7,15 +7,15 @@ use Rattle.sg_text.specs.Sessions.{KnownSessions}
 use Rattle.sg_report.specs.Report.{StepLine}
 use Rattle.sg_report.specs.Reported.{CanBeReported, event_reported, session_reported}
 use Rattle.sg_world.specs.Account.{declared_in, graph_reported}
-use Rattle.sg_world.specs.Kept.{Taken}
+use Rattle.sg_world.specs.RecordModel.{TakenStep}
 use Rattle.sg_world.specs.Setting.{Setting}
 
 -- the sid of the event that came of a step, if one did
-abbrev pub sid_kept : Taken → Option (List ℕ)
-sid_kept e = option_map sid_of (option_and_then event_reported e.told)
+abbrev pub sid_kept : TakenStep → Option (List ℕ)
+sid_kept e = option_map sid_of (option_and_then event_reported e.reported)
 
 -- the sessions that are declared, and those of the events of these steps
-abbrev pub met_in : List NamedSession → List Taken → KnownSessions
+abbrev pub met_in : List NamedSession → List TakenStep → KnownSessions
 met_in sessions entries = record { declared = declared_in sessions; events = filter_map sid_kept entries }
 
 -- the sid that a step gives up
@@ -24,9 +24,9 @@ left_by sessions (AbandonStep who n) = option_map (λ d. session_id real d.cast)
 left_by sessions other = None
 
 -- the line of a step that was taken
-abbrev pub line_kept : Setting → Taken → Option StepLine
-line_kept d e = option_map (λ told. record { who = who_of e.step; session = session_reported (left_by d.sessions e.step) told; graph = graph_reported d.graphs e.graph told; told = told }) e.told
+abbrev pub line_kept : Setting → TakenStep → Option StepLine
+line_kept d e = option_map (λ reported. record { who = who_of e.step; session = session_reported (left_by d.sessions e.step) reported; graph = graph_reported d.graphs e.graph reported; reported = reported }) e.reported
 
 -- the line can be written
-abbrev pub CanBeWritten : Setting → Taken → Type 0
-CanBeWritten d e = IfSome (line_kept d e) (λ l. CanBeReported l.graph l.told)
+abbrev pub CanBeWritten : Setting → TakenStep → Type 0
+CanBeWritten d e = IfSome (line_kept d e) (λ l. CanBeReported l.graph l.reported)

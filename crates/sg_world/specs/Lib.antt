@@ -3,8 +3,8 @@ pub mod Pairs
 pub mod Entries
 pub mod Faults
 pub mod Representation
-pub mod Kept
-pub mod Comes
+pub mod RecordModel
+pub mod StepResults
 pub mod Setting
 pub mod Crafts
 pub mod Recording

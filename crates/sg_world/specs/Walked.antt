@@ -1,5 +1,5 @@
 -- The walks of the sessions of a replay, and why a session has none.
-use Rattle.std.specs.Prelude.{◌≡◌, ◌≢◌, ℕ, List, [], ◌++◌, map, flat_map, length, Option, option_map}
+use Rattle.std.specs.Prelude.{◌≡◌, ◌≢◌, ℕ, List, [], ◌++◌, map, flat_map, Option, option_map}
 use Rattle.std.specs.List.{AllByRecursion}
 use Rattle.sg_certify.specs.Traces.{Trace, Traces}
 use Rattle.sg_certify.specs.Runs.{trace_at}
@@ -14,6 +14,8 @@ use Rattle.sg_protocol.specs.Run.{events_of}
 use Rattle.sg_protocol.specs.Texts.{real}
 use Rattle.sg_protocol.specs.Walk.{StoredStep, OnePath}
 use Rattle.sg_report.specs.Report.{met, name_in}
+use Rattle.sg_walk.specs.Model.{steps_of}
+use Rattle.sg_walk.specs.declared.stored.StoredWalk.{StoredWalk}
 use Rattle.sg_world.specs.Account.{account, graph_of, honest_in}
 use Rattle.sg_world.specs.Replay.{Replay, run_of}
 use Rattle.sg_world.specs.declared.session_walk.WalkFault.{WalkFault}
@@ -57,18 +59,24 @@ pub record WalksAreWritten (r : Replay) (old new : List ℕ) : Type 0 where
   pub sids : map (λ p. p.sid) paths ≡ sids_met (met (account r))
   pub text : new ≡ old ++ flat_map (path_line (met (account r))) paths
 
--- `count` sessions have an event, and each of them has a walk that explains it, in the order of their first events
-pub record WalksAreMade (r : Replay) (count : ℕ) : Type 0 where
-  pub paths : List Path
-  pub each : AllByRecursion (IsPath r) paths
-  pub sids : map (λ p. p.sid) paths ≡ firsts (map sid_of (account r).events)
-  pub many : count ≡ length paths
+-- a session's identifier and the steps of its walk
+abbrev pub sid_and_steps : List ℕ × StoredWalk → List ℕ × List StoredStep
+sid_and_steps w = (w.0, steps_of w.1)
+
+-- these are the sessions with an event, in the order of their first events, each beside the steps of a walk that explains it
+pub record WalksAreMade (r : Replay) (walks : List (List ℕ × List StoredStep)) : Type 0 where
+  pub sids : map (λ (w : List ℕ × List StoredStep). w.0) walks ≡ firsts (map sid_of (account r).events)
+  pub each : AllByRecursion (λ (w : List ℕ × List StoredStep). OnePath (graph_of r w.0) (honest_in r w.0) (events_of w.0 (run_of r).log) w.1) walks
 
 -- ---- walks that are made
 
 -- the steps of a trace's walk
 abbrev pub steps_of_trace : Trace → List StoredStep
 steps_of_trace c = explaining_walk c.graph (λ role. is_in role c.honest) [] c.shown
+
+-- a session's identifier and the steps of its trace's walk
+abbrev pub sid_and_walk : List ℕ × Trace → List ℕ × List StoredStep
+sid_and_walk e = (e.0, steps_of_trace e.1)
 
 -- the walk of a session's trace
 abbrev pub path_of_trace : List ℕ × Trace → Path

@@ -2,7 +2,7 @@
 //!
 //! What comes of it is long, so it is made once, as if there were no frame to deliver, and each function writes over it.
 //! What few steps do is `cold`: it stands apart, so that the code of the others, the acts and the receipts, is short.
-ghost use Rattle.std.specs.Prelude.{◌≡◌, ◌↔◌, ◌⊎◌, ℕ, ◌+◌, ◌<◌, ◌^◌, length, map, Ok, option_map, IfOk, IsErr, IsTrue, OnErr, OnOk};
+ghost use Rattle.std.specs.Prelude.{◌≡◌, ◌≢◌, ◌↔◌, ℕ, ◌+◌, ◌<◌, ◌^◌, length, map, Ok, option_map, IfOk, IsErr, IsTrue, OnErr, OnOk};
 ghost use Rattle.std.specs.List.{AllByRecursion};
 ghost use Rattle.sg_model.specs.Bytes.{AreBytes};
 ghost use Rattle.sg_protocol.specs.Calls.{Start, Act, Abandon, Deliver};
@@ -16,8 +16,8 @@ ghost use Rattle.sg_protocol.specs.Spelling.{SpellsFrame};
 ghost use Rattle.sg_protocol.specs.World.{World, frames, bytes_of};
 ghost use Rattle.sg_sched.specs.Format.StepsHeld.{step_of, what_of};
 ghost use Rattle.sg_walk.specs.Model.{values_of};
-ghost use Rattle.sg_world.specs.Comes.{Comes, ComesOfCall, ComesOfStep, IsNamed, changed_to};
-ghost use Rattle.sg_world.specs.Kept.{no_frame};
+ghost use Rattle.sg_world.specs.StepResults.{IsResult, IsResultOfCall, IsResultOfStep, IsNamed, changed_to};
+ghost use Rattle.sg_world.specs.RecordModel.{no_frame};
 
 use crate::record::StepResult;
 use crate::setting::Setting;
@@ -45,7 +45,7 @@ pub(crate) fn call<'p>(
     requires named { IsNamed (length setting.now.sessions) (step_of step.now) }
     requires few { length recorded.now + 1 < 2 ^ 32 }
     requires blank { step_result.old ≡ no_frame }
-    ensures comes { OnOk result (ComesOfStep setting.now.sessions recorded.now number (step_of step.now) node.old node.new step_result.new) }
+    ensures comes { OnOk result (IsResultOfStep setting.now.sessions recorded.now number (step_of step.now) node.old node.new step_result.new) }
     ensures back { OnErr result (node.new ≡ node.old) }
 {
     match step {
@@ -92,7 +92,7 @@ fn start<'p>(
     step_result: &mut StepResult<'p>,
 ) -> Result<(), OutOfMemory>
     requires blank { step_result.old ≡ no_frame }
-    ensures comes { (number : ℕ) (past : Past) → RepresentsPast node.old past → OnOk result (ComesOfCall number node.old node.new past (Start cast) step_result.new) }
+    ensures comes { (number : ℕ) (past : Past) → RepresentsPast node.old past → OnOk result (IsResultOfCall number node.old node.new past (Start cast) step_result.new) }
     ensures back { OnErr result (node.new ≡ node.old) }
 {
     facts_of_cast(&cast);
@@ -132,7 +132,7 @@ fn act<'p>(
     requires bytes { AllByRecursion (AreBytes 16) confounders.now }
     requires blank { step_result.old ≡ no_frame }
     ensures comes { (past : Past) → RepresentsPast node.old past
-        → OnOk result (ComesOfCall frame node.old node.new past (Act sid label (values_of values.now) confounders.now) step_result.new) }
+        → OnOk result (IsResultOfCall frame node.old node.new past (Act sid label (values_of values.now) confounders.now) step_result.new) }
     ensures back { OnErr result (node.new ≡ node.old) }
 {
     step_result.graph = node.graph_of(&sid);
@@ -161,13 +161,14 @@ fn tight(mut bytes: Vec<u8>) -> Vec<u8>
     bytes
 }
 
-// Memory ran out.
+// Memory ran out. A node never says so inside another fault.
 fn is_act_memory(fault: &ActFault) -> bool
-    ensures { IsTrue result ↔ ((fault.now ≡ ActFault.OutOfMemory) ⊎ (fault.now ≡ ActFault.Send SendFault.OutOfMemory)) }
+    requires { fault.now ≢ ActFault.Send SendFault.OutOfMemory }
+    ensures { IsTrue result ↔ (fault.now ≡ ActFault.OutOfMemory) }
 {
     match fault {
         ActFault::OutOfMemory => true,
-        ActFault::Send(SendFault::OutOfMemory) => true,
+        ActFault::Send(SendFault::OutOfMemory) => unreachable!(),
         _ => false,
     }
 }
@@ -176,7 +177,7 @@ fn is_act_memory(fault: &ActFault) -> bool
 #[cold]
 fn abandon<'p>(node: &mut Node<'p>, sid: Sid, step_result: &mut StepResult<'p>)
     requires { step_result.old ≡ no_frame }
-    ensures { (number : ℕ) (past : Past) → RepresentsPast node.old past → ComesOfCall number node.old node.new past (Abandon sid) step_result.new }
+    ensures { (number : ℕ) (past : Past) → RepresentsPast node.old past → IsResultOfCall number node.old node.new past (Abandon sid) step_result.new }
 {
     step_result.graph = node.graph_of(&sid);
     match node.abandon(sid) {
@@ -195,7 +196,7 @@ fn deliver_what<'p>(
 ) -> Result<(), OutOfMemory>
     requires blank { step_result.old ≡ no_frame }
     ensures comes { (number : ℕ) (w : World) (past : Past) → frames w ≡ recorded.now → RepresentsPast node.old past
-        → OnOk result (Comes number node.old node.new past (option_map Deliver (bytes_of w (what_of what.now))) step_result.new) }
+        → OnOk result (IsResult number node.old node.new past (option_map Deliver (bytes_of w (what_of what.now))) step_result.new) }
     ensures back { OnErr result (node.new ≡ node.old) }
 {
     match what {
@@ -217,7 +218,7 @@ fn deliver_frame<'p>(
 ) -> Result<(), OutOfMemory>
     requires blank { step_result.old ≡ no_frame }
     ensures comes { (number : ℕ) (past : Past) → RepresentsPast node.old past
-        → OnOk result (ComesOfCall number node.old node.new past (Deliver (changed_to change frame.now)) step_result.new) }
+        → OnOk result (IsResultOfCall number node.old node.new past (Deliver (changed_to change frame.now)) step_result.new) }
     ensures back { OnErr result (node.new ≡ node.old) }
 {
     match change {
@@ -238,7 +239,7 @@ fn deliver<'p>(
     step_result: &mut StepResult<'p>,
 ) -> Result<(), OutOfMemory>
     requires blank { step_result.old ≡ no_frame }
-    ensures comes { (number : ℕ) (past : Past) → RepresentsPast node.old past → OnOk result (ComesOfCall number node.old node.new past (Deliver bytes.now) step_result.new) }
+    ensures comes { (number : ℕ) (past : Past) → RepresentsPast node.old past → OnOk result (IsResultOfCall number node.old node.new past (Deliver bytes.now) step_result.new) }
     ensures back { OnErr result (node.new ≡ node.old) }
 {
     match decode(alloc, bytes) {
@@ -258,7 +259,7 @@ fn deliver_read<'p>(
     requires spelled { SpellsFrame bytes.now frame.now }
     requires read { read bytes.now ≡ Ok frame.now }
     requires blank { step_result.old ≡ no_frame }
-    ensures comes { (number : ℕ) (past : Past) → RepresentsPast node.old past → OnOk result (ComesOfCall number node.old node.new past (Deliver bytes.now) step_result.new) }
+    ensures comes { (number : ℕ) (past : Past) → RepresentsPast node.old past → OnOk result (IsResultOfCall number node.old node.new past (Deliver bytes.now) step_result.new) }
     ensures back { OnErr result (node.new ≡ node.old) }
 {
     facts_of_bytes(bytes);
@@ -285,7 +286,7 @@ fn deliver_malformed<'p>(
 ) -> Result<(), OutOfMemory>
     requires malformed { IsErr (read bytes.now) }
     requires blank { step_result.old ≡ no_frame }
-    ensures comes { (number : ℕ) (past : Past) → RepresentsPast node.old past → OnOk result (ComesOfCall number node.old node.new past (Deliver bytes.now) step_result.new) }
+    ensures comes { (number : ℕ) (past : Past) → RepresentsPast node.old past → OnOk result (IsResultOfCall number node.old node.new past (Deliver bytes.now) step_result.new) }
     ensures back { OnErr result (node.new ≡ node.old) }
 {
     facts_of_bytes(bytes);

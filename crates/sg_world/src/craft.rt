@@ -3,8 +3,8 @@ ghost use Rattle.std.specs.Prelude.{◌≡◌, ◌+◌, ◌<◌, ◌^◌, length
 ghost use Rattle.sg_protocol.specs.Schedule.{Schedule, who_of};
 ghost use Rattle.sg_protocol.specs.World.{World, frames};
 ghost use Rattle.sg_sched.specs.Format.StepsHeld.{step_of};
-ghost use Rattle.sg_world.specs.Crafts.{CanBeCrafted, ComesOfCraft, ComesOfCrafting, Declares, IsCraftable};
-ghost use Rattle.sg_world.specs.Kept.{no_frame};
+ghost use Rattle.sg_world.specs.Crafts.{CanBeCrafted, IsResultOfCraft, IsResultOfCrafting, Declares, IsCraftable};
+ghost use Rattle.sg_world.specs.RecordModel.{no_frame};
 
 use crate::call::next_frame;
 use crate::record::StepResult;
@@ -28,7 +28,7 @@ pub(crate) fn craft<'p>(
     requires can { IsCraftable setting.now (step_of step.now) }
     requires few { length recorded.now + 1 < 2 ^ 32 }
     requires blank { step_result.old ≡ no_frame }
-    ensures { OnOk result (ComesOfCrafting setting.now recorded.now (step_of step.now) step_result.new) }
+    ensures { OnOk result (IsResultOfCrafting setting.now recorded.now (step_of step.now) step_result.new) }
 {
     let Step::Craft(wanted) = step else {
         unreachable!();
@@ -48,7 +48,7 @@ fn craft_frame<'p>(
     requires few { length recorded.now + 1 < 2 ^ 32 }
     requires blank { step_result.old ≡ no_frame }
     ensures { (s : Schedule) (w : World) → Declares s setting.now → frames w ≡ recorded.now
-        → OnOk result (ComesOfCraft (length recorded.now + 1) s w wanted.now step_result.new) }
+        → OnOk result (IsResultOfCraft (length recorded.now + 1) s w wanted.now step_result.new) }
 {
     let cast = setting.cast(wanted.session);
     let sid = setting.sid(wanted.session);

@@ -17,7 +17,7 @@
 //! recorded. Nothing after the call needs memory, so a step that finds none leaves the world as it was.
 //!
 //! Where the proof stands: `proofs/Goes.antt` has one more step of a run in the nodes and the record, by what comes of it, which
-//! `specs/Comes.antt` says of a call and `specs/Crafts.antt` of a craft; `proofs/Next.antt` and `proofs/Crafting.antt` have all that holds
+//! `specs/StepResults.antt` says of a call and `specs/Crafts.antt` of a craft; `proofs/Next.antt` and `proofs/Crafting.antt` have all that holds
 //! with one more step, `proofs/Begins.antt` that of no step; `proofs/EntryGraphs.antt`, that the graphs of steps stay as they are.
 //!
 //! A graph is found by its digest among the programs, by the program of its first role: the graphs of a schedule have two roles or more.

@@ -28,7 +28,7 @@ pub(crate) fn put_lines<'p>(
     entries: &[TakenStep<'p>],
 ) -> Result<(), OutOfMemory>
     requires few { length entries.now < 2 ^ 32 }
-    requires told { All (CanBeWritten setting.now) entries.now }
+    requires reported { All (CanBeWritten setting.now) entries.now }
     ensures { (m : KnownSessions) (ls : List StepLine) → names.now ≡ naming 120 m → map (line_kept setting.now) entries.now ≡ map {B = Option StepLine} Some ls → OnOk result (out.new ≡ out.old ++ lines_from m 1 ls) }
 {
     let mut number: u32 = 0;
@@ -85,7 +85,7 @@ fn name_in(names: &SessionNames, session: &Option<Sid>) -> Option<Name>
 
 // The session that the line names, if it names one.
 fn session_for<'p>(setting: &Setting<'p>, step: &Step, outcome: &Outcome) -> Option<Sid>
-    ensures { IfSome (outcome_of outcome.now) (λ told. result ≡ session_reported (left_by setting.now.sessions (step_of step.now)) told) }
+    ensures { IfSome (outcome_of outcome.now) (λ reported. result ≡ session_reported (left_by setting.now.sessions (step_of step.now)) reported) }
 {
     match outcome {
         Outcome::Abandoned => left(setting, step),
@@ -112,7 +112,7 @@ fn graph_for<'a>(
     graphs: &'a [Graph],
     outcome: &Outcome,
 ) -> Option<&'a Graph>
-    ensures { IfSome (outcome_of outcome.now) (λ told. option_copied result ≡ graph_reported graphs.now (option_copied of_call.entry) told) }
+    ensures { IfSome (outcome_of outcome.now) (λ reported. option_copied result ≡ graph_reported graphs.now (option_copied of_call.entry) reported) }
 {
     match refused(outcome) {
         Some(var) => first_with(of_call, graphs, var),
@@ -122,7 +122,7 @@ fn graph_for<'a>(
 
 // The variable for which an act was refused.
 fn refused(outcome: &Outcome) -> Option<Var>
-    ensures { IfSome (outcome_of outcome.now) (λ told. result ≡ variable_refused told) }
+    ensures { IfSome (outcome_of outcome.now) (λ reported. result ≡ variable_refused reported) }
 {
     match outcome {
         Outcome::NotActed(ActFault::Send(SendFault::BadValues { var })) => Some(*var),

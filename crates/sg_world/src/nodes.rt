@@ -5,8 +5,8 @@ ghost use Rattle.sg_protocol.specs.NodeStates.{NodeState, new_state};
 ghost use Rattle.sg_protocol.specs.World.{keyring_of};
 ghost use Rattle.sg_world.specs.Pairs.{ArePairs};
 ghost use Rattle.sg_sched.specs.Format.StepsHeld.{step_of};
-ghost use Rattle.sg_world.specs.Comes.{ComesAt, IsNamed};
-ghost use Rattle.sg_world.specs.Kept.{no_frame};
+ghost use Rattle.sg_world.specs.StepResults.{IsResultAt, IsNamed};
+ghost use Rattle.sg_world.specs.RecordModel.{no_frame};
 
 use crate::call::call;
 use crate::pairs::keyring;
@@ -77,7 +77,7 @@ pub(crate) fn call_at<'p>(
     requires named { IsNamed (length setting.now.sessions) (step_of step.now) }
     requires few { length recorded.now + 1 < 2 ^ 32 }
     requires blank { step_result.old ≡ no_frame }
-    ensures comes { OnOk result (ComesAt setting.now.sessions recorded.now number (step_of step.now) index nodes.old.entries nodes.new.entries step_result.new) }
+    ensures comes { OnOk result (IsResultAt setting.now.sessions recorded.now number (step_of step.now) index nodes.old.entries nodes.new.entries step_result.new) }
     ensures back { OnErr result (nodes.new.entries ≡ nodes.old.entries) }
 {
     call(

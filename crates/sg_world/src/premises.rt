@@ -1,5 +1,5 @@
 //! The two assumptions of a replay's run, tried on its record.
-ghost use Rattle.std.specs.Prelude.{◌≡◌, ◌≤◌, IfOk, IfErr, IfSome, OnOk, option_map};
+ghost use Rattle.std.specs.Prelude.{◌≡◌, ◌≤◌, ◌↔◌, [], length, Ok, None, IfOk, IfErr, IfSome, IsOk, IsTrue, OnOk, option_map};
 ghost use Rattle.sg_model.specs.Limits.{most_steps};
 ghost use Rattle.sg_protocol.specs.Broken.{first_forged, first_collision};
 ghost use Rattle.sg_protocol.specs.Premises.{hashed, Unforged, CollisionFree};
@@ -72,10 +72,11 @@ impl<'n, 'p> Honest for Principals<'n, 'p> {
 
 impl<'p> World<'p> {
     /// Whether no tag of two honest principals was forged so far: each text that was found right under a key of theirs had been tagged
-    /// in an earlier step. The fault names the first that had not.
+    /// in an earlier step. The fault names the first that had not. Before the first step it takes no memory.
     pub fn unforged(&self) -> Result<(), ForgedFault>
         ensures holds { OnOk result (Unforged self.now.schedule (run_of self.now)) }
         ensures forged { IfErr result (IsForgedFault self.now) }
+        ensures before_steps { self.now.schedule.steps ≡ [] → IsOk result }
     {
         let Ok(found) = self.forged() else {
             return Err(ForgedFault::OutOfMemory);
@@ -86,10 +87,12 @@ impl<'p> World<'p> {
         }
     }
 
-    /// Whether no two different texts that were hashed so far have one digest. The fault names the first two that have.
+    /// Whether no two different texts that were hashed so far, those of the graphs first, have one digest. The fault names the first two that
+    /// have. Before the first step it takes no memory, if there is one graph or none.
     pub fn collision_free(&self) -> Result<(), CollisionFault>
         ensures holds { OnOk result (CollisionFree real (hashed self.now.schedule (run_of self.now))) }
         ensures collision { IfErr result (IsCollisionFault self.now) }
+        ensures before_steps { self.now.schedule.steps ≡ [] → length self.now.schedule.graphs ≤ 1 → IsOk result }
     {
         let Ok(found) = self.collision() else {
             return Err(CollisionFault::OutOfMemory);
@@ -104,16 +107,38 @@ impl<'p> World<'p> {
     pub(crate) fn forged(&self) -> Result<Option<Forged<'_>>, OutOfMemory>
         ensures found { IfOk result (λ o. option_map (λ f. (f.step, f.note.now)) o ≡ first_forged self.now.schedule (run_of self.now)) }
         ensures step { IfOk result (λ o. IfSome o (λ f. f.step ≤ most_steps)) }
+        ensures before_steps { self.now.schedule.steps ≡ [] → result ≡ Ok None }
     {
+        if self.has_no_steps() {
+            return Ok(None);
+        }
         let honest = Principals { nodes: &self.nodes };
         first_forged(self.alloc, &honest, self.history.notes())
     }
 
     // The first two texts with one digest.
     pub(crate) fn collision(&self) -> Result<Option<Collision<'_>>, OutOfMemory>
-        ensures { IfOk result (λ o. option_map (λ c. (c.one.now, c.other.now)) o ≡ first_collision real (hashed self.now.schedule (run_of self.now))) }
+        ensures found { IfOk result (λ o. option_map (λ c. (c.one.now, c.other.now)) o ≡ first_collision real (hashed self.now.schedule (run_of self.now))) }
+        ensures before_steps { self.now.schedule.steps ≡ [] → length self.now.schedule.graphs ≤ 1 → result ≡ Ok None }
     {
+        if self.has_one_text() {
+            return Ok(None);
+        }
         first_collision(self.alloc, self.setting.texts(), self.history.notes())
+    }
+
+    // No step was taken so far.
+    fn has_no_steps(&self) -> bool
+        ensures { IsTrue result ↔ (length self.now.schedule.steps ≡ 0) }
+    {
+        self.len() == 0
+    }
+
+    // One text was hashed so far, that of the one graph, or none.
+    fn has_one_text(&self) -> bool
+        ensures { IsTrue result ↔ ((length self.now.schedule.steps ≡ 0) × (length self.now.schedule.graphs ≤ 1)) }
+    {
+        self.len() == 0 && self.setting.graphs().len() <= 1
     }
 }
 

@@ -4,7 +4,7 @@ ghost use Rattle.std.specs.Option.{option_map_or, option_to_list};
 ghost use Rattle.sg_model.specs.Last.{last};
 ghost use Rattle.sg_sched.specs.Format.StepsHeld.{step_of};
 ghost use Rattle.sg_report.specs.Outcome.{outcome_of};
-ghost use Rattle.sg_world.specs.Kept.{added_size, with_result};
+ghost use Rattle.sg_world.specs.RecordModel.{added_size, with_result};
 
 use sg_base::{OutOfMemory, Seq};
 use sg_crypt::{Hashed, Note, Notes};
@@ -26,16 +26,16 @@ pub(crate) struct StepResult<'p> {
 impl<'p> Model for StepResult<'p> {
     ghost use Rattle.std.specs.Option.{option_copied};
     ghost use Rattle.sg_report.specs.Outcome.{outcome_of};
-    ghost use Rattle.sg_world.specs.Kept.{StepResult};
+    ghost use Rattle.sg_world.specs.RecordModel.{StepResult};
 
     ghost Value = { StepResult };
 
-    ghost view = { λ c. record { told = outcome_of c.outcome; graph = option_copied c.graph; frame = c.frame; notes = c.notes } };
+    ghost view = { λ c. record { reported = outcome_of c.outcome; graph = option_copied c.graph; frame = c.frame; notes = c.notes } };
 }
 
 impl<'p> StepResult<'p> {
     ghost use Rattle.std.specs.Prelude.{Some};
-    ghost use Rattle.sg_world.specs.Kept.{no_frame};
+    ghost use Rattle.sg_world.specs.RecordModel.{no_frame};
 
     /// What comes of a delivery of a frame that isn't there. It takes no memory.
     pub fn no_frame(alloc: Global) -> StepResult<'p>
@@ -51,7 +51,7 @@ impl<'p> StepResult<'p> {
 
     /// Says the outcome of the step.
     pub fn set_outcome(&mut self, outcome: Outcome)
-        ensures { self.new ≡ record self.old { told = outcome_of outcome } }
+        ensures { self.new ≡ record self.old { reported = outcome_of outcome } }
     {
         self.outcome = outcome;
     }
@@ -76,11 +76,11 @@ impl<'p> Model for TakenStep<'p> {
     ghost use Rattle.std.specs.Option.{option_copied};
     ghost use Rattle.sg_sched.specs.Format.StepsHeld.{step_of};
     ghost use Rattle.sg_report.specs.Outcome.{outcome_of};
-    ghost use Rattle.sg_world.specs.Kept.{Taken};
+    ghost use Rattle.sg_world.specs.RecordModel.{TakenStep};
 
-    ghost Value = { Taken };
+    ghost Value = { TakenStep };
 
-    ghost view = { λ e. record { step = step_of e.step; told = outcome_of e.outcome; graph = option_copied e.graph } };
+    ghost view = { λ e. record { step = step_of e.step; reported = outcome_of e.outcome; graph = option_copied e.graph } };
 }
 
 /// The steps that were taken, what was noted at each, the recorded frames, f1 first, and the size of all in bytes.
@@ -154,7 +154,7 @@ impl<'p> Record<'p> {
 
     /// The outcome of the last step.
     pub fn last(&self) -> Option<&Outcome>
-        ensures { option_map (λ o. outcome_of o.now) result ≡ option_map (λ e. e.told) (last self.now.done.entries) }
+        ensures { option_map (λ o. outcome_of o.now) result ≡ option_map (λ e. e.reported) (last self.now.done.entries) }
     {
         match self.entries.last() {
             None => None,

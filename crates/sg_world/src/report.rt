@@ -1,5 +1,5 @@
 //! The report of a replay.
-ghost use Rattle.std.specs.Prelude.{◌≡◌, ◌≤◌, ◌++◌, All, IfOk, IfSome, OnOk, filter_map, flat_map, slice_get};
+ghost use Rattle.std.specs.Prelude.{◌≡◌, ◌≤◌, ◌++◌, All, IfOk, IfSome, OnErr, OnOk, filter_map, flat_map, length, slice_get, take};
 ghost use Rattle.std.specs.Option.{option_map, option_to_list};
 ghost use Rattle.sg_model.specs.Limits.{most_steps};
 ghost use Rattle.sg_text.specs.Sessions.{KnownSessions, all_sids, naming};
@@ -45,10 +45,12 @@ impl<'p> World<'p> {
         }
     }
 
-    /// Writes the two lines that say whether the assumptions hold, and returns whether both do.
+    /// Appends the two lines that say whether the assumptions hold, and returns whether both do. If memory runs out, what was written still
+    /// stands first, with a part of the lines after it or nothing.
     pub fn put_premises(&self, out: &mut ByteOut) -> Result<bool, OutOfMemory>
         ensures hold { IfOk result (λ b. b ≡ premises_hold (account self.now)) }
         ensures text { OnOk result (out.new ≡ out.old ++ premise_lines (account self.now).forged (account self.now).collision_free) }
+        ensures prefix { OnErr result (take (length out.old) out.new ≡ out.old) }
     {
         let forged = self.forgery()?;
         let free = self.collision()?.is_none();

@@ -1,5 +1,5 @@
 //! The walk that explains a session.
-ghost use Rattle.std.specs.Prelude.{◌≡◌, ◌≢◌, [], bytes_eq, filter_map, length, IfErr, IfOk, MatchBool, OnOk};
+ghost use Rattle.std.specs.Prelude.{◌≡◌, ◌≢◌, ◌++◌, [], bytes_eq, filter_map, map, slice_get, IfErr, IfOk, MatchBool, OnOk};
 ghost use Rattle.std.specs.Option.{option_to_list};
 ghost use Rattle.sg_certify.specs.Runs.{AreTraces, IsUnbroken};
 ghost use Rattle.sg_model.specs.Lists.{has_text};
@@ -9,7 +9,7 @@ ghost use Rattle.sg_walk.specs.Model.{steps_of};
 ghost use Rattle.sg_world.specs.Account.{graph_of, honest_in};
 ghost use Rattle.sg_world.specs.KeptLines.{sid_kept};
 ghost use Rattle.sg_world.specs.Replay.{run_of};
-ghost use Rattle.sg_world.specs.Walked.{IsWalkFault, PremisesHold, WalksAreMade};
+ghost use Rattle.sg_world.specs.Walked.{IsWalkFault, PremisesHold, WalksAreMade, sid_and_steps, sid_and_walk};
 
 use crate::World;
 use crate::premises::Principals;
@@ -59,10 +59,11 @@ impl<'p> World<'p> {
         }
     }
 
-    /// Makes the walk of each session with an event, one after another, and gives their number. The contract says that each has one.
-    pub fn walks(&self) -> Result<usize, OutOfMemory>
+    /// The walk of each session with an event, beside its identifier, in the order of first events. Each explains what the honest principals
+    /// did in its session, as that of `walk_of`. They hold a copy of each value that was sent.
+    pub fn walks(&self) -> Result<Vec<(Sid, StoredWalk)>, OutOfMemory>
         requires { PremisesHold self.now }
-        ensures { IfOk result (WalksAreMade self.now) }
+        ensures { IfOk result (λ walks. WalksAreMade self.now (map sid_and_steps walks.items)) }
     {
         let traces = self.traces()?;
         make_walks(self.alloc, &traces)
@@ -115,16 +116,34 @@ impl<'p> World<'p> {
     }
 }
 
-// Makes the walk of each trace, and gives their number.
-fn make_walks<'r>(alloc: Global, traces: &Traces<'r>) -> Result<usize, OutOfMemory>
-    ensures { IfOk result (λ count. count ≡ length traces.now.traces) }
+// The walk of each trace, beside its session's identifier.
+fn make_walks<'r>(alloc: Global, traces: &Traces<'r>) -> Result<Vec<(Sid, StoredWalk)>, OutOfMemory>
+    ensures { IfOk result (λ walks. map sid_and_steps walks.items ≡ map sid_and_walk traces.now.traces) }
 {
+    let mut walks = Vec::with_capacity(alloc, traces.len())?;
     for index in 0..traces.len() {
-        if let Some((_, trace)) = traces.at(index) {
-            let _walk = trace.walk(alloc)?;
-        }
+        add_walk(alloc, &mut walks, traces, index)?;
     }
-    Ok(traces.len())
+    Ok(walks)
+}
+
+// Adds the walk of the trace at an index, if there is one.
+fn add_walk<'r>(
+    alloc: Global,
+    walks: &mut Vec<(Sid, StoredWalk)>,
+    traces: &Traces<'r>,
+    index: usize,
+) -> Result<(), OutOfMemory>
+    ensures { OnOk result (map sid_and_steps walks.new.items ≡ map sid_and_steps walks.old.items ++ map sid_and_walk (option_to_list (slice_get traces.now.traces index))) }
+{
+    match traces.at(index) {
+        Some(entry) => {
+            let walk = entry.1.walk(alloc)?;
+            walks.push((entry.0, walk))?;
+            Ok(())
+        }
+        None => Ok(()),
+    }
 }
 
 // An event of these steps has the identifier.
@@ -144,7 +163,7 @@ fn is_of<'p>(entry: &TakenStep<'p>, sid: &Sid) -> bool
     ensures { result ≡ has_text sid.now (option_to_list (sid_kept entry.now)) }
 {
     match sid_reported(&entry.outcome) {
-        Some(told) => same(sid, &told),
+        Some(reported) => same(sid, &reported),
         None => false,
     }
 }

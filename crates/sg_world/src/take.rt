@@ -4,10 +4,10 @@ ghost use Rattle.sg_model.specs.Limits.{most_record_before, most_steps};
 ghost use Rattle.sg_protocol.specs.Schedule.{who_of};
 ghost use Rattle.sg_protocol.specs.Steps.{with_step};
 ghost use Rattle.sg_sched.specs.Format.StepsHeld.{step_of};
-ghost use Rattle.sg_world.specs.Comes.{IsNamed};
-ghost use Rattle.sg_world.specs.Crafts.{ComesOfIndex, IsCraftable};
+ghost use Rattle.sg_world.specs.StepResults.{IsNamed};
+ghost use Rattle.sg_world.specs.Crafts.{IsResultAtIndex, IsCraftable};
 ghost use Rattle.sg_world.specs.Holds.{schedule_of, Holds};
-ghost use Rattle.sg_world.specs.Kept.{no_frame};
+ghost use Rattle.sg_world.specs.RecordModel.{no_frame};
 ghost use Rattle.sg_sched.specs.Steps.{CanBeTaken};
 ghost use Rattle.sg_world.specs.Indices.{IsFaultOf, IsIndexOf, names_of};
 
@@ -111,7 +111,7 @@ fn perform<'p>(
     requires can { IsCraftable setting.now (step_of step.now) }
     requires few { length recorded.now + 1 < 2 ^ 32 }
     requires blank { step_result.old ≡ no_frame }
-    ensures comes { OnOk result (ComesOfIndex setting.now recorded.now number (step_of step.now) index nodes.old.entries nodes.new.entries step_result.new) }
+    ensures comes { OnOk result (IsResultAtIndex setting.now recorded.now number (step_of step.now) index nodes.old.entries nodes.new.entries step_result.new) }
     ensures back { OnErr result (nodes.new.entries ≡ nodes.old.entries) }
 {
     match index {

@@ -10,7 +10,7 @@ ghost use Rattle.sg_report.specs.Outcome.{outcome_of};
 ghost use Rattle.sg_report.specs.Reported.{event_reported};
 ghost use Rattle.sg_sched.specs.Format.StepsHeld.{what_of};
 ghost use Rattle.sg_walk.specs.Model.{event_of};
-ghost use Rattle.sg_world.specs.Comes.{changed_to};
+ghost use Rattle.sg_world.specs.StepResults.{changed_to};
 ghost use Rattle.sg_world.specs.EntriesOfRun.{AreOfRun, IsOfStep};
 
 use crate::record::TakenStep;

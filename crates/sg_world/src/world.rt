@@ -83,7 +83,7 @@ impl<'p> World<'p> {
     /// The number of steps that were taken. It takes no memory.
     pub fn len(&self) -> usize
         ensures steps { result ≡ length self.now.schedule.steps }
-        ensures told { result ≡ length (reported_log (run_of self.now).log) }
+        ensures reported { result ≡ length (reported_log (run_of self.now).log) }
     {
         self.history.count()
     }

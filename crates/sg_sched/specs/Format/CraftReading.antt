@@ -6,7 +6,7 @@ use Rattle.sg_model.specs.Limits.{most_roles, most_time, most_variables}
 use Rattle.sg_protocol.specs.Schedule.{CraftJoin}
 use Rattle.sg_base.specs.Words.{name, number}
 use Rattle.sg_sched.specs.Words.{frame}
-use Rattle.sg_sched.specs.Format.Said.{Word, Committed, TagSource, FromKey, FromItem, FromSeal, FromZero, ItemContent, LineContent, SaidMake}
+use Rattle.sg_sched.specs.Format.LineContents.{Word, Committed, TagSource, FromKey, FromItem, FromSeal, FromZero, ItemContent, LineContent, MakeLine}
 use Rattle.sg_sched.specs.Format.Values.{is_value}
 use Rattle.sg_sched.specs.Format.Reading.{WordsLeft, Taker, word, after, ended, short, split_at}
 
@@ -187,4 +187,4 @@ craft_form =
     after (listed (codes "know")) λ know.
     after (repeated (codes "item") item 65535) λ is.
     some_items is (after opened λ openings.
-    λ ws. option_map (λ seal. SaidMake (record { session = e.0; from = e.1; to = e.2; join = j; know = know; items = is; openings = openings; seal = seal })) (seal_form ws))
+    λ ws. option_map (λ seal. MakeLine (record { session = e.0; from = e.1; to = e.2; join = j; know = know; items = is; openings = openings; seal = seal })) (seal_form ws))

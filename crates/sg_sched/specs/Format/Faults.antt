@@ -9,20 +9,20 @@ use Rattle.sg_protocol.specs.Graph.{Graph}
 use Rattle.sg_protocol.specs.Frame.{Cast, Item as FrameItem, Frame}
 use Rattle.sg_protocol.specs.Spelling.{spelling}
 use Rattle.sg_protocol.specs.Schedule.{CraftJoin}
-use Rattle.sg_sched.specs.Format.Said.{Committed, TagSource, FromKey, FromItem, FromSeal, FromZero, ItemContent, CraftContent, LineContent, SaidBlock, SaidEdge, SaidHonest, SaidKey, SaidSession, SaidStart, SaidAct, SaidAbandon, SaidDeliver, SaidMake}
+use Rattle.sg_sched.specs.Format.LineContents.{Committed, TagSource, FromKey, FromItem, FromSeal, FromZero, ItemContent, CraftContent, LineContent, BlockLine, EdgeLine, HonestLine, KeyLine, SessionLine, StartLine, ActLine, AbandonLine, DeliverLine, MakeLine}
 use Rattle.sg_sched.specs.Format.Items.{Session, Item, SoFar, so_far, graphs_declared, graph_names, session_names, index, session_named, graph_for, roles_of, variables_of, labels_of, has_key}
-use Rattle.sg_sched.specs.Format.Made.{opening}
+use Rattle.sg_sched.specs.Format.Numbered.{opening}
 use Rattle.sg_sched.specs.Format.Kinds.{Kind, Form, TooManySteps, TooManySessions, Unknown, Twice, NotHonest}
 
 -- ---- form: the group
 
 -- the group in which a line stands: graphs, honest principals, keys, sessions, steps
 abbrev pub group : LineContent → ℕ
-group SaidBlock = 0
-group (SaidEdge label from to) = 0
-group (SaidHonest who) = 1
-group (SaidKey one two digits) = 2
-group (SaidSession name graph nonce names version) = 3
+group BlockLine = 0
+group (EdgeLine label from to) = 0
+group (HonestLine who) = 1
+group (KeyLine one two digits) = 2
+group (SessionLine name graph nonce names version) = 3
 group step = 4
 
 -- a line of a later group stands before it
@@ -90,20 +90,20 @@ is_short g s c = option_map_or (λ s. nat_le (length (spelling (blank_frame g s 
 
 -- the line is out of its group, one edge too many, or of a number, an order or a length that its form doesn't allow
 abbrev pub is_wrong : SoFar → LineContent → Bool
-is_wrong past (SaidEdge label from to) = is_late past (SaidEdge label from to) || nat_le most_edges (length past.edges)
-is_wrong past (SaidSession name graph nonce names version) = is_late past (SaidSession name graph nonce names version) || not (fits_graph past graph names)
-is_wrong past (SaidMake c) = not (rises (graph_for c.session past) c && is_short (graph_for c.session past) (session_named c.session past) c)
+is_wrong past (EdgeLine label from to) = is_late past (EdgeLine label from to) || nat_le most_edges (length past.edges)
+is_wrong past (SessionLine name graph nonce names version) = is_late past (SessionLine name graph nonce names version) || not (fits_graph past graph names)
+is_wrong past (MakeLine c) = not (rises (graph_for c.session past) c && is_short (graph_for c.session past) (session_named c.session past) c)
 is_wrong past other = is_late past other
 
 -- ---- too many
 
 -- the session 100,001, or the step 200,001
 abbrev pub too_many : SoFar → LineContent → Option Kind
-too_many past SaidBlock = None
-too_many past (SaidEdge label from to) = None
-too_many past (SaidHonest who) = None
-too_many past (SaidKey one two digits) = None
-too_many past (SaidSession name graph nonce names version) = if nat_le most_declared (length past.sessions) then Some TooManySessions else None
+too_many past BlockLine = None
+too_many past (EdgeLine label from to) = None
+too_many past (HonestLine who) = None
+too_many past (KeyLine one two digits) = None
+too_many past (SessionLine name graph nonce names version) = if nat_le most_declared (length past.sessions) then Some TooManySessions else None
 too_many past step = if nat_le most_steps (length past.steps) then Some TooManySteps else None
 
 -- ---- unknown
@@ -126,17 +126,17 @@ knows_item past g i = has_text i.label (labels_of g) && list_all (knows_variable
 
 -- each name of a graph, role, label, variable, session or key pair is declared
 abbrev pub is_known : SoFar → LineContent → Bool
-is_known past SaidBlock = true
-is_known past (SaidEdge label from to) = true
-is_known past (SaidHonest who) = true
-is_known past (SaidKey one two digits) = true
-is_known past (SaidSession name graph nonce names version) = has_text graph (graph_names (graphs_declared past))
-is_known past (SaidStart who session) = has_text session (session_names past)
-is_known past (SaidAct who session label values) = has_text session (session_names past) && has_text label (labels_of (graph_for session past))
+is_known past BlockLine = true
+is_known past (EdgeLine label from to) = true
+is_known past (HonestLine who) = true
+is_known past (KeyLine one two digits) = true
+is_known past (SessionLine name graph nonce names version) = has_text graph (graph_names (graphs_declared past))
+is_known past (StartLine who session) = has_text session (session_names past)
+is_known past (ActLine who session label values) = has_text session (session_names past) && has_text label (labels_of (graph_for session past))
     && list_all (λ v. knows_variable (graph_for session past) v.variable) values
-is_known past (SaidAbandon who session) = has_text session (session_names past)
-is_known past (SaidDeliver who what) = true
-is_known past (SaidMake c) = let g = graph_for c.session past in
+is_known past (AbandonLine who session) = has_text session (session_names past)
+is_known past (DeliverLine who what) = true
+is_known past (MakeLine c) = let g = graph_for c.session past in
     has_text c.session (session_names past) && has_text c.from (roles_of g) && has_text c.to (roles_of g) && list_all (knows_variable g) (variables c.know)
     && list_all (knows_item past g) c.items && list_all (knows_variable g) (variables c.openings) && knows_source past g c.seal
 
@@ -155,22 +155,22 @@ is_like graph nonce names version s = graph == s.graph && nonce == s.nonce && sa
 -- the line declares what is declared: a label, an honest principal, a pair, a session's name, or its graph, nonce, cast and version; or an act names a variable twice.
 -- The first edge line declares the graph `pair`
 abbrev pub is_repeated : SoFar → LineContent → Bool
-is_repeated past (SaidEdge label from to) = has_text label (map (λ e. e.name) past.edges) || has_text (codes "pair") (graph_names past.blocks)
-is_repeated past (SaidHonest who) = has_text who past.honest
-is_repeated past (SaidKey one two digits) = has_key past one two
-is_repeated past (SaidSession name graph nonce names version) =
+is_repeated past (EdgeLine label from to) = has_text label (map (λ e. e.name) past.edges) || has_text (codes "pair") (graph_names past.blocks)
+is_repeated past (HonestLine who) = has_text who past.honest
+is_repeated past (KeyLine one two digits) = has_key past one two
+is_repeated past (SessionLine name graph nonce names version) =
     has_text name (session_names past) || list_any (is_like (index graph (graph_names (graphs_declared past))) nonce names version) past.sessions
-is_repeated past (SaidAct who session label values) = not (all_differ (map (λ v. v.variable) values))
+is_repeated past (ActLine who session label values) = not (all_differ (map (λ v. v.variable) values))
 is_repeated past other = false
 
 -- ---- not honest
 
 -- the step's principal is honest. A craft has none
 abbrev pub is_honest : SoFar → LineContent → Bool
-is_honest past (SaidStart who session) = has_text who past.honest
-is_honest past (SaidAct who session label values) = has_text who past.honest
-is_honest past (SaidAbandon who session) = has_text who past.honest
-is_honest past (SaidDeliver who what) = has_text who past.honest
+is_honest past (StartLine who session) = has_text who past.honest
+is_honest past (ActLine who session label values) = has_text who past.honest
+is_honest past (AbandonLine who session) = has_text who past.honest
+is_honest past (DeliverLine who what) = has_text who past.honest
 is_honest past other = true
 
 -- ---- all

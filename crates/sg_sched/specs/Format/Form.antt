@@ -1,6 +1,6 @@
 -- What a line says, by its first word.
 use Rattle.std.specs.Prelude.{if◌then◌else◌, [], ◌∷◌, codes, bytes_eq, Option, None}
-use Rattle.sg_sched.specs.Format.Said.{LineContent}
+use Rattle.sg_sched.specs.Format.LineContents.{LineContent}
 use Rattle.sg_sched.specs.Format.Reading.{WordsLeft, block_form, edge_form, honest_form, key_form, session_form, start_form, act_form, abandon_form, deliver_form}
 use Rattle.sg_sched.specs.Format.CraftReading.{craft_form}
 

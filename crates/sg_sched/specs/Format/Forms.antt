@@ -7,7 +7,7 @@ use Rattle.sg_model.specs.Lists.{has_text, all_differ}
 use Rattle.sg_model.specs.Limits.{most_roles, most_time, most_variables}
 use Rattle.sg_protocol.specs.Schedule.{CraftJoin}
 use Rattle.sg_sched.specs.Text.{content, words}
-use Rattle.sg_sched.specs.Format.Said.{Assignment, Committed, TagSource, FromKey, FromItem, FromSeal, FromZero, ItemContent, CraftContent, Delivered, TheFrame, TheFlipped, TheCut, TheBytes, LineContent, SaidBlock, SaidEdge, SaidHonest, SaidKey, SaidSession, SaidStart, SaidAct, SaidAbandon, SaidDeliver, SaidMake, line_words}
+use Rattle.sg_sched.specs.Format.LineContents.{Assignment, Committed, TagSource, FromKey, FromItem, FromSeal, FromZero, ItemContent, CraftContent, Delivered, TheFrame, TheFlipped, TheCut, TheBytes, LineContent, BlockLine, EdgeLine, HonestLine, KeyLine, SessionLine, StartLine, ActLine, AbandonLine, DeliverLine, MakeLine, line_words}
 use Rattle.sg_sched.specs.Format.Values.{is_value, is_hex_of, is_hex}
 
 -- all are names
@@ -27,8 +27,8 @@ abbrev pub is_frame : ℕ → Bool
 is_frame n = nat_lt 0 n && is_short n
 
 -- VAR=VALUE: a name and a value
-abbrev pub is_given : Assignment → Bool
-is_given v = is_name v.variable && is_value v.value
+abbrev pub is_assignment : Assignment → Bool
+is_assignment v = is_name v.variable && is_value v.value
 
 -- VAR=VALUE#K: a name, a value, and a number below 2 ^ 64
 abbrev pub is_committed : Committed → Bool
@@ -73,17 +73,17 @@ is_delivered (TheBytes digits) = is_hex digits
 
 -- each field of a line holds what it may hold: names, numbers in their ranges, values, digits
 abbrev pub is_form : LineContent → Bool
-is_form SaidBlock = true
-is_form (SaidEdge label from to) = is_name label && not (has_text label reserved) && nat_le from 255 && nat_le to 255 && not (from % 2 == to % 2)
-is_form (SaidHonest who) = is_name who
-is_form (SaidKey one two digits) = is_name one && is_name two && not (bytes_eq one two) && is_hex_of 32 digits
-is_form (SaidSession name graph nonce names version) =
+is_form BlockLine = true
+is_form (EdgeLine label from to) = is_name label && not (has_text label reserved) && nat_le from 255 && nat_le to 255 && not (from % 2 == to % 2)
+is_form (HonestLine who) = is_name who
+is_form (KeyLine one two digits) = is_name one && is_name two && not (bytes_eq one two) && is_hex_of 32 digits
+is_form (SessionLine name graph nonce names version) =
     is_name name && is_name graph && is_wide nonce && nat_le 1 (length names) && are_names names && all_differ names && (version == 1 || version == 2)
-is_form (SaidStart who session) = are_names (who ∷ session ∷ [])
-is_form (SaidAct who session label values) = are_names (who ∷ session ∷ label ∷ []) && list_all is_given values
-is_form (SaidAbandon who session) = are_names (who ∷ session ∷ [])
-is_form (SaidDeliver who what) = is_name who && is_delivered what
-is_form (SaidMake c) = is_craft c
+is_form (StartLine who session) = are_names (who ∷ session ∷ [])
+is_form (ActLine who session label values) = are_names (who ∷ session ∷ label ∷ []) && list_all is_assignment values
+is_form (AbandonLine who session) = are_names (who ∷ session ∷ [])
+is_form (DeliverLine who what) = is_name who && is_delivered what
+is_form (MakeLine c) = is_craft c
 
 -- ---- lines
 

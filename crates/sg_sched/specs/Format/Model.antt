@@ -4,8 +4,8 @@ use Rattle.sg_sched.specs.declared.line.Line.{Line}
 use Rattle.sg_sched.specs.declared.line.Line.TheVariants.{Block, Edge, Honest, Key, Session, Start, Act, Abandon, Deliver, Craft}
 use Rattle.sg_sched.specs.declared.line.Delivered.{Delivered}
 use Rattle.sg_sched.specs.declared.line.Delivered.TheVariants.{Frame, Flipped, Cut, Bytes}
-use Rattle.sg_sched.specs.Format.Said as Format
-use Rattle.sg_sched.specs.Format.Said.{LineContent, SaidBlock, SaidEdge, SaidHonest, SaidKey, SaidSession, SaidStart, SaidAct, SaidAbandon, SaidDeliver, SaidMake, TheFrame, TheFlipped, TheCut, TheBytes}
+use Rattle.sg_sched.specs.Format.LineContents as Format
+use Rattle.sg_sched.specs.Format.LineContents.{LineContent, BlockLine, EdgeLine, HonestLine, KeyLine, SessionLine, StartLine, ActLine, AbandonLine, DeliverLine, MakeLine, TheFrame, TheFlipped, TheCut, TheBytes}
 use Rattle.sg_sched.specs.Format.Reading.{WordsLeft}
 
 -- what is delivered
@@ -17,16 +17,16 @@ delivered (Bytes digits) = TheBytes digits.now
 
 -- what a line that is held says
 abbrev pub said : Line → LineContent
-said Block = SaidBlock
-said (Edge label from to) = SaidEdge label from to
-said (Honest who) = SaidHonest who
-said (Key one two digits) = SaidKey one two digits.now
-said (Session name graph nonce names version) = SaidSession name graph nonce names version
-said (Start who session) = SaidStart who session
-said (Act who session label values) = SaidAct who session label values
-said (Abandon who session) = SaidAbandon who session
-said (Deliver who what) = SaidDeliver who (delivered what)
-said (Craft c) = SaidMake c
+said Block = BlockLine
+said (Edge label from to) = EdgeLine label from to
+said (Honest who) = HonestLine who
+said (Key one two digits) = KeyLine one two digits.now
+said (Session name graph nonce names version) = SessionLine name graph nonce names version
+said (Start who session) = StartLine who session
+said (Act who session label values) = ActLine who session label values
+said (Abandon who session) = AbandonLine who session
+said (Deliver who what) = DeliverLine who (delivered what)
+said (Craft c) = MakeLine c
 
 -- what was taken, and the words that are left
 abbrev pub taken : {A : Type 0} → Option A → WordsLeft → Option (A × WordsLeft)

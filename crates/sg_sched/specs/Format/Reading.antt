@@ -4,7 +4,7 @@ use Rattle.sg_model.specs.Names.{Name, reserved, is_name}
 use Rattle.sg_model.specs.Lists.{has_text}
 use Rattle.sg_base.specs.Words.{name, number}
 use Rattle.sg_sched.specs.Words.{names, frame}
-use Rattle.sg_sched.specs.Format.Said.{Word, Assignment, TheFrame, TheFlipped, TheCut, TheBytes, LineContent, SaidBlock, SaidEdge, SaidHonest, SaidKey, SaidSession, SaidStart, SaidAct, SaidAbandon, SaidDeliver}
+use Rattle.sg_sched.specs.Format.LineContents.{Word, Assignment, TheFrame, TheFlipped, TheCut, TheBytes, LineContent, BlockLine, EdgeLine, HonestLine, KeyLine, SessionLine, StartLine, ActLine, AbandonLine, DeliverLine}
 use Rattle.sg_sched.specs.Format.Values.{is_value, is_hex_of, is_hex}
 
 -- ---- readers
@@ -50,28 +50,28 @@ split_at mark [] = None
 split_at mark (c ∷ cs) = split_step mark c cs (split_at mark cs)
 
 -- a name and a value
-abbrev pub given_of : Word × Word → Option Assignment
-given_of p = if is_name p.0 && is_value p.1 then Some (record { variable = p.0; value = p.1 }) else None
+abbrev pub assignment_of : Word × Word → Option Assignment
+assignment_of p = if is_name p.0 && is_value p.1 then Some (record { variable = p.0; value = p.1 }) else None
 
 -- VAR=VALUE
 unfoldable pub given : Word → Option Assignment
-given w = option_and_then given_of (split_at 61 w)
+given w = option_and_then assignment_of (split_at 61 w)
 
 -- each word is VAR=VALUE
-abbrev pub givens : WordsLeft → Option (List Assignment)
-givens [] = Some []
-givens (w ∷ ws) = option_and_then (λ v. option_map (λ vs. v ∷ vs) (givens ws)) (given w)
+abbrev pub assignments : WordsLeft → Option (List Assignment)
+assignments [] = Some []
+assignments (w ∷ ws) = option_and_then (λ v. option_map (λ vs. v ∷ vs) (assignments ws)) (given w)
 
 -- ---- forms, each after its first word
 
 -- {
 unfoldable pub block_form : WordsLeft → Option LineContent
 block_form [] = None
-block_form (w ∷ ws) = if bytes_eq w (codes "{") then ended (Some SaidBlock) ws else None
+block_form (w ∷ ws) = if bytes_eq w (codes "{") then ended (Some BlockLine) ws else None
 
 -- an edge from an even node to an odd one, or back
 abbrev pub edge_of : Name → ℕ → ℕ → Option LineContent
-edge_of label from to = if has_text label reserved then None else if from % 2 == to % 2 then None else Some (SaidEdge label from to)
+edge_of label from to = if has_text label reserved then None else if from % 2 == to % 2 then None else Some (EdgeLine label from to)
 
 -- LABEL FROM TO
 unfoldable pub edge_form : WordsLeft → Option LineContent
@@ -85,11 +85,11 @@ edge_form =
 unfoldable pub honest_form : WordsLeft → Option LineContent
 honest_form =
     after (word name) λ who.
-    ended (Some (SaidHonest who))
+    ended (Some (HonestLine who))
 
 -- a key of two different principals
 abbrev pub key_of : Name → Name → Word → Option LineContent
-key_of one two digits = if bytes_eq one two then None else Some (SaidKey one two digits)
+key_of one two digits = if bytes_eq one two then None else Some (KeyLine one two digits)
 
 -- NAME NAME HEX
 unfoldable pub key_form : WordsLeft → Option LineContent
@@ -112,14 +112,14 @@ session_form =
     after (word (number 18446744073709551615)) λ nonce.
     after (word names) λ cast.
     after version λ version.
-    ended (Some (SaidSession session graph nonce cast version))
+    ended (Some (SessionLine session graph nonce cast version))
 
 -- NAME SESSION
 unfoldable pub start_form : WordsLeft → Option LineContent
 start_form =
     after (word name) λ who.
     after (word name) λ session.
-    ended (Some (SaidStart who session))
+    ended (Some (StartLine who session))
 
 -- NAME SESSION LABEL VAR=VALUE ..
 unfoldable pub act_form : WordsLeft → Option LineContent
@@ -127,14 +127,14 @@ act_form =
     after (word name) λ who.
     after (word name) λ session.
     after (word name) λ label.
-    λ ws. option_map (SaidAct who session label) (givens ws)
+    λ ws. option_map (ActLine who session label) (assignments ws)
 
 -- NAME SESSION
 unfoldable pub abandon_form : WordsLeft → Option LineContent
 abandon_form =
     after (word name) λ who.
     after (word name) λ session.
-    ended (Some (SaidAbandon who session))
+    ended (Some (AbandonLine who session))
 
 -- a number, below 2 ^ 32
 abbrev pub short : Taker ℕ
@@ -142,17 +142,17 @@ short = word (number 4294967295)
 
 -- what becomes of frame n: nothing, flip I, cut I
 unfoldable pub frame_form : Name → ℕ → WordsLeft → Option LineContent
-frame_form who n [] = Some (SaidDeliver who (TheFrame n))
+frame_form who n [] = Some (DeliverLine who (TheFrame n))
 frame_form who n (w ∷ ws) =
-    if bytes_eq w (codes "flip") then after short (λ at. ended (Some (SaidDeliver who (TheFlipped n at)))) ws
-    else if bytes_eq w (codes "cut") then after short (λ len. ended (Some (SaidDeliver who (TheCut n len)))) ws
+    if bytes_eq w (codes "flip") then after short (λ at. ended (Some (DeliverLine who (TheFlipped n at)))) ws
+    else if bytes_eq w (codes "cut") then after short (λ len. ended (Some (DeliverLine who (TheCut n len)))) ws
     else None
 
 -- hex HEX, or fN and what becomes of it
 unfoldable pub what_form : Name → WordsLeft → Option LineContent
 what_form who [] = None
 what_form who (w ∷ ws) =
-    if bytes_eq w (codes "hex") then after (word hex) (λ digits. ended (Some (SaidDeliver who (TheBytes digits)))) ws
+    if bytes_eq w (codes "hex") then after (word hex) (λ digits. ended (Some (DeliverLine who (TheBytes digits)))) ws
     else option_and_then (λ n. frame_form who n ws) (frame w)
 
 -- NAME and what is delivered

@@ -1,8 +1,8 @@
 -- The sources of crafted tags, as the program holds them.
 use Rattle.sg_sched.specs.declared.line.TagSource.{TagSource}
 use Rattle.sg_sched.specs.declared.line.TagSource.TheVariants.{Key, Item, Seal, Zero}
-use Rattle.sg_sched.specs.Format.Said as Format
-use Rattle.sg_sched.specs.Format.Said.{FromKey, FromItem, FromSeal, FromZero}
+use Rattle.sg_sched.specs.Format.LineContents as Format
+use Rattle.sg_sched.specs.Format.LineContents.{FromKey, FromItem, FromSeal, FromZero}
 
 -- a source that is held
 abbrev pub from_of : TagSource → Format.TagSource

@@ -9,10 +9,10 @@ use Rattle.sg_parse.specs.Grammar.{SpellsGraph}
 use Rattle.sg_parse.specs.Reading.{read}
 use Rattle.sg_parse.specs.declared.fault.ParseFault.{ParseFault}
 use Rattle.sg_sched.specs.Text.{lines, content}
-use Rattle.sg_sched.specs.Format.Said.{LineContent, SaidBlock, SaidEdge}
+use Rattle.sg_sched.specs.Format.LineContents.{LineContent, BlockLine, EdgeLine}
 use Rattle.sg_sched.specs.Format.Forms.{is_skipped, SaysLine}
 use Rattle.sg_sched.specs.Format.Items.{Item, GraphItem, blocks, edges, graphs, graph_names, schedule_of}
-use Rattle.sg_sched.specs.Format.Made.{made}
+use Rattle.sg_sched.specs.Format.Numbered.{made}
 use Rattle.sg_sched.specs.Format.Kinds.{Kind, Form, Twice, Graph}
 use Rattle.sg_sched.specs.Format.Faults.{fault}
 
@@ -28,8 +28,8 @@ closes line = bytes_eq (content line) (codes "}")
 
 -- the line `graph {`, in its group, and lines that don't close the block
 pub record IsOpened (before : List Item) (opening : Line) (inner : List Line) : Type 0 where
-  pub opens : SaysLine opening SaidBlock
-  pub in_group : fault before SaidBlock ≡ None
+  pub opens : SaysLine opening BlockLine
+  pub in_group : fault before BlockLine ≡ None
   pub open_yet : IsTrue (list_all (λ l. not (closes l)) inner)
 
 -- these lines are a block, and its bytes and line ends as they stand are its text
@@ -100,7 +100,7 @@ pub record IsPairAt (ls : List Line) (n : ℕ) : Type 0 where
   pub label : List ℕ
   pub from : ℕ
   pub to : ℕ
-  pub is_edge : SaysLine edge_line (SaidEdge label from to)
+  pub is_edge : SaysLine edge_line (EdgeLine label from to)
   pub declared_later : Declare (right ++ edge_line ∷ more) later
   pub is_block : IsBlock later block text
   pub graph : AGraph

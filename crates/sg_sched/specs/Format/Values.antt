@@ -7,7 +7,7 @@ use Rattle.hex.specs.Hex.{hex_digit_value, decode_of, decode_sized}
 use Rattle.sg_model.specs.Values.{Value, IntValue, TextValue}
 use Rattle.sg_model.specs.Limits.{most_text_bytes}
 use Rattle.sg_base.specs.Words.{number, from_one}
-use Rattle.sg_sched.specs.Format.Said.{Word}
+use Rattle.sg_sched.specs.Format.LineContents.{Word}
 
 -- ---- numbers
 

@@ -2,7 +2,7 @@ use Rattle.std.proofs.Common.{◌≡◌, ◌<◌, ◌+◌, ◌-◌, ◌∙◌, �
 use Rattle.std.specs.Prelude.{slice_set}
 use Rattle.std.proofs.lemmas.List.{length-set}
 use Rattle.sg_model.specs.Lists.{is_in}
-use Rattle.sg_audit.specs.Said.{differ}
+use Rattle.sg_audit.specs.LineContents.{differ}
 use Rattle.sg_audit.proofs.Orders.{vars, seen_none, seen_first, seen_twice, seen_more}
 use Rattle.sg_audit.proofs.order.differ.Goals as goal
 

@@ -1,6 +1,6 @@
 use Rattle.std.proofs.Common.{◌≡◌, ◌<◌, ◌≤◌, ℕ, true, false, get_or, length, drop, map}
 use Rattle.sg_model.specs.Lists.{is_in}
-use Rattle.sg_audit.specs.Said.{differ}
+use Rattle.sg_audit.specs.LineContents.{differ}
 use Rattle.sg_audit.proofs.order.differ.Given as goal
 
 abbrev pub invariant-loop-left : goal.invariant-loop-left

@@ -1,5 +1,5 @@
 use Rattle.std.proofs.Common.{◌∙◌, sym, ap}
-use Rattle.sg_audit.specs.Said.{differ}
+use Rattle.sg_audit.specs.LineContents.{differ}
 use Rattle.sg_audit.proofs.Orders.{vars, writes_vars}
 use Rattle.sg_audit.proofs.order.writes_differ.Goals as goal
 

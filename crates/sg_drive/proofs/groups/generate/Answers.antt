@@ -2,7 +2,7 @@ use Rattle.std.proofs.Common.{◌≡◌, Err, arith, rules}
 use Rattle.sg_drive.proofs.WholeRun.{grouped_budget, grouped_done, grouped_first, grouped_next, grouped_some, grouped_stops}
 use Rattle.sg_drive.proofs.Extends.{err_is}
 use Rattle.sg_drive.specs.Faults.{IsGenerateFault}
-use Rattle.sg_drive.specs.Held.{drive_of}
+use Rattle.sg_drive.specs.GeneratorModel.{drive_of}
 use Rattle.sg_drive.specs.declared.fault.GenerateFault.{GenerateFault}
 use Rattle.sg_drive.proofs.groups.generate.Goals as goal
 

@@ -6,7 +6,7 @@ use Rattle.sg_play.proofs.Endings.{whole_none}
 use Rattle.sg_play.specs.Ends.{Outside}
 use Rattle.sg_play.specs.Played.{all_starts, beginning, played}
 use Rattle.sg_keep.specs.Faults.{Counts}
-use Rattle.sg_keep.specs.Kept.{Kept}
+use Rattle.sg_keep.specs.KeptRuns.{HasKept}
 use Rattle.sg_keep.specs.declared.keeper.Keeper.{Keeper}
 use Rattle.sg_keep.proofs.Asking.{came_kept, holds_first, not_begun, represents_first, starts_ended}
 use Rattle.sg_keep.proofs.Counting.{falls_of, later_tells, memory_tells, none_for_memory}
@@ -16,14 +16,14 @@ pub returns-in_default-clause-faults : goal.returns-in_default-clause-faults
 returns-in_default-clause-faults g c = none_for_memory (record { link = g.L.Link.faults c.args.link.now; out = g.O.Sink.faults c.args.out.now; disk = g.D.Disk.faults c.args.disk.now })
 
 pub returns-in_default-clause-kept : goal.returns-in_default-clause-kept
-returns-in_default-clause-kept g c = λ deliveries random told drawn.
+returns-in_default-clause-kept g c = λ deliveries random reported drawn.
     not_begun (record { written = g.O.Sink.written c.args.out.now; sent = g.L.Link.sent c.args.link.now }) (g.D.Disk.may_leave c.args.disk.now) c.args.keys.now c.args.programs.now c.args.ledger.joins c.args.script (take c.args.most deliveries) random c.requires.represents _ refl
 
 pub returns-in-Err-clause-faults : goal.returns-in-Err-clause-faults
 returns-in-Err-clause-faults g c = memory_tells (record { link = g.L.Link.faults c.args.link.now; out = g.O.Sink.faults c.args.out.now; disk = g.D.Disk.faults c.args.disk.now }) c.in-Err.fault c.in-Err.ensures.memory
 
 pub returns-in-Err-clause-kept : goal.returns-in-Err-clause-kept
-returns-in-Err-clause-kept g c = λ deliveries random told drawn.
+returns-in-Err-clause-kept g c = λ deliveries random reported drawn.
     not_begun (record { written = g.O.Sink.written c.args.out.now; sent = g.L.Link.sent c.args.link.now }) (g.D.Disk.may_leave c.args.disk.now) c.args.keys.now c.args.programs.now c.args.ledger.joins c.args.script (take c.args.most deliveries) random c.requires.represents c.in-Err.fault c.in-Err.ensures.memory
 
 pub start_all-requires : goal.start_all-requires
@@ -35,7 +35,7 @@ start_all-requires g c =
     }
 
 pub returns-in-Err-start_all-clause-kept : goal.returns-in-Err-start_all-clause-kept
-returns-in-Err-start_all-clause-kept g c = λ deliveries random told drawn.
+returns-in-Err-start_all-clause-kept g c = λ deliveries random reported drawn.
     let new = c.in-Ok.ensures.made ∙ (λ i. new_state (c.requires.keys i) c.args.programs.now (c.joins.ensures.joins i)) in
     let start : Outside = record { written = g.O.Sink.written c.args.out.now; sent = g.L.Link.sent c.args.link.now } in
     let now : Outside = record { written = g.O.Sink.written c.start_all.new.out; sent = g.L.Link.sent c.start_all.new.link } in
@@ -45,15 +45,15 @@ returns-in-Err-start_all-clause-kept g c = λ deliveries random told drawn.
     let script : Script = record { starts = c.as_slice.result.now; choices = c.script.inside.choices } in
     let is : script ≡ c.args.script = ap (λ (ss : List ScriptStart). record { starts = ss; choices = c.script.inside.choices }) c.as_slice.ensures ∙ c.script.view_is in
     let begun = beginning c.args.keys.now c.args.programs.now first script.choices random in
-    subst (λ (z : Script). Kept start now leaves (played c.args.keys.now c.args.programs.now first z (take c.args.most deliveries) random) (Err c.in-Err-start_all.fault)) is
+    subst (λ (z : Script). HasKept start now leaves (played c.args.keys.now c.args.programs.now first z (take c.args.most deliveries) random) (Err c.in-Err-start_all.fault)) is
     (starts_ended start now leaves c.args.keys.now c.args.programs.now first script (take c.args.most deliveries) random c.in-Err-start_all.fault
     (c.in-Err-start_all.ensures.progress begun start (represents_first keeper c.args.keys.now c.args.programs.now first script.choices random (c.in-Ok-new.ensures.represents first random new)) drawn (whole_none start)))
 
 pub returns-in-Err-start_all-clause-at_most : goal.returns-in-Err-start_all-clause-at_most
-returns-in-Err-start_all-clause-at_most g c = λ deliveries told. (0, omega arith, c.start_all.ensures.deliveries ∙ told)
+returns-in-Err-start_all-clause-at_most g c = λ deliveries reported. (0, omega arith, c.start_all.ensures.deliveries ∙ reported)
 
 pub returns-clause-left : goal.returns-clause-left
-returns-clause-left g c = on_ok_weaker c.take_all.result (λ h deliveries told. h deliveries (c.start_all.ensures.deliveries ∙ told)) c.take_all.ensures.left
+returns-clause-left g c = on_ok_weaker c.take_all.result (λ h deliveries reported. h deliveries (c.start_all.ensures.deliveries ∙ reported)) c.take_all.ensures.left
 
 pub returns-clause-faults : goal.returns-clause-faults
 returns-clause-faults g c =
@@ -63,7 +63,7 @@ returns-clause-faults g c =
     later_tells old mid new c.take_all.result (falls_of old mid c.start_all.result c.start_all.ensures.faults) c.take_all.ensures.faults
 
 pub returns-clause-kept : goal.returns-clause-kept
-returns-clause-kept g c = λ deliveries random told drawn.
+returns-clause-kept g c = λ deliveries random reported drawn.
     let new = c.in-Ok.ensures.made ∙ (λ i. new_state (c.requires.keys i) c.args.programs.now (c.joins.ensures.joins i)) in
     let start : Outside = record { written = g.O.Sink.written c.args.out.now; sent = g.L.Link.sent c.args.link.now } in
     let now : Outside = record { written = g.O.Sink.written c.take_all.new.out; sent = g.L.Link.sent c.take_all.new.link } in
@@ -74,6 +74,6 @@ returns-clause-kept g c = λ deliveries random told drawn.
     let is : script ≡ c.args.script = ap (λ (ss : List ScriptStart). record { starts = ss; choices = c.script.inside.choices }) c.as_slice.ensures ∙ c.script.view_is in
     let begun = beginning c.args.keys.now c.args.programs.now first script.choices random in
     let started = c.in-Ok-start_all.ensures.progress begun start (represents_first keeper c.args.keys.now c.args.programs.now first script.choices random (c.in-Ok-new.ensures.represents first random new)) drawn (whole_none start) in
-    subst (λ (z : Script). Kept start now leaves (played c.args.keys.now c.args.programs.now first z (take c.args.most deliveries) random) c.take_all.result) is
+    subst (λ (z : Script). HasKept start now leaves (played c.args.keys.now c.args.programs.now first z (take c.args.most deliveries) random) c.take_all.result) is
     (came_kept start now leaves c.take_all.new.self (g.R.Fresh.random c.take_all.new.fresh) (played c.args.keys.now c.args.programs.now first script (take c.args.most deliveries) random) c.take_all.result c.take_all.ensures.holds
-    (c.take_all.ensures.progress (all_starts begun script.starts) start deliveries (c.in-Ok-start_all.ensures.deliveries ∙ told) started.0 started.2 started.1))
+    (c.take_all.ensures.progress (all_starts begun script.starts) start deliveries (c.in-Ok-start_all.ensures.deliveries ∙ reported) started.0 started.2 started.1))

@@ -5,5 +5,5 @@ use Rattle.sg_play.proofs.confounders.draw.Given as goal
 abbrev pub invariant-loop-at : goal.invariant-loop-at
 invariant-loop-at g l = record {
   count : length l.confounders.items ≡ l._at;
-  told : (all : List (List ℕ)) → g.R.Fresh.random l.initial.fresh ≡ Some all → (l.confounders.items ≡ next_confounders l._at all) × (g.R.Fresh.random l.fresh ≡ Some (drop l._at all));
+  reported : (all : List (List ℕ)) → g.R.Fresh.random l.initial.fresh ≡ Some all → (l.confounders.items ≡ next_confounders l._at all) × (g.R.Fresh.random l.fresh ≡ Some (drop l._at all));
 }

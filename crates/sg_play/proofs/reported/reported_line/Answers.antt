@@ -9,4 +9,4 @@ report_line-requires c = c.can_be_reported.ensures c.if-not-can_be_reported.fals
 
 pub returns-in-Ok-clause-text : goal.returns-in-Ok-clause-text
 returns-in-Ok-clause-text c = λ t e.
-    subst (λ (o : Option Reported). IsSomeAnd o (λ told. c.in-Ok.line.items ≡ line_text c.args.session.now (graph_or_none (option_copied c.args.graph)) c.args.step c.args.who told)) e c.in-Ok.ensures
+    subst (λ (o : Option Reported). IsSomeAnd o (λ reported. c.in-Ok.line.items ≡ line_text c.args.session.now (graph_or_none (option_copied c.args.graph)) c.args.step c.args.who reported)) e c.in-Ok.ensures

@@ -14,12 +14,12 @@ use Rattle.sg_play.proofs.Running.{not_begun, starts_failed}
 use Rattle.sg_play.proofs.run.play.Goals as goal
 
 pub returns-in_err-player-clause-played : goal.returns-in_err-player-clause-played
-returns-in_err-player-clause-played g c = let same : c.from_residual.result ≡ Err c.in_err-player.field-0.0 = search rules in λ first deliveries random new told drawn.
+returns-in_err-player-clause-played g c = let same : c.from_residual.result ≡ Err c.in_err-player.field-0.0 = search rules in λ first deliveries random new reported drawn.
     let start : Outside = record { written = g.O.Sink.written c.args.out.now; sent = g.L.Link.sent c.args.link.now } in
     not_begun start start c.args.keys.now c.args.programs.now first c.args.script (take c.args.most deliveries) random c.from_residual.result c.in_err-player.field-0.0 same c.in_err-player.ensures.memory refl
 
 pub returns-in_err-start_all-clause-played : goal.returns-in_err-start_all-clause-played
-returns-in_err-start_all-clause-played g c = let from = err_from_is_err_and c.from_residual-in_err-start_all.result c.from_residual-in_err-start_all.ensures.1 in let same : c.from_residual-in_err-start_all.result ≡ Err c.in_err-start_all.field-0.0 = from.1 ∙ ap (λ (z : PlayFault). Err z) from.2 in λ first deliveries random new told drawn.
+returns-in_err-start_all-clause-played g c = let from = err_from_is_err_and c.from_residual-in_err-start_all.result c.from_residual-in_err-start_all.ensures.1 in let same : c.from_residual-in_err-start_all.result ≡ Err c.in_err-start_all.field-0.0 = from.1 ∙ ap (λ (z : PlayFault). Err z) from.2 in λ first deliveries random new reported drawn.
     let start : Outside = record { written = g.O.Sink.written c.args.out.now; sent = g.L.Link.sent c.args.link.now } in
     let now : Outside = record { written = g.O.Sink.written c.start_all.new.out; sent = g.L.Link.sent c.start_all.new.link } in
     let script : Script = record { starts = c.as_slice.result.now; choices = c.script.inside.choices } in
@@ -30,7 +30,7 @@ returns-in_err-start_all-clause-played g c = let from = err_from_is_err_and c.fr
     (c.in_err-start_all.ensures.progress begun start (c.in_ok-player.ensures.represents first random new) drawn (whole_none start)))
 
 pub returns-clause-played : goal.returns-clause-played
-returns-clause-played g c = λ first deliveries random new told drawn.
+returns-clause-played g c = λ first deliveries random new reported drawn.
     let start : Outside = record { written = g.O.Sink.written c.args.out.now; sent = g.L.Link.sent c.args.link.now } in
     let now : Outside = record { written = g.O.Sink.written c.take_all.new.out; sent = g.L.Link.sent c.take_all.new.link } in
     let script : Script = record { starts = c.as_slice.result.now; choices = c.script.inside.choices } in
@@ -39,7 +39,7 @@ returns-clause-played g c = λ first deliveries random new told drawn.
     let started = c.in_ok-start_all.ensures.progress begun start (c.in_ok-player.ensures.represents first random new) drawn (whole_none start) in
     subst (λ (z : Script). Ended start now (played c.args.keys.now c.args.programs.now first z (take c.args.most deliveries) random).steps c.take_all.result) is
     (ended_so start now c.take_all.new.self (g.R.Fresh.random c.take_all.new.fresh) (played c.args.keys.now c.args.programs.now first script (take c.args.most deliveries) random) c.take_all.result
-    (c.take_all.ensures.progress (all_starts begun script.starts) start deliveries (c.in_ok-start_all.ensures.deliveries ∙ told) started.0.0 started.1 started.0.1))
+    (c.take_all.ensures.progress (all_starts begun script.starts) start deliveries (c.in_ok-start_all.ensures.deliveries ∙ reported) started.0.0 started.1 started.0.1))
 
 pub returns-in_err-player-clause-link_failed : goal.returns-in_err-player-clause-link_failed
 returns-in_err-player-clause-link_failed g c = λ e. let same : c.from_residual.result ≡ Err c.in_err-player.field-0.0 = search rules in let is = err_same c.from_residual.result c.in_err-player.field-0.0 LinkFailed same e in let m = c.in_err-player.ensures.memory in absurd (cc)
@@ -72,7 +72,7 @@ pub returns-clause-write_failed : goal.returns-clause-write_failed
 returns-clause-write_failed g c = λ e. risen_last _ _ _ c.in_ok-start_all.ensures.out_falls c.take_all.ensures.out_falls (c.take_all.ensures.write_failed e)
 
 pub returns-in_err-start_all-clause-at_most : goal.returns-in_err-start_all-clause-at_most
-returns-in_err-start_all-clause-at_most g c = λ deliveries told. (0, omega arith, c.in_err-start_all.ensures.deliveries ∙ told)
+returns-in_err-start_all-clause-at_most g c = λ deliveries reported. (0, omega arith, c.in_err-start_all.ensures.deliveries ∙ reported)
 
 pub returns-clause-left : goal.returns-clause-left
-returns-clause-left g c = mapped c.take_all.result _ _ (λ left deliveries told. left deliveries (c.in_ok-start_all.ensures.deliveries ∙ told)) c.take_all.ensures.left
+returns-clause-left g c = mapped c.take_all.result _ _ (λ left deliveries reported. left deliveries (c.in_ok-start_all.ensures.deliveries ∙ reported)) c.take_all.ensures.left

@@ -1,5 +1,5 @@
 use Rattle.std.proofs.Common.{map, take}
-use Rattle.sg_audit.specs.Taken.{session_of}
+use Rattle.sg_audit.specs.TakingLines.{session_of}
 use Rattle.sg_replay.specs.Audited.{AllAnswered}
 use Rattle.sg_replay.proofs.answer.answers_text.Given as goal
 

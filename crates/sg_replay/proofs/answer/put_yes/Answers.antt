@@ -5,7 +5,7 @@ use Rattle.sg_text.specs.Walks.{walk_line}
 use Rattle.sg_text.proofs.Steps.{HasSteps-IsStoredWalk, walk_line-same}
 use Rattle.sg_audit.specs.Model.{log_of}
 use Rattle.sg_audit.specs.Merged.{roles_of}
-use Rattle.sg_audit.specs.Taken.{session_of}
+use Rattle.sg_audit.specs.TakingLines.{session_of}
 use Rattle.sg_replay.specs.Audited.{has_log, said_text}
 use Rattle.sg_replay.proofs.Answered.{said_and_walk}
 use Rattle.sg_replay.proofs.answer.put_yes.Goals as goal
@@ -22,4 +22,4 @@ returns c =
     (walk_line name c.args.graph.now (has_log (session_of c.args.session.now)) steps) c.in_ok-put_said.ensures
     (ap (λ n. walk_line n c.args.graph.now honest steps) c.as_bytes.ensures.bytes
     ∙ walk_line-same name c.args.graph.now honest (has_log (session_of c.args.session.now)) (λ r. c.roles_of-honest.ensures r ∙ ap (λ ls. is_in r (roles_of (map log_of ls))) c.as_slice.ensures) steps)
-    c.put_walk.ensures
+    c.put_walk.ensures.ok

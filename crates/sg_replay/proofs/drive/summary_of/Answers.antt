@@ -1,4 +1,4 @@
-use Rattle.sg_drive.specs.Held.{drive_of}
+use Rattle.sg_drive.specs.GeneratorModel.{drive_of}
 use Rattle.sg_replay.proofs.Driving.{few_steps, full_record, sums}
 use Rattle.sg_replay.proofs.drive.summary_of.Goals as goal
 

@@ -4,7 +4,7 @@ use Rattle.std.specs.Option.{option_map_or}
 use Rattle.std.proofs.lemmas.List.{drop_all}
 use Rattle.sg_model.specs.Names.{Name}
 use Rattle.sg_model.proofs.Small.{drop_at}
-use Rattle.sg_sched.specs.Format.Said.{TagSource}
+use Rattle.sg_sched.specs.Format.LineContents.{TagSource}
 use Rattle.sg_sched.specs.Format.Faults.{tag_roles}
 use Rattle.sg_sched.specs.Format.Items.{roles_of}
 use Rattle.sg_sched_text.specs.Crafting.{rise_on}

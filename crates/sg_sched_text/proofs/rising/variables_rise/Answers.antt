@@ -4,7 +4,7 @@ use Rattle.std.specs.Option.{option_map_or}
 use Rattle.std.proofs.lemmas.List.{drop_all}
 use Rattle.sg_model.specs.Names.{Name}
 use Rattle.sg_model.proofs.Small.{drop_at}
-use Rattle.sg_sched.specs.Format.Said.{Committed}
+use Rattle.sg_sched.specs.Format.LineContents.{Committed}
 use Rattle.sg_sched.specs.Format.Faults.{variables}
 use Rattle.sg_sched.specs.Format.Items.{variables_of}
 use Rattle.sg_sched_text.specs.Crafting.{rise_on}

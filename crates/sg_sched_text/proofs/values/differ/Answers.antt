@@ -2,7 +2,7 @@ use Rattle.std.proofs.Common.{◌≡◌, ◌∙◌, ◌<◌, ◌+◌, ap, sym, a
 use Rattle.sg_model.specs.Names.{Name}
 use Rattle.sg_model.specs.Lists.{all_differ}
 use Rattle.sg_model.proofs.Small.{drop_at}
-use Rattle.sg_sched.specs.Format.Said.{Assignment}
+use Rattle.sg_sched.specs.Format.LineContents.{Assignment}
 use Rattle.sg_sched.proofs.NamesLaws.{differ_twice, differ_push}
 use Rattle.sg_sched_text.proofs.values.differ.Goals as goal
 

@@ -6,7 +6,7 @@ use Rattle.sg_base.specs.declared.value.Value.{Value}
 use Rattle.sg_base.specs.Model.{value_of}
 use Rattle.sg_model.specs.Lists.{value_at}
 use Rattle.sg_model.specs.Values.{Value as AValue}
-use Rattle.sg_sched.specs.Format.Said.{Assignment}
+use Rattle.sg_sched.specs.Format.LineContents.{Assignment}
 use Rattle.sg_sched.specs.Format.Values.{value_of as spelled}
 use Rattle.sg_sched_text.specs.Numbers.{numbered, from_number}
 use Rattle.sg_sched_text.proofs.ValueLaws.{next_some}

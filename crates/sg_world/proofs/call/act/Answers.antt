@@ -1,4 +1,4 @@
-use Rattle.std.proofs.Common.{◌≡◌, ℕ, Some, option_map, Err, inl, inr, sym, ◌∙◌, ap}
+use Rattle.std.proofs.Common.{◌≡◌, ℕ, Some, option_map, Err, sym, ◌∙◌, ap}
 use Rattle.std.specs.Option.{option_copied}
 use Rattle.std.proofs.lemmas.List.{length-map}
 use Rattle.sg_base.specs.declared.value.Value.{Value as Held}
@@ -13,7 +13,7 @@ use Rattle.sg_role.specs.declared.fault.SendFault.TheVariants as sending
 use Rattle.sg_node.specs.Faults.{act_fault}
 use Rattle.sg_node.specs.declared.fault.ActFault.TheVariants as acting
 use Rattle.sg_walk.specs.Model.{event_of, values_of}
-use Rattle.sg_world.specs.Kept.{StepResult}
+use Rattle.sg_world.specs.RecordModel.{StepResult}
 use Rattle.sg_report.specs.Reported.{NotActed}
 use Rattle.sg_report.proofs.Answered.{err_same, not_acted}
 use Rattle.sg_world.proofs.Called.{comes_quiet, comes_sent}
@@ -30,8 +30,8 @@ returns-in-Ok-clause-comes c = λ past represents.
 
 pub returns-else-lacks-clause-comes : goal.returns-else-lacks-clause-comes
 returns-else-lacks-clause-comes c = λ past represents.
-    let ne = λ (e : c.in-Err.fault ≡ acting.OutOfMemory). clash c.is_act_memory-lacks.result (c.is_act_memory-lacks.ensures.1 (inl e)) c.if-lacks.false in
-    let unsent = λ (e : c.in-Err.fault ≡ acting.Send sending.OutOfMemory). clash c.is_act_memory-lacks.result (c.is_act_memory-lacks.ensures.1 (inr e)) c.if-lacks.false in
+    let ne = λ (e : c.in-Err.fault ≡ acting.OutOfMemory). clash c.is_act_memory-lacks.result (c.is_act_memory-lacks.ensures.1 e) c.if-lacks.false in
+    let unsent = λ (e : c.in-Err.fault ≡ acting.Send sending.OutOfMemory). c.act.ensures.told (c.in-Err.is ∙ ap Err e) in
     let other = λ (e : c.act.result ≡ Err acting.OutOfMemory). ne (err_same c.act.result c.in-Err.fault acting.OutOfMemory c.in-Err.is e) in
     let call = Act c.args.sid c.args.label (values_of c.args.values.now) c.args.confounders.now in
     comes_quiet c.args.frame c.args.node.now c.act.new.self past call (option_map NotActed (act_fault c.in-Err.fault)) (option_copied c.graph_of-step_result-inside.result) c.act.new.notes _ _ (c.step_result.view_is ∙ c.requires.blank) c.set_outcome-in-Err.ensures

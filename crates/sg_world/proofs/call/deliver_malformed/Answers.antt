@@ -9,7 +9,7 @@ use Rattle.sg_protocol.specs.Texts.{real}
 use Rattle.sg_node.specs.Faults.{refusal}
 use Rattle.sg_node.specs.declared.fault.Refusal.TheVariants as refusals
 use Rattle.sg_walk.specs.Model.{event_of}
-use Rattle.sg_world.specs.Kept.{StepResult}
+use Rattle.sg_world.specs.RecordModel.{StepResult}
 use Rattle.sg_report.specs.Reported.{Happened, NotDelivered}
 use Rattle.sg_report.proofs.Answered.{err_same, not_delivered, quiet}
 use Rattle.sg_world.proofs.Delivered.{unread}

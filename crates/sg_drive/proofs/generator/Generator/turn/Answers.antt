@@ -1,5 +1,5 @@
 use Rattle.sg_drive.proofs.Turned.{frame_there, index_there, room_turned, turn_is, turn_stops}
-use Rattle.sg_drive.specs.Held.{fate_held}
+use Rattle.sg_drive.specs.GeneratorModel.{fate_held}
 use Rattle.sg_drive.proofs.generator.Generator.turn.Goals as goal
 
 pub take_out-frame-requires : goal.take_out-frame-requires

@@ -3,7 +3,7 @@ use Rattle.std.specs.Prelude.{option_and_then}
 use Rattle.sg_ledger.specs.Format.{Represents}
 use Rattle.sg_report.specs.Outcome.{outcome_of}
 use Rattle.sg_keep.specs.Joins.{join_reported, with_join}
-use Rattle.sg_keep.specs.Kept.{AllRepresent}
+use Rattle.sg_keep.specs.KeptRuns.{AllRepresent}
 use Rattle.sg_keep.specs.Representation.{HoldsJoins}
 use Rattle.sg_keep.proofs.Adding.{on_err, on_ok_both}
 use Rattle.sg_keep.proofs.Asking.{holds_after, is_new, node_joins, not_failed, represent_now, working}
@@ -22,19 +22,19 @@ pub returns-clause-holds : goal.returns-clause-holds
 returns-clause-holds g c =
     let before = g.D.Disk.may_leave c.args.disk.now in
     let after = g.D.Disk.may_leave c.add_join.new.disk in
-    let told = outcome_of c.args.outcome.now in
-    let join = option_and_then join_reported told in
+    let reported = outcome_of c.args.outcome.now in
+    let join = option_and_then join_reported reported in
     let k = c.args.self.now in
     let ledger = c.add_join.new.ledger in
     on_ok_both c.add_join.result (ledger ≡ working (with_join k.ledger.joins join)) (AllRepresent after ledger.joins) (HoldsJoins (record k { ledger = ledger }) after)
-    (λ is all. holds_after k before told c.requires.asked ledger after join refl is all) c.add_join.ensures.added c.add_join.ensures.images
+    (λ is all. holds_after k before reported c.requires.asked ledger after join refl is all) c.add_join.ensures.added c.add_join.ensures.images
 
 pub returns-clause-images : goal.returns-clause-images
 returns-clause-images g c =
     let before = g.D.Disk.may_leave c.args.disk.now in
     let after = g.D.Disk.may_leave c.add_join.new.disk in
-    let told = outcome_of c.args.outcome.now in
-    let join = option_and_then join_reported told in
+    let reported = outcome_of c.args.outcome.now in
+    let join = option_and_then join_reported reported in
     let k = c.args.self.now in
     on_err c.add_join.result ((image : List ℕ) → after image → Represents image k.ledger.joins ⊎ Represents image (with_join k.ledger.joins join)) ((image : List ℕ) → after image → Represents image k.ledger.joins ⊎ Represents image k.player.node.joins)
-    (λ h image left. ⊎_elim (λ s. inl s) (λ s. inr (subst (Represents image) (sym (node_joins k before told c.requires.asked join refl)) s)) (h image left)) c.add_join.ensures.between
+    (λ h image left. ⊎_elim (λ s. inl s) (λ s. inr (subst (Represents image) (sym (node_joins k before reported c.requires.asked join refl)) s)) (h image left)) c.add_join.ensures.between

@@ -5,8 +5,8 @@ use Rattle.sg_play.specs.Ends.{Outside}
 use Rattle.sg_play.specs.Played.{Play, all_starts, starts}
 use Rattle.sg_play.proofs.Looping.{start_next}
 use Rattle.sg_keep.specs.Faults.{Counts}
-use Rattle.sg_keep.specs.Kept.{Kept}
-use Rattle.sg_keep.specs.Representation.{CameTo}
+use Rattle.sg_keep.specs.KeptRuns.{HasKept}
+use Rattle.sg_keep.specs.Representation.{Progressed}
 use Rattle.sg_keep.proofs.Counting.{falls_of, falls_on, later_tells, no_fall, went}
 use Rattle.sg_keep.proofs.Ending.{end_on, to_same}
 use Rattle.sg_keep.proofs.Going.{starts_on}
@@ -52,7 +52,7 @@ returns-in-Err-clause-progress g c = λ p start s w h.
     let so_far : Play = all_starts p (take at c.args.starts.now) in
     let before = c.loop-start.invariant.progress p start s w h in
     end_on start now leaves (all_starts p (take (at + 1) c.args.starts.now)) (all_starts p c.args.starts.now) c.in-Err.fault (starts_on p (at + 1) c.args.starts.now)
-    (subst (λ (z : Play). Kept start now leaves z (Err c.in-Err.fault)) (start_next p at c.args.starts.now c.start-item.result c.loop-start-test.true c.start-item.is) (c.in-Err.ensures.progress so_far start before.0 before.2 before.1))
+    (subst (λ (z : Play). HasKept start now leaves z (Err c.in-Err.fault)) (start_next p at c.args.starts.now c.start-item.result c.loop-start-test.true c.start-item.is) (c.in-Err.ensures.progress so_far start before.0 before.2 before.1))
 
 pub returns-clause-faults : goal.returns-clause-faults
 returns-clause-faults g c = went (record { link = g.L.Link.faults c.args.link.now; out = g.O.Sink.faults c.args.out.now; disk = g.D.Disk.faults c.args.disk.now }) (record { link = g.L.Link.faults c.loop-start.link; out = g.O.Sink.faults c.loop-start.out; disk = g.D.Disk.faults c.loop-start.disk }) tt c.loop-start.invariant.falls
@@ -60,4 +60,4 @@ returns-clause-faults g c = went (record { link = g.L.Link.faults c.args.link.no
 pub returns-clause-progress : goal.returns-clause-progress
 returns-clause-progress g c = λ p start s w h.
     let now : Outside = record { written = g.O.Sink.written c.loop-start.out; sent = g.L.Link.sent c.loop-start.link } in
-    subst (λ (z : List ScriptStart). CameTo start now (g.D.Disk.may_leave c.loop-start.disk) c.loop-start.self (g.R.Fresh.random c.loop-start.fresh) (all_starts p z) (Ok tt)) (take_all c.loop-start.start-index c.args.starts.now c.loop-start-test.false) (c.loop-start.invariant.progress p start s w h)
+    subst (λ (z : List ScriptStart). Progressed start now (g.D.Disk.may_leave c.loop-start.disk) c.loop-start.self (g.R.Fresh.random c.loop-start.fresh) (all_starts p z) (Ok tt)) (take_all c.loop-start.start-index c.args.starts.now c.loop-start-test.false) (c.loop-start.invariant.progress p start s w h)

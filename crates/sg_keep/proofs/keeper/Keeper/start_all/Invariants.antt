@@ -1,7 +1,7 @@
 use Rattle.std.proofs.Common.{◌≡◌, Some, Ok, take}
 use Rattle.sg_play.specs.Ends.{Outside, Whole}
 use Rattle.sg_play.specs.Played.{Play, all_starts}
-use Rattle.sg_keep.specs.Representation.{CameTo, HoldsJoins, RepresentsKept}
+use Rattle.sg_keep.specs.Representation.{Progressed, HoldsJoins, RepresentsKept}
 use Rattle.sg_keep.proofs.Counting.{NoFall}
 use Rattle.sg_keep.proofs.keeper.Keeper.start_all.Given as goal
 
@@ -13,5 +13,5 @@ invariant-loop-start g l = record {
   deliveries : g.L.Link.deliveries l.link ≡ g.L.Link.deliveries l.initial.link;
   holds : HoldsJoins l.self (g.D.Disk.may_leave l.disk);
   progress : (p : Play) (start : Outside) → RepresentsKept l.initial.self p → g.R.Fresh.random l.initial.fresh ≡ Some p.random → Whole start (record { written = g.O.Sink.written l.initial.out; sent = g.L.Link.sent l.initial.link }) p.steps
-      → CameTo start (record { written = g.O.Sink.written l.out; sent = g.L.Link.sent l.link }) (g.D.Disk.may_leave l.disk) l.self (g.R.Fresh.random l.fresh) (all_starts p (take l.start-index l.starts)) (Ok tt);
+      → Progressed start (record { written = g.O.Sink.written l.out; sent = g.L.Link.sent l.link }) (g.D.Disk.may_leave l.disk) l.self (g.R.Fresh.random l.fresh) (all_starts p (take l.start-index l.starts)) (Ok tt);
 }

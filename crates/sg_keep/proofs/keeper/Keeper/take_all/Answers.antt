@@ -5,8 +5,8 @@ use Rattle.sg_play.specs.Played.{Play, all_deliveries, with_turn}
 use Rattle.sg_play.proofs.Looping.{delivery_next, left_next, left_none, taken_all}
 use Rattle.sg_play.proofs.Running.{nothing_sent}
 use Rattle.sg_keep.specs.Faults.{Counts}
-use Rattle.sg_keep.specs.Kept.{Kept}
-use Rattle.sg_keep.specs.Representation.{CameTo}
+use Rattle.sg_keep.specs.KeptRuns.{HasKept}
+use Rattle.sg_keep.specs.Representation.{Progressed}
 use Rattle.sg_keep.proofs.Asking.{link_end, memory_end}
 use Rattle.sg_keep.proofs.Counting.{falls_of, falls_on, later_tells, link_full, link_tells, link_took, no_fall, went}
 use Rattle.sg_keep.proofs.Ending.{end_on, to_same}
@@ -19,8 +19,8 @@ loop-taken-init g c = record {
   disk_bound = refl;
   falls = no_fall (record { link = g.L.Link.faults c.args.link.now; out = g.O.Sink.faults c.args.out.now; disk = g.D.Disk.faults c.args.disk.now });
   holds = c.requires.holds;
-  left = λ deliveries told. told;
-  progress = λ p start deliveries told s w h. (s, h, w);
+  left = λ deliveries reported. reported;
+  progress = λ p start deliveries reported s w h. (s, h, w);
 }
 
 pub loop-taken-preserved : goal.loop-taken-preserved
@@ -38,13 +38,13 @@ loop-taken-preserved g c =
       disk_bound = one.disk_bound ∙ inv.disk_bound;
       falls = falls_on old mid new inv.falls (falls_on mid took new (link_took _ _ _ _ c.recv.ensures.never_falls) (falls_of took new c.deliver.result c.deliver.ensures.faults));
       holds = one.holds;
-      left = λ deliveries told. one.deliveries ∙ (first (drop k deliveries) (inv.left deliveries told)).1 ∙ ap (λ l. Some l) (left_next k deliveries);
-      progress = λ p start deliveries told s w h.
+      left = λ deliveries reported. one.deliveries ∙ (first (drop k deliveries) (inv.left deliveries reported)).1 ∙ ap (λ l. Some l) (left_next k deliveries);
+      progress = λ p start deliveries reported s w h.
           let now : Outside = record { written = g.O.Sink.written c.deliver.new.out; sent = g.L.Link.sent c.deliver.new.link } in
           let so_far : Play = all_deliveries p (take k deliveries) in
-          let before = inv.progress p start deliveries told s w h in
+          let before = inv.progress p start deliveries reported s w h in
           let whole = nothing_sent start so_far (g.O.Sink.written c.loop-taken.out) (g.L.Link.sent c.loop-taken.link) (g.L.Link.sent c.recv.new.self) c.recv.ensures.kept_sent before.1 in
-          let next : drop k deliveries ≡ c.as_slice.result.now ∷ drop 1 (drop k deliveries) = (first (drop k deliveries) (inv.left deliveries told)).0 ∙ ap (λ (b : List ℕ). b ∷ drop 1 (drop k deliveries)) (sym c.as_slice.ensures.value) in
+          let next : drop k deliveries ≡ c.as_slice.result.now ∷ drop 1 (drop k deliveries) = (first (drop k deliveries) (inv.left deliveries reported)).0 ∙ ap (λ (b : List ℕ). b ∷ drop 1 (drop k deliveries)) (sym c.as_slice.ensures.value) in
           to_same start now (g.D.Disk.may_leave c.deliver.new.disk) c.deliver.new.self (g.R.Fresh.random c.deliver.new.fresh) (with_turn so_far (Deliver c.as_slice.result.now)) (all_deliveries p (take (k + 1) deliveries)) (Ok tt)
           (delivery_next p k deliveries c.as_slice.result.now next) (one.progress so_far start before.0 before.2 whole);
     }
@@ -58,24 +58,24 @@ returns-in-Err-clause-faults g c =
     later_tells old took new (Err c.in-Err.fault) (falls_on old mid took c.loop-taken.invariant.falls (link_took _ _ _ _ c.recv.ensures.never_falls)) c.in-Err.ensures.faults
 
 pub returns-in-Err-clause-progress : goal.returns-in-Err-clause-progress
-returns-in-Err-clause-progress g c = let within : c.loop-taken._taken + 1 ≤ c.args.most = omega arith in λ p start deliveries told s w h.
+returns-in-Err-clause-progress g c = let within : c.loop-taken._taken + 1 ≤ c.args.most = omega arith in λ p start deliveries reported s w h.
     let inv = c.loop-taken.invariant in
     let k = c.loop-taken._taken in
     let first = rw c.in-Ok-Some.field-0-is at c.in-Ok-Some.ensures.first in
     let now : Outside = record { written = g.O.Sink.written c.deliver.new.out; sent = g.L.Link.sent c.deliver.new.link } in
     let leaves = g.D.Disk.may_leave c.deliver.new.disk in
     let so_far : Play = all_deliveries p (take k deliveries) in
-    let before = inv.progress p start deliveries told s w h in
+    let before = inv.progress p start deliveries reported s w h in
     let whole = nothing_sent start so_far (g.O.Sink.written c.loop-taken.out) (g.L.Link.sent c.loop-taken.link) (g.L.Link.sent c.recv.new.self) c.recv.ensures.kept_sent before.1 in
-    let next : drop k deliveries ≡ c.as_slice.result.now ∷ drop 1 (drop k deliveries) = (first (drop k deliveries) (inv.left deliveries told)).0 ∙ ap (λ (b : List ℕ). b ∷ drop 1 (drop k deliveries)) (sym c.as_slice.ensures.value) in
+    let next : drop k deliveries ≡ c.as_slice.result.now ∷ drop 1 (drop k deliveries) = (first (drop k deliveries) (inv.left deliveries reported)).0 ∙ ap (λ (b : List ℕ). b ∷ drop 1 (drop k deliveries)) (sym c.as_slice.ensures.value) in
     end_on start now leaves (all_deliveries p (take (k + 1) deliveries)) (all_deliveries p (take c.args.most deliveries)) c.in-Err.fault (deliveries_on p (k + 1) c.args.most deliveries within)
-    (subst (λ (z : Play). Kept start now leaves z (Err c.in-Err.fault)) (delivery_next p k deliveries c.as_slice.result.now next) (c.in-Err.ensures.progress so_far start before.0 before.2 whole))
+    (subst (λ (z : Play). HasKept start now leaves z (Err c.in-Err.fault)) (delivery_next p k deliveries c.as_slice.result.now next) (c.in-Err.ensures.progress so_far start before.0 before.2 whole))
 
 pub returns-in-Err-clause-at_most : goal.returns-in-Err-clause-at_most
-returns-in-Err-clause-at_most g c = let within : c.loop-taken._taken + 1 ≤ c.args.most = omega arith in λ deliveries told.
+returns-in-Err-clause-at_most g c = let within : c.loop-taken._taken + 1 ≤ c.args.most = omega arith in λ deliveries reported.
     let k = c.loop-taken._taken in
     let first = rw c.in-Ok-Some.field-0-is at c.in-Ok-Some.ensures.first in
-    (k + 1, within, c.in-Err.ensures.deliveries ∙ (first (drop k deliveries) (c.loop-taken.invariant.left deliveries told)).1 ∙ ap (λ l. Some l) (left_next k deliveries))
+    (k + 1, within, c.in-Err.ensures.deliveries ∙ (first (drop k deliveries) (c.loop-taken.invariant.left deliveries reported)).1 ∙ ap (λ l. Some l) (left_next k deliveries))
 
 pub returns-in-Ok-None-clause-faults : goal.returns-in-Ok-None-clause-faults
 returns-in-Ok-None-clause-faults g c =
@@ -85,30 +85,30 @@ returns-in-Ok-None-clause-faults g c =
     went old took tt (falls_on old mid took c.loop-taken.invariant.falls (link_took _ _ _ _ c.recv.ensures.never_falls))
 
 pub returns-in-Ok-None-clause-progress : goal.returns-in-Ok-None-clause-progress
-returns-in-Ok-None-clause-progress g c = let within : c.loop-taken._taken ≤ c.args.most = omega arith in λ p start deliveries told s w h.
+returns-in-Ok-None-clause-progress g c = let within : c.loop-taken._taken ≤ c.args.most = omega arith in λ p start deliveries reported s w h.
     let inv = c.loop-taken.invariant in
     let k = c.loop-taken._taken in
     let end = rw c.in-Ok-None.field-0-is at c.in-Ok-None.ensures.at_end in
     let now : Outside = record { written = g.O.Sink.written c.loop-taken.out; sent = g.L.Link.sent c.recv.new.self } in
     let so_far : Play = all_deliveries p (take k deliveries) in
-    let before = inv.progress p start deliveries told s w h in
+    let before = inv.progress p start deliveries reported s w h in
     let whole = nothing_sent start so_far (g.O.Sink.written c.loop-taken.out) (g.L.Link.sent c.loop-taken.link) (g.L.Link.sent c.recv.new.self) c.recv.ensures.kept_sent before.1 in
-    subst (λ (z : List (List ℕ)). CameTo start now (g.D.Disk.may_leave c.loop-taken.disk) c.loop-taken.self (g.R.Fresh.random c.loop-taken.fresh) (all_deliveries p z) (Ok tt))
-    (sym (taken_all k c.args.most deliveries within (end (drop k deliveries) (inv.left deliveries told)))) (before.0, whole, before.2)
+    subst (λ (z : List (List ℕ)). Progressed start now (g.D.Disk.may_leave c.loop-taken.disk) c.loop-taken.self (g.R.Fresh.random c.loop-taken.fresh) (all_deliveries p z) (Ok tt))
+    (sym (taken_all k c.args.most deliveries within (end (drop k deliveries) (inv.left deliveries reported)))) (before.0, whole, before.2)
 
 pub returns-in-Ok-None-clause-left : goal.returns-in-Ok-None-clause-left
-returns-in-Ok-None-clause-left g c = let within : c.loop-taken._taken ≤ c.args.most = omega arith in λ deliveries told.
+returns-in-Ok-None-clause-left g c = let within : c.loop-taken._taken ≤ c.args.most = omega arith in λ deliveries reported.
     let inv = c.loop-taken.invariant in
     let k = c.loop-taken._taken in
     let end = rw c.in-Ok-None.field-0-is at c.in-Ok-None.ensures.at_end in
     let kept = rw c.in-Ok-None.field-0-is at c.in-Ok-None.ensures.kept_at_end in
-    let none : drop k deliveries ≡ [] = end (drop k deliveries) (inv.left deliveries told) in
-    kept ∙ inv.left deliveries told ∙ ap (λ l. Some l) (none ∙ sym (left_none k c.args.most deliveries within none))
+    let none : drop k deliveries ≡ [] = end (drop k deliveries) (inv.left deliveries reported) in
+    kept ∙ inv.left deliveries reported ∙ ap (λ l. Some l) (none ∙ sym (left_none k c.args.most deliveries within none))
 
 pub returns-in-Ok-None-clause-at_most : goal.returns-in-Ok-None-clause-at_most
-returns-in-Ok-None-clause-at_most g c = let within : c.loop-taken._taken ≤ c.args.most = omega arith in λ deliveries told.
+returns-in-Ok-None-clause-at_most g c = let within : c.loop-taken._taken ≤ c.args.most = omega arith in λ deliveries reported.
     let kept = rw c.in-Ok-None.field-0-is at c.in-Ok-None.ensures.kept_at_end in
-    (c.loop-taken._taken, within, kept ∙ c.loop-taken.invariant.left deliveries told)
+    (c.loop-taken._taken, within, kept ∙ c.loop-taken.invariant.left deliveries reported)
 
 pub returns-in-Err-Failed-clause-faults : goal.returns-in-Err-Failed-clause-faults
 returns-in-Err-Failed-clause-faults g c =
@@ -118,16 +118,16 @@ returns-in-Err-Failed-clause-faults g c =
     later_tells old mid took _ c.loop-taken.invariant.falls (link_tells _ _ _ _ c.recv.ensures.never_falls (c.recv.ensures.failed (c.in-Err-Failed.is ∙ ap Err c.in-Err-Failed.field-0-is)))
 
 pub returns-in-Err-Failed-clause-progress : goal.returns-in-Err-Failed-clause-progress
-returns-in-Err-Failed-clause-progress g c = let within : c.loop-taken._taken ≤ c.args.most = omega arith in λ p start deliveries told s w h.
+returns-in-Err-Failed-clause-progress g c = let within : c.loop-taken._taken ≤ c.args.most = omega arith in λ p start deliveries reported s w h.
     let k = c.loop-taken._taken in
     let now : Outside = record { written = g.O.Sink.written c.loop-taken.out; sent = g.L.Link.sent c.recv.new.self } in
     let so_far : Play = all_deliveries p (take k deliveries) in
-    let before = c.loop-taken.invariant.progress p start deliveries told s w h in
+    let before = c.loop-taken.invariant.progress p start deliveries reported s w h in
     link_end start now (g.D.Disk.may_leave c.loop-taken.disk) c.loop-taken.self so_far (all_deliveries p (take c.args.most deliveries)) c.loop-taken.invariant.holds before.0 (deliveries_on p k c.args.most deliveries within)
     (nothing_sent start so_far (g.O.Sink.written c.loop-taken.out) (g.L.Link.sent c.loop-taken.link) (g.L.Link.sent c.recv.new.self) c.recv.ensures.kept_sent before.1)
 
 pub returns-in-Err-Failed-clause-at_most : goal.returns-in-Err-Failed-clause-at_most
-returns-in-Err-Failed-clause-at_most g c = let within : c.loop-taken._taken ≤ c.args.most = omega arith in λ deliveries told. (c.loop-taken._taken, within, c.in-Err-Failed.ensures.kept ∙ c.loop-taken.invariant.left deliveries told)
+returns-in-Err-Failed-clause-at_most g c = let within : c.loop-taken._taken ≤ c.args.most = omega arith in λ deliveries reported. (c.loop-taken._taken, within, c.in-Err-Failed.ensures.kept ∙ c.loop-taken.invariant.left deliveries reported)
 
 pub returns-in-Err-OutOfMemory-clause-faults : goal.returns-in-Err-OutOfMemory-clause-faults
 returns-in-Err-OutOfMemory-clause-faults g c =
@@ -137,28 +137,28 @@ returns-in-Err-OutOfMemory-clause-faults g c =
     later_tells old mid took _ c.loop-taken.invariant.falls (link_full _ _ _ _ c.recv.ensures.never_falls)
 
 pub returns-in-Err-OutOfMemory-clause-progress : goal.returns-in-Err-OutOfMemory-clause-progress
-returns-in-Err-OutOfMemory-clause-progress g c = let within : c.loop-taken._taken ≤ c.args.most = omega arith in λ p start deliveries told s w h.
+returns-in-Err-OutOfMemory-clause-progress g c = let within : c.loop-taken._taken ≤ c.args.most = omega arith in λ p start deliveries reported s w h.
     let k = c.loop-taken._taken in
     let now : Outside = record { written = g.O.Sink.written c.loop-taken.out; sent = g.L.Link.sent c.recv.new.self } in
     let so_far : Play = all_deliveries p (take k deliveries) in
-    let before = c.loop-taken.invariant.progress p start deliveries told s w h in
+    let before = c.loop-taken.invariant.progress p start deliveries reported s w h in
     memory_end start now (g.D.Disk.may_leave c.loop-taken.disk) c.loop-taken.self so_far (all_deliveries p (take c.args.most deliveries)) c.loop-taken.invariant.holds before.0 (deliveries_on p k c.args.most deliveries within)
     (nothing_sent start so_far (g.O.Sink.written c.loop-taken.out) (g.L.Link.sent c.loop-taken.link) (g.L.Link.sent c.recv.new.self) c.recv.ensures.kept_sent before.1) _ refl
 
 pub returns-in-Err-OutOfMemory-clause-at_most : goal.returns-in-Err-OutOfMemory-clause-at_most
-returns-in-Err-OutOfMemory-clause-at_most g c = let within : c.loop-taken._taken ≤ c.args.most = omega arith in λ deliveries told. (c.loop-taken._taken, within, c.in-Err-OutOfMemory.ensures.kept ∙ c.loop-taken.invariant.left deliveries told)
+returns-in-Err-OutOfMemory-clause-at_most g c = let within : c.loop-taken._taken ≤ c.args.most = omega arith in λ deliveries reported. (c.loop-taken._taken, within, c.in-Err-OutOfMemory.ensures.kept ∙ c.loop-taken.invariant.left deliveries reported)
 
 pub returns-clause-faults : goal.returns-clause-faults
 returns-clause-faults g c = went (record { link = g.L.Link.faults c.args.link.now; out = g.O.Sink.faults c.args.out.now; disk = g.D.Disk.faults c.args.disk.now }) (record { link = g.L.Link.faults c.loop-taken.link; out = g.O.Sink.faults c.loop-taken.out; disk = g.D.Disk.faults c.loop-taken.disk }) tt c.loop-taken.invariant.falls
 
 pub returns-clause-progress : goal.returns-clause-progress
-returns-clause-progress g c = let all : c.loop-taken._taken ≡ c.args.most = omega arith in λ p start deliveries told s w h.
+returns-clause-progress g c = let all : c.loop-taken._taken ≡ c.args.most = omega arith in λ p start deliveries reported s w h.
     let now : Outside = record { written = g.O.Sink.written c.loop-taken.out; sent = g.L.Link.sent c.loop-taken.link } in
-    subst (λ (k : ℕ). CameTo start now (g.D.Disk.may_leave c.loop-taken.disk) c.loop-taken.self (g.R.Fresh.random c.loop-taken.fresh) (all_deliveries p (take k deliveries)) (Ok tt)) all (c.loop-taken.invariant.progress p start deliveries told s w h)
+    subst (λ (k : ℕ). Progressed start now (g.D.Disk.may_leave c.loop-taken.disk) c.loop-taken.self (g.R.Fresh.random c.loop-taken.fresh) (all_deliveries p (take k deliveries)) (Ok tt)) all (c.loop-taken.invariant.progress p start deliveries reported s w h)
 
 pub returns-clause-left : goal.returns-clause-left
-returns-clause-left g c = let all : c.loop-taken._taken ≡ c.args.most = omega arith in λ deliveries told.
-    c.loop-taken.invariant.left deliveries told ∙ ap (λ k. Some (drop k deliveries)) all
+returns-clause-left g c = let all : c.loop-taken._taken ≡ c.args.most = omega arith in λ deliveries reported.
+    c.loop-taken.invariant.left deliveries reported ∙ ap (λ k. Some (drop k deliveries)) all
 
 pub returns-clause-at_most : goal.returns-clause-at_most
-returns-clause-at_most g c = let within : c.loop-taken._taken ≤ c.args.most = omega arith in λ deliveries told. (c.loop-taken._taken, within, c.loop-taken.invariant.left deliveries told)
+returns-clause-at_most g c = let within : c.loop-taken._taken ≤ c.args.most = omega arith in λ deliveries reported. (c.loop-taken._taken, within, c.loop-taken.invariant.left deliveries reported)

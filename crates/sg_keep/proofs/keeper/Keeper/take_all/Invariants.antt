@@ -1,7 +1,7 @@
 use Rattle.std.proofs.Common.{◌≡◌, ℕ, List, Some, Ok, take, drop}
 use Rattle.sg_play.specs.Ends.{Outside, Whole}
 use Rattle.sg_play.specs.Played.{Play, all_deliveries}
-use Rattle.sg_keep.specs.Representation.{CameTo, HoldsJoins, RepresentsKept}
+use Rattle.sg_keep.specs.Representation.{Progressed, HoldsJoins, RepresentsKept}
 use Rattle.sg_keep.proofs.Counting.{NoFall}
 use Rattle.sg_keep.proofs.keeper.Keeper.take_all.Given as goal
 
@@ -14,5 +14,5 @@ invariant-loop-taken g l = record {
   left : (deliveries : List (List ℕ)) → g.L.Link.deliveries l.initial.link ≡ Some deliveries → g.L.Link.deliveries l.link ≡ Some (drop l._taken deliveries);
   progress : (p : Play) (start : Outside) (deliveries : List (List ℕ)) → g.L.Link.deliveries l.initial.link ≡ Some deliveries → RepresentsKept l.initial.self p → g.R.Fresh.random l.initial.fresh ≡ Some p.random
       → Whole start (record { written = g.O.Sink.written l.initial.out; sent = g.L.Link.sent l.initial.link }) p.steps
-      → CameTo start (record { written = g.O.Sink.written l.out; sent = g.L.Link.sent l.link }) (g.D.Disk.may_leave l.disk) l.self (g.R.Fresh.random l.fresh) (all_deliveries p (take l._taken deliveries)) (Ok tt);
+      → Progressed start (record { written = g.O.Sink.written l.out; sent = g.L.Link.sent l.link }) (g.D.Disk.may_leave l.disk) l.self (g.R.Fresh.random l.fresh) (all_deliveries p (take l._taken deliveries)) (Ok tt);
 }

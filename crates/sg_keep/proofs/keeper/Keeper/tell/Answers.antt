@@ -6,7 +6,7 @@ use Rattle.sg_play.specs.Ends.{Outside}
 use Rattle.sg_play.specs.Played.{answer_in, called}
 use Rattle.sg_play.proofs.Keeping.{keeps_same, keeps_then}
 use Rattle.sg_play.proofs.Running.{turn_given}
-use Rattle.sg_play.proofs.Telling.{told_given}
+use Rattle.sg_play.proofs.Telling.{reported_given}
 use Rattle.sg_keep.proofs.Asking.{asked_then, holds_on, represents_kept, unkept, unplayed, untold}
 use Rattle.sg_keep.proofs.Counting.{disk_falls_only, later_tells, of_play, play_went, unkept_tells}
 use Rattle.sg_keep.proofs.keeper.Keeper.tell.Goals as goal
@@ -35,12 +35,12 @@ returns-in-Err-give-clause-faults g c =
 
 pub returns-in-Err-give-clause-progress : goal.returns-in-Err-give-clause-progress
 returns-in-Err-give-clause-progress g c = λ p k start a w h.
-    let told = outcome_of c.args.outcome.now in
+    let reported = outcome_of c.args.outcome.now in
     let graph = option_copied c.args.graph in
     let m = c.keep_join.new.self in
     let now : Outside = record { written = g.O.Sink.written c.give.new.out; sent = g.L.Link.sent c.give.new.link } in
-    untold start now (g.D.Disk.may_leave c.keep_join.new.disk) c.args.self.now p k told graph a m c.keep_join.ensures.player c.in-Ok.ensures.holds c.in-Err-give.fault
-    (c.in-Err-give.ensures.progress p k start (asked_then start now (g.D.Disk.may_leave c.keep_join.new.disk) c.args.self.now p k told graph a m c.keep_join.ensures.player c.in-Ok.ensures.holds) a.stays h)
+    untold start now (g.D.Disk.may_leave c.keep_join.new.disk) c.args.self.now p k reported graph a m c.keep_join.ensures.player c.in-Ok.ensures.holds c.in-Err-give.fault
+    (c.in-Err-give.ensures.progress p k start (asked_then start now (g.D.Disk.may_leave c.keep_join.new.disk) c.args.self.now p k reported graph a m c.keep_join.ensures.player c.in-Ok.ensures.holds) a.stays h)
 
 pub returns-in-Ok-play_if-clause-faults : goal.returns-in-Ok-play_if-clause-faults
 returns-in-Ok-play_if-clause-faults g c =
@@ -63,15 +63,15 @@ returns-in-Ok-play_if-clause-holds g c =
 
 pub returns-in-Ok-play_if-clause-progress : goal.returns-in-Ok-play_if-clause-progress
 returns-in-Ok-play_if-clause-progress g c = λ p k start a w h.
-    let told = outcome_of c.args.outcome.now in
+    let reported = outcome_of c.args.outcome.now in
     let graph = option_copied c.args.graph in
     let m = c.keep_join.new.self in
     let leaves = g.D.Disk.may_leave c.keep_join.new.disk in
     let now : Outside = record { written = g.O.Sink.written c.play_if.new.out; sent = g.L.Link.sent c.play_if.new.link } in
-    let given = c.in-Ok-give.ensures.progress p k start (asked_then start now leaves c.args.self.now p k told graph a m c.keep_join.ensures.player c.in-Ok.ensures.holds) a.stays h in
-    let sid = c.sid_reported.ensures.told ∙ ap (option_and_then sid_reported) a.asked.is_told ∙ told_given _ (answer_in p k) in
+    let given = c.in-Ok-give.ensures.progress p k start (asked_then start now leaves c.args.self.now p k reported graph a m c.keep_join.ensures.player c.in-Ok.ensures.holds) a.stays h in
+    let sid = c.sid_reported.ensures.reported ∙ ap (option_and_then sid_reported) a.asked.is_reported ∙ reported_given _ (answer_in p k) in
     let turn = turn_given start now c.play_if.new.self (g.R.Fresh.random c.play_if.new.fresh) p k c.sid_reported.result (Ok tt) sid (c.in-Ok-play_if.ensures.progress (called p k) start given.0 w given.1) in
-    (represents_kept start now leaves c.args.self.now p k told graph a m c.keep_join.ensures.player c.in-Ok.ensures.holds (record m { player = c.play_if.new.self }) turn.0.0, turn.0.1, turn.1)
+    (represents_kept start now leaves c.args.self.now p k reported graph a m c.keep_join.ensures.player c.in-Ok.ensures.holds (record m { player = c.play_if.new.self }) turn.0.0, turn.0.1, turn.1)
 
 pub returns-in-Err-play_if-clause-faults : goal.returns-in-Err-play_if-clause-faults
 returns-in-Err-play_if-clause-faults g c =
@@ -88,12 +88,12 @@ returns-in-Err-play_if-clause-faults g c =
 
 pub returns-in-Err-play_if-clause-progress : goal.returns-in-Err-play_if-clause-progress
 returns-in-Err-play_if-clause-progress g c = λ p k start a w h.
-    let told = outcome_of c.args.outcome.now in
+    let reported = outcome_of c.args.outcome.now in
     let graph = option_copied c.args.graph in
     let m = c.keep_join.new.self in
     let leaves = g.D.Disk.may_leave c.keep_join.new.disk in
     let now : Outside = record { written = g.O.Sink.written c.play_if.new.out; sent = g.L.Link.sent c.play_if.new.link } in
-    let given = c.in-Ok-give.ensures.progress p k start (asked_then start now leaves c.args.self.now p k told graph a m c.keep_join.ensures.player c.in-Ok.ensures.holds) a.stays h in
-    let sid = c.sid_reported.ensures.told ∙ ap (option_and_then sid_reported) a.asked.is_told ∙ told_given _ (answer_in p k) in
+    let given = c.in-Ok-give.ensures.progress p k start (asked_then start now leaves c.args.self.now p k reported graph a m c.keep_join.ensures.player c.in-Ok.ensures.holds) a.stays h in
+    let sid = c.sid_reported.ensures.reported ∙ ap (option_and_then sid_reported) a.asked.is_reported ∙ reported_given _ (answer_in p k) in
     let turn = turn_given start now c.play_if.new.self (g.R.Fresh.random c.play_if.new.fresh) p k c.sid_reported.result (Err c.in-Err-play_if.fault) sid (c.in-Err-play_if.ensures.progress (called p k) start given.0 w given.1) in
-    unplayed start now leaves c.args.self.now p k told graph a m c.keep_join.ensures.player c.in-Ok.ensures.holds c.in-Err-play_if.fault turn
+    unplayed start now leaves c.args.self.now p k reported graph a m c.keep_join.ensures.player c.in-Ok.ensures.holds c.in-Err-play_if.fault turn

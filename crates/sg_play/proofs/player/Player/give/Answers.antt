@@ -10,9 +10,9 @@ use Rattle.sg_play.proofs.player.Player.give.Goals as goal
 
 pub returns-in-Ok-clause-progress : goal.returns-in-Ok-clause-progress
 returns-in-Ok-clause-progress g c = λ p k start asked left w.
-    let told = c.in-Ok.ensures.told p k (frames_made c.args.frame) asked left in
+    let reported = c.in-Ok.ensures.reported p k (frames_made c.args.frame) asked left in
     came_after start (record { written = g.O.Sink.written c.args.out.now; sent = g.L.Link.sent c.args.link.now }) (record { written = g.O.Sink.written c.post.new.out; sent = g.L.Link.sent c.post.new.link }) c.tell.new.self p k
-    c.in-Ok.line.items (frames_made c.args.frame) c.post.result w told.1 told.0
+    c.in-Ok.line.items (frames_made c.args.frame) c.post.result w reported.1 reported.0
     asked.is_made c.post.ensures.no_memory c.post.ensures.line c.post.ensures.frame c.post.ensures.prefix c.post.ensures.no_frame c.post.ensures.no_line
 
 pub returns-in-Err-clause-link_failed : goal.returns-in-Err-clause-link_failed

@@ -6,10 +6,10 @@ use Rattle.sg_report.specs.Reported.{sid_reported}
 
 pub returns-in-Ok-clause-names : goal.returns-in-Ok-clause-names
 returns-in-Ok-clause-names c = λ m t e named.
-    let told : sid_reported t ≡ Some c.in-Some.sid = sym (c.sid_reported.ensures.told ∙ ap (option_and_then sid_reported) e) ∙ c.in-Some.is in
-    c.in-Ok.ensures.ok 115 m named ∙ ap (λ (o : Option (List ℕ)). naming 115 (option_map_or (with_event m) o m)) (sym told)
+    let reported : sid_reported t ≡ Some c.in-Some.sid = sym (c.sid_reported.ensures.reported ∙ ap (option_and_then sid_reported) e) ∙ c.in-Some.is in
+    c.in-Ok.ensures.ok 115 m named ∙ ap (λ (o : Option (List ℕ)). naming 115 (option_map_or (with_event m) o m)) (sym reported)
 
 pub returns-in-None-clause-names : goal.returns-in-None-clause-names
 returns-in-None-clause-names c = λ m t e named.
-    let told : sid_reported t ≡ None = sym (c.sid_reported.ensures.told ∙ ap (option_and_then sid_reported) e) ∙ c.in-None.is in
-    named ∙ ap (λ (o : Option (List ℕ)). naming 115 (option_map_or (with_event m) o m)) (sym told)
+    let reported : sid_reported t ≡ None = sym (c.sid_reported.ensures.reported ∙ ap (option_and_then sid_reported) e) ∙ c.in-None.is in
+    named ∙ ap (λ (o : Option (List ℕ)). naming 115 (option_map_or (with_event m) o m)) (sym reported)

@@ -7,7 +7,7 @@ use Rattle.sg_play.specs.Played.{answer_in, called}
 use Rattle.sg_report.proofs.Answered.{err_same}
 use Rattle.sg_play.proofs.Coming.{no_memory_by}
 use Rattle.sg_play.proofs.Extends.{by_call}
-use Rattle.sg_play.proofs.Telling.{asked_quiet, told_given}
+use Rattle.sg_play.proofs.Telling.{asked_quiet, reported_given}
 use Rattle.sg_play.proofs.player.Player.start.Goals as goal
 use Rattle.sg_report.specs.Reported.{sid_reported}
 
@@ -46,4 +46,4 @@ returns-clause-progress g c = λ p start represents w.
 pub returns-clause-turn : goal.returns-clause-turn
 returns-clause-turn g c = λ p represents.
     let came = c.in_ok-outcome.ensures.comes 0 p.past represents.node in
-    c.sid_reported.ensures.told ∙ ap (option_and_then sid_reported) came.is_told ∙ told_given 0 (answer_in p (Start c.args.cast))
+    c.sid_reported.ensures.reported ∙ ap (option_and_then sid_reported) came.is_reported ∙ reported_given 0 (answer_in p (Start c.args.cast))

@@ -2,7 +2,7 @@ use Rattle.std.proofs.Common.{rules, ◌≡◌, Err, subst}
 use Rattle.sg_protocol.specs.Calls.{Start}
 use Rattle.sg_play.specs.Ends.{Outside}
 use Rattle.sg_play.specs.Played.{Play, called, starts, with_turn, without}
-use Rattle.sg_play.specs.Representation.{CameTo}
+use Rattle.sg_play.specs.Representation.{Progressed}
 use Rattle.sg_play.proofs.Coming.{failed, no_memory_by}
 use Rattle.sg_play.proofs.Extends.{by_start}
 use Rattle.sg_play.proofs.Running.{call_failed, start_is, turn_given, without_one}
@@ -19,7 +19,7 @@ returns-in_err-sid-clause-progress g c = let same : c.from_residual-in_err-sid.r
     let q : Play = without 1 p in
     let is : with_turn q (Start c.in_ok-cast.cast) ≡ starts p c.args.start_of.now = start_is p c.args.start_of.now c.args.self.now.programs.now c.next-nonce.result c.in_ok-cast.cast s.programs (c.next-nonce.ensures.drawn p.random w) c.in_ok-cast.ensures.cast in
     let now : Outside = record { written = g.O.Sink.written c.start.new.out; sent = g.L.Link.sent c.start.new.link } in
-    subst (λ (z : Play). CameTo start now c.start.new.self (g.R.Fresh.random c.next-nonce.new.self) z c.from_residual-in_err-sid.result) is
+    subst (λ (z : Play). Progressed start now c.start.new.self (g.R.Fresh.random c.next-nonce.new.self) z c.from_residual-in_err-sid.result) is
     (call_failed start now c.start.new.self (g.R.Fresh.random c.next-nonce.new.self) q (Start c.in_ok-cast.cast) c.from_residual-in_err-sid.result c.in_err-sid.field-0.0 same (c.in_err-sid.ensures.progress q start (without_one c.args.self.now p s) h))
 
 pub returns-clause-progress : goal.returns-clause-progress
@@ -29,6 +29,6 @@ returns-clause-progress g c = λ p start s w h.
     let now : Outside = record { written = g.O.Sink.written c.play_if.new.out; sent = g.L.Link.sent c.play_if.new.link } in
     let represents = without_one c.args.self.now p s in
     let came = c.in_ok-sid.ensures.progress q start represents h in
-    subst (λ (z : Play). CameTo start now c.play_if.new.self (g.R.Fresh.random c.play_if.new.fresh) z c.play_if.result) is
+    subst (λ (z : Play). Progressed start now c.play_if.new.self (g.R.Fresh.random c.play_if.new.fresh) z c.play_if.result) is
     (turn_given start now c.play_if.new.self (g.R.Fresh.random c.play_if.new.fresh) q (Start c.in_ok-cast.cast) c.in_ok-sid.sid c.play_if.result (c.in_ok-sid.ensures.turn q represents)
     (c.play_if.ensures.progress (called q (Start c.in_ok-cast.cast)) start came.0 (c.next-nonce.ensures.taken p.random w) came.1))

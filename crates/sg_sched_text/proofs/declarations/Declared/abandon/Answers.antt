@@ -1,6 +1,6 @@
 use Rattle.std.proofs.Common.{◌∙◌, subst, false}
 use Rattle.sg_sched_text.specs.Adding.{Added, add_step}
-use Rattle.sg_sched_text.specs.Taken.{Takes}
+use Rattle.sg_sched_text.specs.TakingLines.{Takes}
 use Rattle.sg_sched_text.proofs.AddingLaws.{abandon_added}
 use Rattle.sg_sched_text.proofs.declarations.Declared.abandon.Goals as goal
 

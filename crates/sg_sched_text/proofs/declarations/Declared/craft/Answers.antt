@@ -4,9 +4,9 @@ use Rattle.sg_protocol.specs.Graph.{Graph}
 use Rattle.sg_protocol.specs.Schedule.{Step}
 use Rattle.sg_sched.specs.Format.Faults.{rises, is_short}
 use Rattle.sg_sched.specs.Format.Items.{SoFar, graph_for, session_named}
-use Rattle.sg_sched.specs.Format.Said.{CraftContent}
+use Rattle.sg_sched.specs.Format.LineContents.{CraftContent}
 use Rattle.sg_sched_text.specs.Adding.{Added, add_step}
-use Rattle.sg_sched_text.specs.Taken.{Takes}
+use Rattle.sg_sched_text.specs.TakingLines.{Takes}
 use Rattle.sg_sched_text.proofs.CraftLaws.{craft_wrong, craft_added}
 use Rattle.sg_sched_text.proofs.declarations.Declared.craft.Goals as goal
 

@@ -4,7 +4,7 @@ use Rattle.sg_protocol.specs.Graph.{Graph}
 use Rattle.sg_protocol.specs.Schedule.{CraftStep}
 use Rattle.sg_sched.specs.Format.Crafts.{source_of}
 use Rattle.sg_sched.specs.Format.Items.{SoFar, graph_for}
-use Rattle.sg_sched.specs.Format.Said.{CraftContent}
+use Rattle.sg_sched.specs.Format.LineContents.{CraftContent}
 use Rattle.sg_sched_text.specs.Crafting.{Lists, known_ends, known_lists, known_source}
 use Rattle.sg_sched_text.proofs.CraftLaws.{no_ends, no_lists, no_seal, all_known}
 use Rattle.sg_sched_text.proofs.declarations.Declared.craft_step.Goals as goal

@@ -2,7 +2,7 @@ use Rattle.std.proofs.Common.{◌∙◌, subst, false, Some}
 use Rattle.sg_protocol.specs.Schedule.{DeliverStep}
 use Rattle.sg_sched.specs.Format.Model.{delivered}
 use Rattle.sg_sched_text.specs.Adding.{Added, add_step}
-use Rattle.sg_sched_text.specs.Taken.{Takes}
+use Rattle.sg_sched_text.specs.TakingLines.{Takes}
 use Rattle.sg_sched_text.proofs.AddingLaws.{deliver_added}
 use Rattle.sg_sched_text.proofs.declarations.Declared.deliver.Goals as goal
 

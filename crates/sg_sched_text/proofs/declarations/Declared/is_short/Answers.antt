@@ -3,7 +3,7 @@ use Rattle.std.specs.Prelude.{nat_le, option_and_then}
 use Rattle.sg_model.specs.Names.{Name}
 use Rattle.sg_protocol.specs.Frame.{tag_len}
 use Rattle.sg_sched.specs.Format.Items.{Session, SoFar, graph_for, session_named}
-use Rattle.sg_sched.specs.Format.Said.{CraftContent}
+use Rattle.sg_sched.specs.Format.LineContents.{CraftContent}
 use Rattle.sg_sched_text.specs.Adding.{session_index}
 use Rattle.sg_sched_text.specs.Crafting.{join_len, lens, item_len, opening_len}
 use Rattle.sg_sched_text.specs.Sessions.{session_of}

@@ -2,7 +2,7 @@ use Rattle.std.proofs.Common.{◌∙◌, ap, sym, subst}
 use Rattle.sg_sched.specs.declared.line.Line.{Line}
 use Rattle.sg_sched.specs.Format.Model.{said}
 use Rattle.sg_sched_text.specs.Adding.{Added, after_line}
-use Rattle.sg_sched_text.specs.Taken.{Takes}
+use Rattle.sg_sched_text.specs.TakingLines.{Takes}
 use Rattle.sg_sched_text.proofs.AddingLaws.{edge_added, honest_added, key_added, session_added}
 use Rattle.sg_sched_text.proofs.declarations.Declared.take.Goals as goal
 

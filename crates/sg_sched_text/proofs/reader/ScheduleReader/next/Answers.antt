@@ -2,7 +2,7 @@
 use Rattle.std.proofs.Common.{◌≡◌, ap, sym, subst, refl, rules, arith, Err, true, false}
 use Rattle.sg_sched.specs.Format.Forms.{SaysLine, is_skipped}
 use Rattle.sg_sched.specs.Format.Model.{said}
-use Rattle.sg_sched.specs.Format.Said.{SaidBlock}
+use Rattle.sg_sched.specs.Format.LineContents.{BlockLine}
 use Rattle.sg_sched_text.specs.declared.reader.ScheduleReader.{ScheduleReader}
 use Rattle.sg_sched_text.specs.ReadSoFar.{HasRead}
 use Rattle.sg_sched_text.proofs.BlockLine.{only_block}
@@ -20,15 +20,15 @@ pub returns-in_err-say-in-Block-clause-has_read : goal.returns-in_err-say-in-Blo
 returns-in_err-say-in-Block-clause-has_read c = λ bytes s.
     let line = c.split_line.result.0.now in
     let at = subst (λ (r : ScheduleReader). HasRead bytes r c.args.rest.now) (sym c.self.view_is) s in
-    let is : SaysLine line SaidBlock = rw c.in-Block.is at (rw c.in-Ok-Some.field-0-is at c.in-Ok-Some.ensures) in
+    let is : SaysLine line BlockLine = rw c.in-Block.is at (rw c.in-Ok-Some.field-0-is at c.in-Ok-Some.ensures) in
     let same : c.from_residual.result ≡ Err c.in_err-say-in-Block.field-0.0 = search rules in
-    rw same (not_taken bytes c.args.rest.now c.split_line.result.1.now line _ at c.split_line.ensures.split SaidBlock c.in_err-say-in-Block.field-0.0 is c.in_err-say-in-Block.ensures.wrong)
+    rw same (not_taken bytes c.args.rest.now c.split_line.result.1.now line _ at c.split_line.ensures.split BlockLine c.in_err-say-in-Block.field-0.0 is c.in_err-say-in-Block.ensures.wrong)
 
 pub returns-in_ok-say-in-Block-clause-has_read : goal.returns-in_ok-say-in-Block-clause-has_read
 returns-in_ok-say-in-Block-clause-has_read c = λ bytes s.
     let line = c.split_line.result.0.now in
     let at = subst (λ (r : ScheduleReader). HasRead bytes r c.args.rest.now) (sym c.self.view_is) s in
-    let is : SaysLine line SaidBlock = rw c.in-Block.is at (rw c.in-Ok-Some.field-0-is at c.in-Ok-Some.ensures) in
+    let is : SaysLine line BlockLine = rw c.in-Block.is at (rw c.in-Ok-Some.field-0-is at c.in-Ok-Some.ensures) in
     let e = c.in_ok-say-in-Block.ensures in
     c.block.ensures.has_read bytes (opens bytes c.args.rest.now c.split_line.result.1.now line _ at c.split_line.ensures.split c.say.new.self is e.taken e.number e.edge)
 
@@ -51,7 +51,7 @@ returns-in_ok-say-in_default c =
     let e = c.in_ok-say-in_default.ensures in
     let n = ap (λ (r : ScheduleReader). r.number) c.self.view_is in
     let k = e.number in
-    let none : said c.in-Ok-Some.said ≡ SaidBlock → ⊥ = λ b. c.in_default.not-Block (only_block c.in-Ok-Some.said b) in
+    let none : said c.in-Ok-Some.said ≡ BlockLine → ⊥ = λ b. c.in_default.not-Block (only_block c.in-Ok-Some.said b) in
     record {
       has_read = λ bytes s.
           let at = subst (λ (r : ScheduleReader). HasRead bytes r c.args.rest.now) (sym c.self.view_is) s in

@@ -4,7 +4,7 @@ use Rattle.sg_protocol.specs.Graph.{Graph as AGraph}
 use Rattle.sg_sched.specs.Pair.{graphs_of}
 use Rattle.sg_sched.specs.Format.Items.{graph_names}
 use Rattle.sg_sched_text.specs.ReadSoFar.{IsBadAt, Again, AsPair}
-use Rattle.sg_sched_text.specs.Taken.{fault_at}
+use Rattle.sg_sched_text.specs.TakingLines.{fault_at}
 use Rattle.sg_sched_text.specs.declared.reader.ScheduleReader.{ScheduleReader}
 use Rattle.sg_sched_text.proofs.ReadSoFarLaws.{refused_bad, pair_named, fresh_name}
 use Rattle.sg_sched_text.proofs.reader.ScheduleReader.show.Goals as goal

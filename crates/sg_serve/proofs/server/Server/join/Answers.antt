@@ -14,11 +14,11 @@ returns-in-Ok-clause-replied g c = λ s k called has leaves.
     let sv = c.args.self.now in
     let m = c.keep_join.new.self in
     let leaves_now = g.D.Disk.may_leave c.keep_join.new.disk in
-    let told = outcome_of c.args.outcome.now in
+    let reported = outcome_of c.args.outcome.now in
     let graph = option_copied c.args.graph in
     replied_so _ s c.tell.new.self (calls s k) c.tell.result
-    (applied c.tell.result _ (λ (step : Step). HasReplied c.tell.new.self step (calls s k)) (λ step h. h s k (called_with sv leaves_now s k told graph None called m c.keep_join.ensures.rest) leaves) c.tell.ensures.replied)
-    (join_kept sv leaves_now s k told graph None called m c.keep_join.ensures.rest c.keep_join.ensures.same c.in-Ok.ensures.holds)
+    (applied c.tell.result _ (λ (step : Step). HasReplied c.tell.new.self step (calls s k)) (λ step h. h s k (called_with sv leaves_now s k reported graph None called m c.keep_join.ensures.rest) leaves) c.tell.ensures.replied)
+    (join_kept sv leaves_now s k reported graph None called m c.keep_join.ensures.rest c.keep_join.ensures.same c.in-Ok.ensures.holds)
 
 pub returns-in-Err-clause-replied : goal.returns-in-Err-clause-replied
 returns-in-Err-clause-replied g c = λ s k called has leaves.

@@ -4,7 +4,7 @@ use Rattle.sg_play.specs.Steps.{Step}
 use Rattle.sg_protocol.specs.Calls.{Abandon}
 use Rattle.sg_request.specs.declared.request.Request.{Request}
 use Rattle.sg_request.specs.declared.request.Request.TheVariants as request
-use Rattle.sg_sched.specs.Format.Said.{Assignment}
+use Rattle.sg_sched.specs.Format.LineContents.{Assignment}
 use Rattle.sg_serve.specs.Served.{images_if}
 use Rattle.sg_serve.specs.Serving.{acts_by, calls, graph_at, of_session, replies, says, sends_again, turn_line}
 use Rattle.sg_serve.specs.Representation.{HasReplied, Replied}

@@ -1,7 +1,7 @@
 use Rattle.std.proofs.Common.{rules, ◌≡◌, ◌∷◌, ℕ, List, Bool, true, false, drop, Some, Ok, Err, refl, sym, ap, ◌∙◌, subst, arith}
 use Rattle.std.specs.Prelude.{is_some}
 use Rattle.sg_input.specs.Lines.{Line, Whole, TooLong}
-use Rattle.sg_input.specs.declared.reader.Found.TheVariants as found
+use Rattle.sg_input.specs.declared.reader.LineFound.TheVariants as found
 use Rattle.sg_serve.specs.declared.fault.ServeFault.TheVariants.{InputFailed, OutOfMemory}
 use Rattle.sg_serve.specs.Served.{Outside, Served, images_if}
 use Rattle.sg_serve.specs.Representation.{Answered}
@@ -12,13 +12,13 @@ use Rattle.sg_serve.proofs.server.Server.serve_all.Goals as goal
 use Rattle.sg_serve.proofs.server.Server.serve_all.Goals.{in-Ok-Some-Line+in_ok-serve_line-in-Ok-Some-Line+else-not-branch, in-Ok-Some-TooLong+in_ok-serve_line-in-Ok-Some-TooLong+else-not-branch-2}
 
 pub returns-in_err-serve_line-in-Ok-Some-Line-clause-served : goal.returns-in_err-serve_line-in-Ok-Some-Line-clause-served
-returns-in_err-serve_line-in-Ok-Some-Line-clause-served g c = let same : c.from_residual.result ≡ Err c.in_err-serve_line-in-Ok-Some-Line.field-0.0 = search rules in λ r lines st told a.
+returns-in_err-serve_line-in-Ok-Some-Line-clause-served g c = let same : c.from_residual.result ≡ Err c.in_err-serve_line-in-Ok-Some-Line.field-0.0 = search rules in λ r lines st reported a.
     let start : Outside = record { written = g.O.Sink.written c.args.out.now; sent = g.L.Link.sent c.args.link.now; coming = g.L.TimedLink.coming c.args.link.now; failed = g.L.Link.faults c.args.link.now } in
     let old : Outside = record { written = g.O.Sink.written c.loop-line.out; sent = g.L.Link.sent c.loop-line.link; coming = g.L.TimedLink.coming c.loop-line.link; failed = g.L.Link.faults c.loop-line.link } in
     let new : Outside = record { written = g.O.Sink.written c.serve_line.new.out; sent = g.L.Link.sent c.serve_line.new.link; coming = g.L.TimedLink.coming c.serve_line.new.link; failed = g.L.Link.faults c.serve_line.new.link } in
     let random = g.R.Fresh.random c.serve_line.new.fresh in
     let leaves = g.D.Disk.may_leave c.serve_line.new.disk in
-    let before = c.loop-line.invariant.served r lines st told a in
+    let before = c.loop-line.invariant.served r lines st reported a in
     let left = before.0 in
     let next : left ≡ Whole c.line.result.now ∷ drop 1 left = (c.next.ensures.line (c.in-Ok-Some-Line.is ∙ ap Ok (c.in-Ok-Some-Line.field-0-is ∙ ap Some c.in-Ok-Some-Line.field-0-0-is)) left before.1).0 ∙ ap (λ (b : List ℕ). Whole b ∷ drop 1 left) (sym c.line.ensures) in
     subst (λ x. Served start new random (images_if (is_some c.args.self.now.ledger) leaves) r lines x) (sym same)
@@ -26,13 +26,13 @@ returns-in_err-serve_line-in-Ok-Some-Line-clause-served g c = let same : c.from_
     (λ z zs za. c.in_err-serve_line-in-Ok-Some-Line.ensures.answered z start zs za))
 
 pub returns-then-not-branch-clause-served : goal.returns-then-not-branch-clause-served
-returns-then-not-branch-clause-served g c = let ends : c.in_ok-serve_line-in-Ok-Some-Line.field-0 ≡ false = c.if-not-branch.true in λ r lines st told a.
+returns-then-not-branch-clause-served g c = let ends : c.in_ok-serve_line-in-Ok-Some-Line.field-0 ≡ false = c.if-not-branch.true in λ r lines st reported a.
     let start : Outside = record { written = g.O.Sink.written c.args.out.now; sent = g.L.Link.sent c.args.link.now; coming = g.L.TimedLink.coming c.args.link.now; failed = g.L.Link.faults c.args.link.now } in
     let old : Outside = record { written = g.O.Sink.written c.loop-line.out; sent = g.L.Link.sent c.loop-line.link; coming = g.L.TimedLink.coming c.loop-line.link; failed = g.L.Link.faults c.loop-line.link } in
     let new : Outside = record { written = g.O.Sink.written c.serve_line.new.out; sent = g.L.Link.sent c.serve_line.new.link; coming = g.L.TimedLink.coming c.serve_line.new.link; failed = g.L.Link.faults c.serve_line.new.link } in
     let random = g.R.Fresh.random c.serve_line.new.fresh in
     let leaves = g.D.Disk.may_leave c.serve_line.new.disk in
-    let before = c.loop-line.invariant.served r lines st told a in
+    let before = c.loop-line.invariant.served r lines st reported a in
     let left = before.0 in
     let next : left ≡ Whole c.line.result.now ∷ drop 1 left = (c.next.ensures.line (c.in-Ok-Some-Line.is ∙ ap Ok (c.in-Ok-Some-Line.field-0-is ∙ ap Some c.in-Ok-Some-Line.field-0-0-is)) left before.1).0 ∙ ap (λ (b : List ℕ). Whole b ∷ drop 1 left) (sym c.line.ensures) in
     let images = images_if (is_some c.loop-line.self.ledger) leaves in
@@ -40,13 +40,13 @@ returns-then-not-branch-clause-served g c = let ends : c.in_ok-serve_line-in-Ok-
     (λ z zs za. subst (λ (b : Bool). Answered start new random images c.serve_line.new.self z (Whole c.line.result.now) (Ok b)) ends (c.in_ok-serve_line-in-Ok-Some-Line.ensures.answered z start zs za))
 
 pub returns-in_err-serve_line-in-Ok-Some-TooLong-clause-served : goal.returns-in_err-serve_line-in-Ok-Some-TooLong-clause-served
-returns-in_err-serve_line-in-Ok-Some-TooLong-clause-served g c = let same : c.from_residual-in_err-serve_line-in-Ok-Some-TooLong.result ≡ Err c.in_err-serve_line-in-Ok-Some-TooLong.field-0.0 = search rules in λ r lines st told a.
+returns-in_err-serve_line-in-Ok-Some-TooLong-clause-served g c = let same : c.from_residual-in_err-serve_line-in-Ok-Some-TooLong.result ≡ Err c.in_err-serve_line-in-Ok-Some-TooLong.field-0.0 = search rules in λ r lines st reported a.
     let start : Outside = record { written = g.O.Sink.written c.args.out.now; sent = g.L.Link.sent c.args.link.now; coming = g.L.TimedLink.coming c.args.link.now; failed = g.L.Link.faults c.args.link.now } in
     let old : Outside = record { written = g.O.Sink.written c.loop-line.out; sent = g.L.Link.sent c.loop-line.link; coming = g.L.TimedLink.coming c.loop-line.link; failed = g.L.Link.faults c.loop-line.link } in
     let new : Outside = record { written = g.O.Sink.written c.serve_line-in-Ok-Some-TooLong.new.out; sent = g.L.Link.sent c.serve_line-in-Ok-Some-TooLong.new.link; coming = g.L.TimedLink.coming c.serve_line-in-Ok-Some-TooLong.new.link; failed = g.L.Link.faults c.serve_line-in-Ok-Some-TooLong.new.link } in
     let random = g.R.Fresh.random c.serve_line-in-Ok-Some-TooLong.new.fresh in
     let leaves = g.D.Disk.may_leave c.serve_line-in-Ok-Some-TooLong.new.disk in
-    let before = c.loop-line.invariant.served r lines st told a in
+    let before = c.loop-line.invariant.served r lines st reported a in
     let left = before.0 in
     let next : left ≡ TooLong ∷ drop 1 left = (c.next.ensures.too_long (c.in-Ok-Some-TooLong.is ∙ ap Ok (c.in-Ok-Some-TooLong.field-0-is ∙ ap Some c.in-Ok-Some-TooLong.field-0-0-is)) left before.1).0 in
     subst (λ x. Served start new random (images_if (is_some c.args.self.now.ledger) leaves) r lines x) (sym same)
@@ -54,13 +54,13 @@ returns-in_err-serve_line-in-Ok-Some-TooLong-clause-served g c = let same : c.fr
     (λ z zs za. c.in_err-serve_line-in-Ok-Some-TooLong.ensures.answered z start zs za))
 
 pub returns-then-not-branch-2-clause-served : goal.returns-then-not-branch-2-clause-served
-returns-then-not-branch-2-clause-served g c = let ends : c.in_ok-serve_line-in-Ok-Some-TooLong.field-0 ≡ false = c.if-not-branch-2.true in λ r lines st told a.
+returns-then-not-branch-2-clause-served g c = let ends : c.in_ok-serve_line-in-Ok-Some-TooLong.field-0 ≡ false = c.if-not-branch-2.true in λ r lines st reported a.
     let start : Outside = record { written = g.O.Sink.written c.args.out.now; sent = g.L.Link.sent c.args.link.now; coming = g.L.TimedLink.coming c.args.link.now; failed = g.L.Link.faults c.args.link.now } in
     let old : Outside = record { written = g.O.Sink.written c.loop-line.out; sent = g.L.Link.sent c.loop-line.link; coming = g.L.TimedLink.coming c.loop-line.link; failed = g.L.Link.faults c.loop-line.link } in
     let new : Outside = record { written = g.O.Sink.written c.serve_line-in-Ok-Some-TooLong.new.out; sent = g.L.Link.sent c.serve_line-in-Ok-Some-TooLong.new.link; coming = g.L.TimedLink.coming c.serve_line-in-Ok-Some-TooLong.new.link; failed = g.L.Link.faults c.serve_line-in-Ok-Some-TooLong.new.link } in
     let random = g.R.Fresh.random c.serve_line-in-Ok-Some-TooLong.new.fresh in
     let leaves = g.D.Disk.may_leave c.serve_line-in-Ok-Some-TooLong.new.disk in
-    let before = c.loop-line.invariant.served r lines st told a in
+    let before = c.loop-line.invariant.served r lines st reported a in
     let left = before.0 in
     let next : left ≡ TooLong ∷ drop 1 left = (c.next.ensures.too_long (c.in-Ok-Some-TooLong.is ∙ ap Ok (c.in-Ok-Some-TooLong.field-0-is ∙ ap Some c.in-Ok-Some-TooLong.field-0-0-is)) left before.1).0 in
     let images = images_if (is_some c.loop-line.self.ledger) leaves in
@@ -68,31 +68,31 @@ returns-then-not-branch-2-clause-served g c = let ends : c.in_ok-serve_line-in-O
     (λ z zs za. subst (λ (b : Bool). Answered start new random images c.serve_line-in-Ok-Some-TooLong.new.self z (TooLong) (Ok b)) ends (c.in_ok-serve_line-in-Ok-Some-TooLong.ensures.answered z start zs za))
 
 pub returns-in-Ok-None-clause-served : goal.returns-in-Ok-None-clause-served
-returns-in-Ok-None-clause-served g c = λ r lines st told a.
+returns-in-Ok-None-clause-served g c = λ r lines st reported a.
     let start : Outside = record { written = g.O.Sink.written c.args.out.now; sent = g.L.Link.sent c.args.link.now; coming = g.L.TimedLink.coming c.args.link.now; failed = g.L.Link.faults c.args.link.now } in
     let old : Outside = record { written = g.O.Sink.written c.loop-line.out; sent = g.L.Link.sent c.loop-line.link; coming = g.L.TimedLink.coming c.loop-line.link; failed = g.L.Link.faults c.loop-line.link } in
-    let before = c.loop-line.invariant.served r lines st told a in
+    let before = c.loop-line.invariant.served r lines st reported a in
     no_line start old (g.R.Fresh.random c.loop-line.fresh) c.loop-line.self c.args.self.now (g.D.Disk.may_leave c.loop-line.disk) r lines before.0 before.2 c.loop-line.invariant.same c.loop-line.invariant.holds (c.next.ensures.at_end (c.in-Ok-None.is ∙ ap Ok c.in-Ok-None.field-0-is) before.0 before.1)
 
 pub returns-in-Err-Failed-clause-served : goal.returns-in-Err-Failed-clause-served
-returns-in-Err-Failed-clause-served g c = λ r lines st told a.
+returns-in-Err-Failed-clause-served g c = λ r lines st reported a.
     let start : Outside = record { written = g.O.Sink.written c.args.out.now; sent = g.L.Link.sent c.args.link.now; coming = g.L.TimedLink.coming c.args.link.now; failed = g.L.Link.faults c.args.link.now } in
     let old : Outside = record { written = g.O.Sink.written c.loop-line.out; sent = g.L.Link.sent c.loop-line.link; coming = g.L.TimedLink.coming c.loop-line.link; failed = g.L.Link.faults c.loop-line.link } in
-    let before = c.loop-line.invariant.served r lines st told a in
+    let before = c.loop-line.invariant.served r lines st reported a in
     input_ended start old (g.R.Fresh.random c.loop-line.fresh) c.loop-line.self c.args.self.now (g.D.Disk.may_leave c.loop-line.disk) r lines before.0 before.2 c.loop-line.invariant.same c.loop-line.invariant.holds InputFailed refl
 
 pub returns-in-Err-OutOfMemory-clause-served : goal.returns-in-Err-OutOfMemory-clause-served
-returns-in-Err-OutOfMemory-clause-served g c = λ r lines st told a.
+returns-in-Err-OutOfMemory-clause-served g c = λ r lines st reported a.
     let start : Outside = record { written = g.O.Sink.written c.args.out.now; sent = g.L.Link.sent c.args.link.now; coming = g.L.TimedLink.coming c.args.link.now; failed = g.L.Link.faults c.args.link.now } in
     let old : Outside = record { written = g.O.Sink.written c.loop-line.out; sent = g.L.Link.sent c.loop-line.link; coming = g.L.TimedLink.coming c.loop-line.link; failed = g.L.Link.faults c.loop-line.link } in
-    let before = c.loop-line.invariant.served r lines st told a in
+    let before = c.loop-line.invariant.served r lines st reported a in
     memory_ended start old (g.R.Fresh.random c.loop-line.fresh) c.loop-line.self c.args.self.now (g.D.Disk.may_leave c.loop-line.disk) r lines before.0 before.2 c.loop-line.invariant.same c.loop-line.invariant.holds OutOfMemory refl
 
 pub returns-clause-served : goal.returns-clause-served
-returns-clause-served g c = λ r lines st told a.
+returns-clause-served g c = λ r lines st reported a.
     let start : Outside = record { written = g.O.Sink.written c.args.out.now; sent = g.L.Link.sent c.args.link.now; coming = g.L.TimedLink.coming c.args.link.now; failed = g.L.Link.faults c.args.link.now } in
     let old : Outside = record { written = g.O.Sink.written c.loop-line.out; sent = g.L.Link.sent c.loop-line.link; coming = g.L.TimedLink.coming c.loop-line.link; failed = g.L.Link.faults c.loop-line.link } in
-    let before = c.loop-line.invariant.served r lines st told a in
+    let before = c.loop-line.invariant.served r lines st reported a in
     memory_ended start old (g.R.Fresh.random c.loop-line.fresh) c.loop-line.self c.args.self.now (g.D.Disk.may_leave c.loop-line.disk) r lines before.0 before.2 c.loop-line.invariant.same c.loop-line.invariant.holds OutOfMemory refl
 
 pub loop-line-preserved : goal.loop-line-preserved
@@ -115,8 +115,8 @@ loop-line-preserved g c =
             same = rw w.self-is (w.in_ok-serve_line-in-Ok-Some-Line.ensures.same ∙ inv.same);
             untouched = rw w.disk-is (λ none. w.serve_line.ensures.untouched (inv.same ∙ none) ∙ inv.untouched none);
             holds = rw (w.self-is, w.disk-is) w.in_ok-serve_line-in-Ok-Some-Line.ensures.holds;
-            served = rw (w.self-is, w.link-is, w.fresh-is, w.out-is) (λ r lines st told a.
-                let before = inv.served r lines st told a in
+            served = rw (w.self-is, w.link-is, w.fresh-is, w.out-is) (λ r lines st reported a.
+                let before = inv.served r lines st reported a in
                 let left = before.0 in
                 let took = c.next.ensures.line found left before.1 in
                 let next : left ≡ Whole w.line.result.now ∷ drop 1 left = took.0 ∙ ap (λ (b : List ℕ). Whole b ∷ drop 1 left) (sym w.line.ensures) in
@@ -139,8 +139,8 @@ loop-line-preserved g c =
             same = rw w.self-is (w.in_ok-serve_line-in-Ok-Some-TooLong.ensures.same ∙ inv.same);
             untouched = rw w.disk-is (λ none. w.serve_line-in-Ok-Some-TooLong.ensures.untouched (inv.same ∙ none) ∙ inv.untouched none);
             holds = rw (w.self-is, w.disk-is) w.in_ok-serve_line-in-Ok-Some-TooLong.ensures.holds;
-            served = rw (w.self-is, w.link-is, w.fresh-is, w.out-is) (λ r lines st told a.
-                let before = inv.served r lines st told a in
+            served = rw (w.self-is, w.link-is, w.fresh-is, w.out-is) (λ r lines st reported a.
+                let before = inv.served r lines st reported a in
                 let left = before.0 in
                 let took = c.next.ensures.too_long found left before.1 in
                 let next : left ≡ TooLong ∷ drop 1 left = took.0 in

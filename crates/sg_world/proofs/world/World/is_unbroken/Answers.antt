@@ -9,4 +9,4 @@ returns-then-is_some c = forged_breaks c.args.self.now (λ f. (f.step, f.note.no
 pub returns : goal.returns
 returns c =
     subst (λ b. MatchBool b (PremisesHold c.args.self.now) (PremisesHold c.args.self.now → ⊥)) (ap not c.is_none.ensures ∙ not_not c.is_none.result)
-    (collision_says c.args.self.now (λ f. (f.step, f.note.now)) (λ k. (k.one.now, k.other.now)) c.in_ok-forged.field-0 c.in_ok-collision.field-0 c.in_ok-forged.ensures.found (sym c.is_some.ensures ∙ c.if-is_some.false) c.in_ok-collision.ensures)
+    (collision_says c.args.self.now (λ f. (f.step, f.note.now)) (λ k. (k.one.now, k.other.now)) c.in_ok-forged.field-0 c.in_ok-collision.field-0 c.in_ok-forged.ensures.found (sym c.is_some.ensures ∙ c.if-is_some.false) c.in_ok-collision.ensures.found)

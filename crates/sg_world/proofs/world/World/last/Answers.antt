@@ -1,6 +1,6 @@
 use Rattle.std.proofs.Common.{◌∙◌}
-use Rattle.sg_world.proofs.Worlds.{last_told}
+use Rattle.sg_world.proofs.Worlds.{last_reported}
 use Rattle.sg_world.proofs.world.World.last.Goals as goal
 
 pub returns : goal.returns
-returns c = c.last.ensures ∙ last_told c.args.self.now c.self.inside.setting c.self.inside.nodes.entries c.self.inside.history.done c.self.view_is c.self.invariant
+returns c = c.last.ensures ∙ last_reported c.args.self.now c.self.inside.setting c.self.inside.nodes.entries c.self.inside.history.done c.self.view_is c.self.invariant

@@ -4,8 +4,8 @@ use Rattle.sg_world.specs.Account.{account}
 use Rattle.sg_world.proofs.Accounts.{can_write, lines_kept, names_met}
 use Rattle.sg_world.proofs.world.World.report.Goals as goal
 
-pub put_lines-requires-clause-told : goal.put_lines-requires-clause-told
-put_lines-requires-clause-told c =
+pub put_lines-requires-clause-reported : goal.put_lines-requires-clause-reported
+put_lines-requires-clause-reported c =
     can_write c.args.self.now c.self.inside.setting c.self.inside.nodes.entries c.self.inside.history.done c.self.view_is c.self.invariant c.entries-entries.result.now c.entries-entries.ensures c.requires
 
 pub returns : goal.returns

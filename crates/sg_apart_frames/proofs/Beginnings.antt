@@ -1,0 +1,127 @@
+-- The run of the first calls apart is the beginning of the run.
+use Rattle.std.specs.Prelude.{◌≡◌, ℕ, zero, suc, ◌+◌, ◌<◌, ◌≤◌, ◌⊎◌, List, [], ◌∷◌, ◌++◌, map, flat_map, length, take, refl, Option, Some, None, Contains}
+use Rattle.std.specs.Option.{option_map_or}
+use Rattle.std.proofs.Common.{sym, ◌∙◌, ap, subst, inl, inr, arith}
+use Rattle.sg_model.specs.Last.{last}
+use Rattle.sg_law.proofs.Lists.{last-append}
+use Rattle.sg_law.proofs.Members.{in_left, in_right, in_flat, in_parts}
+use Rattle.sg_law.proofs.Take.{contains_from_in}
+use Rattle.sg_law.proofs.Upto.{In, in_from_Contains}
+use Rattle.sg_protocol.specs.Texts.{Hash, graph_text_of}
+use Rattle.sg_protocol.specs.Past.{Past}
+use Rattle.sg_protocol.specs.Schedule.{Schedule}
+use Rattle.sg_protocol.specs.World.{World, Logged, past_of}
+use Rattle.sg_protocol.specs.Run.{called}
+use Rattle.sg_protocol.specs.Premises.{MadeBefore, hashed, Premises}
+use Rattle.sg_protocol.proofs.Course.{Suffix, suffix_refl, in_before, in_after}
+use Rattle.sg_apart.specs.Apart.{CallAt, world_called, world_after_calls, run_apart}
+use Rattle.sg_apart.proofs.Going.{suffix_calls}
+
+take_few : (n : ℕ) (xs : List CallAt) → length (take n xs) ≤ n
+take_few zero xs = omega arith
+take_few (suc n) [] = omega arith
+take_few (suc n) (x ∷ xs) = (let h = take_few n xs in omega (arith, h))
+
+module _ (sha : Hash) where
+  suffix_at : (j k : ℕ) (a b : List Logged) → j ≡ k → Suffix j a b → Suffix k a b
+  suffix_at j k a b e h = subst (λ z. Suffix z a b) e h
+
+  begins : (n : ℕ) (xs : List CallAt) (w : World) (k : ℕ) → Suffix (k + n) (world_after_calls sha w k (take n xs)).log (world_after_calls sha w k xs).log
+  begins zero xs w k = suffix_at k (k + 0) w.log (world_after_calls sha w k xs).log (omega arith) (suffix_calls sha w k xs)
+  begins (suc n) [] w k = suffix_refl (k + suc n) w.log
+  begins (suc n) (x ∷ xs) w k = suffix_at (k + 1 + n) (k + suc n) (world_after_calls sha w k (take (suc n) (x ∷ xs))).log (world_after_calls sha w k (x ∷ xs)).log (omega arith) (begins n xs (world_called sha w k x) (k + 1))
+
+  -- a call adds one entry at most, with its number
+  abbrev OneMore : ℕ → List Logged → List Logged → Type 0
+  OneMore k log log' = (log' ≡ log) ⊎ ((l : Logged) × (log' ≡ log ++ l ∷ []) × (l.number ≡ k))
+
+  one_past : (w : World) (k : ℕ) (c : CallAt) (o : Option Past) → OneMore k w.log (option_map_or (called sha w k c.who c.call) o w).log
+  one_past w k c None = inl refl
+  one_past w k c (Some past) = inr (_, refl, refl)
+
+  one_more : (w : World) (k : ℕ) (c : CallAt) → OneMore k w.log (world_called sha w k c).log
+  one_more w k c = one_past w k c (past_of w c.who)
+
+  -- numbers are below that of the next call
+  numbered : (xs : List CallAt) (w : World) (k : ℕ) → ((l : Logged) → In w.log l → l.number < k) → (l : Logged) → In (world_after_calls sha w k xs).log l → l.number < k + length xs
+  numbered [] w k a l i = (let h = a l i in omega (arith, h))
+  numbered (x ∷ xs) w k a l i = (let h = numbered xs (world_called sha w k x) (k + 1) (now (one_more w k x)) l i in omega (arith, h))
+    where
+      now : OneMore k w.log (world_called sha w k x).log → (l : Logged) → In (world_called sha w k x).log l → l.number < k + 1
+      now (inl e) l i = (let h = a l (subst (λ z. In z l) e i) in omega (arith, h))
+      now (inr more) l i = elim (in_parts w.log (more.0 ∷ []) l (subst (λ z. In z l) more.1 i)) [
+        | inl j ↦ (let h = a l j in omega (arith, h))
+        | inr j ↦ elim j [ inl q ↦ (let h = ap (λ (z : Logged). z.number) q ∙ more.2 in omega (arith, h)) | inr q ↦ absurd q ]
+      ]
+
+  -- an entry is the last one after its call
+  last_at : (xs : List CallAt) (w : World) (k : ℕ) (l : Logged) → In (world_after_calls sha w k xs).log l → In w.log l ⊎ ((i : ℕ) × (l.number ≡ k + i) × (last (world_after_calls sha w k (take (suc i) xs)).log ≡ Some l))
+  last_at [] w k l i = inl i
+  last_at (x ∷ xs) w k l i = elim (last_at xs (world_called sha w k x) (k + 1) l i) [
+    | inl j ↦ now (one_more w k x) j
+    | inr h ↦ inr (suc h.0, (let e = h.1 in omega (arith, e)), h.2)
+  ]
+    where
+      now : OneMore k w.log (world_called sha w k x).log → In (world_called sha w k x).log l → In w.log l ⊎ ((i : ℕ) × (l.number ≡ k + i) × (last (world_after_calls sha w k (take (suc i) (x ∷ xs))).log ≡ Some l))
+      now (inl e) j = inl (subst (λ z. In z l) e j)
+      now (inr more) j = elim (in_parts w.log (more.0 ∷ []) l (subst (λ z. In z l) more.1 j)) [
+        | inl a ↦ inl a
+        | inr a ↦ elim a [
+          | inl q ↦ inr (0, (let h = ap (λ (z : Logged). z.number) q ∙ more.2 in omega (arith, h)), ap last more.1 ∙ last-append w.log more.0 [] ∙ ap (λ (z : Logged). Some z) (sym q))
+          | inr q ↦ absurd q
+        ]
+      ]
+
+module _ (sha : Hash) (ps : List Past) (calls : List CallAt) (n : ℕ) where
+  abbrev wf : World
+  wf = run_apart sha ps calls
+
+  abbrev wb : World
+  wb = run_apart sha ps (take n calls)
+
+  goes_on : Suffix (1 + n) (run_apart sha ps (take n calls)).log (run_apart sha ps calls).log
+  goes_on = begins sha n calls (record { pasts = ps; log = [] }) 1
+
+  up_to : (l : Logged) → In (run_apart sha ps (take n calls)).log l → l.number ≤ n
+  up_to l i =
+      let h = numbered sha (take n calls) (record { pasts = ps; log = [] }) 1 (λ l i. absurd i) l i in
+      let k = take_few n calls in
+      omega (arith, h, k)
+
+  pub premises_before : (s : Schedule) → Premises sha s (run_apart sha ps calls) → Premises sha s (run_apart sha ps (take n calls))
+  premises_before s p = record {
+    unforged = λ l nt i j a b.
+        let m : MadeBefore l.number nt wf.log = p.unforged l nt (contains_from_in wf.log l (later l (in_from_Contains wb.log l i))) j a b in
+        let le = up_to l (in_from_Contains wb.log l i) in
+        let lt = m.2 in
+        (m.0, contains_from_in wb.log m.0 (in_before (1 + n) wb.log wf.log goes_on m.0 (in_from_Contains wf.log m.0 m.1) (omega (arith, le, lt))), m.2, m.3);
+    collision_free = λ a b i j e. p.collision_free a b (hashed_later a i) (hashed_later b j) e;
+  }
+    where
+      later : (l : Logged) → In wb.log l → In wf.log l
+      later l i = in_after (1 + n) wb.log wf.log goes_on l i
+
+      flat_later : (xs ys : List Logged) (t : List ℕ) → ((l : Logged) → In xs l → In ys l) → In (flat_map (λ (l : Logged). l.notes.hashed) xs) t → In (flat_map (λ (l : Logged). l.notes.hashed) ys) t
+      flat_later [] ys t f i = absurd i
+      flat_later (x ∷ xs) ys t f i = elim (in_parts x.notes.hashed (flat_map (λ (l : Logged). l.notes.hashed) xs) t i) [
+        | inl j ↦ in_flat (λ (l : Logged). l.notes.hashed) ys x t (f x (inl refl)) j
+        | inr j ↦ flat_later xs ys t (λ l k. f l (inr k)) j
+      ]
+
+      hashed_later : (t : List ℕ) → Contains (hashed s wb) t → Contains (hashed s wf) t
+      hashed_later t i = contains_from_in (hashed s wf) t (elim (in_parts (map graph_text_of s.graphs) (flat_map (λ (l : Logged). l.notes.hashed) wb.log) t (in_from_Contains (hashed s wb) t i)) [
+        | inl j ↦ in_left (map graph_text_of s.graphs) (flat_map (λ (l : Logged). l.notes.hashed) wf.log) t j
+        | inr j ↦ in_right (map graph_text_of s.graphs) (flat_map (λ (l : Logged). l.notes.hashed) wf.log) t (flat_later wb.log wf.log t later j)
+      ])
+
+-- a call that accepts is the last one of the run up to it
+pub is_last : (sha : Hash) (ps : List Past) (calls : List CallAt) (l : Logged) → In (run_apart sha ps calls).log l → last (run_apart sha ps (take l.number calls)).log ≡ Some l
+is_last sha ps calls l i = elim (last_at sha calls (record { pasts = ps; log = [] }) 1 l i) [
+  | inl j ↦ absurd j
+  | inr h ↦ (let n : l.number ≡ suc h.0 = (let e = h.1 in omega (arith, e)) in ap (λ k. last (run_apart sha ps (take k calls)).log) n ∙ h.2)
+]
+
+-- one more call
+pub one_later : (sha : Hash) (w : World) (k : ℕ) (cs : List CallAt) (c : CallAt) → world_after_calls sha w k (cs ++ c ∷ []) ≡ world_called sha (world_after_calls sha w k cs) (k + length cs) c
+one_later sha w k [] c = ap (λ n. world_called sha w n c) (let e : k ≡ k + 0 = omega arith in e)
+one_later sha w k (d ∷ cs) c = one_later sha (world_called sha w k d) (k + 1) cs c ∙ ap (λ n. world_called sha (world_after_calls sha (world_called sha w k d) (k + 1) cs) n c) (let e : k + 1 + length cs ≡ k + suc (length cs) = omega arith in e)

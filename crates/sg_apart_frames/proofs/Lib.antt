@@ -1,0 +1,9 @@
+pub mod Runs
+pub mod Sendings
+pub mod Beginnings
+pub mod Course
+pub mod Showing
+pub mod Keys
+pub mod Flight
+pub mod Delivery
+pub mod Honest

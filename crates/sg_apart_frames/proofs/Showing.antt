@@ -1,0 +1,298 @@
+-- What an accepted frame shows is what honest principals apart last did.
+use Rattle.std.specs.Prelude.{◌≡◌, ℕ, ◌+◌, ◌<◌, ◌==◌, Bool, true, false, List, [], ◌∷◌, ◌++◌, map, filter, flat_map, length, bytes_eq, refl, Option, Some, None, option_map, All, take}
+use Rattle.std.specs.List.{AllByRecursion}
+use Rattle.std.proofs.Common.{sym, ◌∙◌, ap, subst, inl, inr, append_assoc}
+use Rattle.std.proofs.lemmas.List.{map-append}
+use Rattle.std.proofs.lemmas.List.Elements.{All-take, recursion_from_All}
+use Rattle.sg_model.specs.Last.{has, last, last_of, after_last, up_to_last}
+use Rattle.sg_model.specs.Lists.{all_differ}
+use Rattle.sg_model.specs.Shape.{source, sender}
+use Rattle.sg_model.specs.Names.{Name}
+use Rattle.sg_model.specs.Values.{Opening}
+use Rattle.sg_law.specs.Accept as A
+use Rattle.sg_law.specs.Run as R
+use Rattle.sg_law.specs.Values as V
+use Rattle.sg_law.specs.Values.{State, Binding, Move, Commit, moved, own_part_of, AllMay, moved_all, Agreed, all_openings}
+use Rattle.sg_law.specs.Values.Move.{Takes}
+use Rattle.sg_law.proofs.Cut.{last-option_map, split_end}
+use Rattle.sg_law.proofs.Follow.{all_agreed}
+use Rattle.sg_law.proofs.Lists.{last-append, eqb_same}
+use Rattle.sg_law.proofs.Members.{all_in}
+use Rattle.sg_law.proofs.Take.{contains_from_in}
+use Rattle.sg_law.proofs.Upto.{In, in_from_Contains, upto-more}
+use Rattle.sg_protocol.specs.Graph.{Graph, IsGraph, shape}
+use Rattle.sg_protocol.specs.Accepted.{Accepted}
+use Rattle.sg_protocol.specs.Frame.{Cast, Frame, Item}
+use Rattle.sg_protocol.specs.Texts.{Hash, IsHash, commitment, commitment_text_of}
+use Rattle.sg_protocol.specs.TextLaws.{OpeningFits}
+use Rattle.sg_protocol.specs.Keyring.{Program}
+use Rattle.sg_protocol.specs.Session.{Session, principal, items_of, transcript, own_part, commitments}
+use Rattle.sg_protocol.specs.Calls.{Call, Deliver, Happened}
+use Rattle.sg_protocol.specs.Node.{Node}
+use Rattle.sg_protocol.specs.Acting.{answer}
+use Rattle.sg_protocol.specs.Verdict.{receipt}
+use Rattle.sg_protocol.specs.Notes.{notes}
+use Rattle.sg_protocol.specs.Past.{Past, node_of}
+use Rattle.sg_protocol.specs.Schedule.{Schedule, graph_with, honest_role}
+use Rattle.sg_protocol.specs.World.{World, Logged, Answered, past_of}
+use Rattle.sg_protocol.specs.Run.{called, frame_in, cast_of_session}
+use Rattle.sg_protocol.specs.Premises.{hashed, Premises}
+use Rattle.sg_protocol.specs.Receipts.{IsTaken}
+use Rattle.sg_protocol.specs.Ranges.{IsCallInRange}
+use Rattle.sg_protocol.specs.LastSteps.{ShowsLastSteps, HeldBySender, bare, exchanges_of, honest_items}
+use Rattle.sg_protocol.proofs.Bridge.{up_to_last-after}
+use Rattle.sg_protocol.proofs.Calls.{NodeOk, Status, TakesFrame}
+use Rattle.sg_protocol.proofs.Course.{Suffix, may-append, moved-append}
+use Rattle.sg_protocol.proofs.Entries.{entry, entries, by, Roles, has-entries, up_to-entries}
+use Rattle.sg_protocol.proofs.Finding.{one_index}
+use Rattle.sg_protocol.proofs.Keys.{all-mid, all-up_to_last, has-mid}
+use Rattle.sg_protocol.proofs.KnownSession.{SessionOfCast}
+use Rattle.sg_protocol.proofs.Moves.{step, Matches}
+use Rattle.sg_protocol.proofs.Showing.{shown_items, same_held}
+use Rattle.sg_protocol.proofs.Splits.{role_small}
+use Rattle.sg_protocol.proofs.Whole.{found_in}
+use Rattle.sg_apart.specs.Apart.{Begins, CallAt, AreCallsInRange, honest_are, run_apart}
+use Rattle.sg_apart.proofs.Going.{SessionApart, Progress, Left, progress_called, progress_moves}
+use Rattle.sg_apart.proofs.Once.{there}
+use Rattle.sg_apart.proofs.Whole.{FirstCast, Own, begins, first_moves, first_cast, the_program, graph_is}
+use Rattle.sg_apart.proofs.Whole as W
+use Rattle.sg_apart_frames.specs.LastSteps.{FramesShowLastStepsApart}
+use Rattle.sg_apart_frames.proofs.Beginnings.{premises_before, is_last}
+use Rattle.sg_apart_frames.proofs.Course.{Told, Outs, IsTranscript, after_moves, told_called, with_all}
+use Rattle.sg_apart_frames.proofs.Sendings.{some_event}
+
+split_some : (f : Item → A.TimedLabel) (o : Option Item) (t : A.TimedLabel) → option_map f o ≡ Some t → (i : Item) × (o ≡ Some i) × (f i ≡ t)
+split_some f None t e = absurd (cc)
+split_some f (Some i) t e = (i, refl, cc)
+
+steps_entries : (is : List Item) → last (V.steps_of (entries is)) ≡ option_map step (last is)
+steps_entries is = last-option_map V.step_of (entries is) ∙ ap (option_map V.step_of) (last-option_map entry is) ∙ go (last is)
+  where
+    go : (o : Option Item) → option_map V.step_of (option_map entry o) ≡ option_map step o
+    go None = refl
+    go (Some i) = refl
+
+-- what is known besides of a session's graph and cast
+pub record SessionFacts (sha : Hash) (s : Schedule) (sid : List ℕ) (cast : Cast) (g : Graph) (wf : World) : Type 0 where
+  pub is_graph : IsGraph g
+  pub accepted : Accepted g
+  pub differ : all_differ cast.names ≡ true
+  pub lengths : length cast.names ≡ length g.roles
+  pub binding : (ms : List Move) → AllByRecursion (λ (o : Opening). In (hashed s wf) (commitment_text_of sid o) × OpeningFits o) (all_openings ms) → Binding (λ o. commitment sha sid o) (all_openings ms)
+
+own_entries : (g : Graph) (st : State) (k : ℕ) (is : List Item) → st.transcript k ≡ entries is → Roles (shape g) is → own_part_of (shape g) st k ≡ entries (up_to_last (λ (i : Item). i.role) k is)
+own_entries g st k is e r = ap (up_to_last (by (shape g)) k) e ∙ up_to-entries (shape g) k is r
+
+module _ {sha : Hash} {s : Schedule} {sid : List ℕ} {cast : Cast} {g : Graph} {wf : World} {Own : List Program → Type 0} (known : SessionApart sha s sid cast g wf Own) (facts : SessionFacts sha s sid cast g wf) where
+  abbrev commit : Commit
+  commit o = commitment sha sid o
+
+  abbrev honest : ℕ → Bool
+  honest k = honest_role s cast k
+
+  -- a role's own last step, in the law's terms
+  own_last : (xs : List Program) (own : Own xs) (st : State) (k : ℕ) (n : Node) → NodeOk (known.of_cast xs own) s (Left known) st (principal cast k) n → k < length cast.names → (st.machine.at k).own ≡ last (V.steps_of (own_part_of (shape g) st k))
+  own_last xs own st k n ok l = go ok.status
+    where
+      of_session : (x : Session) → Matches g sid cast st (principal cast k) x → x.role ≡ k → (st.machine.at k).own ≡ last (V.steps_of (own_part_of (shape g) st k))
+      of_session x m e = subst (λ r. (st.machine.at r).own ≡ last (V.steps_of (own_part_of (shape g) st r))) e
+          (m.is_own ∙ sym (steps_entries (own_part x)) ∙ ap (λ l. last (V.steps_of l)) (sym (own_entries g st x.role (transcript x) m.is_transcript m.roles)))
+
+      index_of : (x : Session) → Matches g sid cast st (principal cast k) x → x.role ≡ k
+      index_of x m = one_index cast.names x.role k facts.differ m.inside l m.is_who
+
+      go : Status (known.of_cast xs own) s (Left known) st (principal cast k) n → (st.machine.at k).own ≡ last (V.steps_of (own_part_of (shape g) st k))
+      go (inl f) = (let u = f.all k refl l in ap (λ (z : R.Local). z.own) u.start ∙ sym (ap (λ l. last (V.steps_of (up_to_last (by (shape g)) k l))) u.none))
+      go (inr (inl h)) = of_session h.x h.matches (index_of h.x h.matches)
+      go (inr (inr h)) = of_session h.x h.matches (index_of h.x h.matches)
+
+  abbrev pub Shows : World → Type 0
+  Shows w = (l : Logged) (who : Name) (bs : List ℕ) (f : Frame) (past : Past) → last w.log ≡ Some l → IsTaken w l who bs f → f.sid ≡ sid → past_of w who ≡ Some past → ShowsLastSteps s w g cast f (up_to_last (λ (i : Item). i.role) f.receiver (flat_map items_of (exchanges_of f.sid f.receiver past.calls)))
+
+  module _ (w : World) (k : ℕ) (p : Progress known w) (told : Told known w p) (who : Name) (past : Past) (its_past : past_of w who ≡ Some past) (c : Call) (range : IsCallInRange c) (after : Suffix (k + 1) (called sha w k who c past).log wf.log) (out : Outs known w k p who past its_past c range after) where
+    abbrev next : Progress known (called sha w k who c past)
+    next = progress_called known w k p who past its_past c range after out
+
+    told' : Told known (called sha w k who c past) next
+    told' = told_called known w k p who past its_past c range after told out
+
+    abbrev st : State
+    st = after_moves known p.moves
+
+    abbrev its : SessionOfCast sha past.programs sid cast g (λ t. In (hashed s wf) t)
+    its = known.of_cast past.programs (p.nodes who past its_past).own
+
+    module _ (f : Frame) (t : TakesFrame its s (Left known) who out.moves f) where
+      abbrev take_ : Move
+      take_ = Takes f.receiver t.node (entries f.items) f.openings
+
+      abbrev st' : State
+      st' = moved commit st (Takes f.receiver t.node (entries f.items) f.openings)
+
+      st_is : after_moves known next.moves ≡ st'
+      st_is = ap (after_moves known) (progress_moves known w k p who past its_past c range after out) ∙ ap (λ ms. after_moves known (p.moves ++ ms)) t.are ∙ moved-append commit (V.at_first (shape g)) p.moves (take_ ∷ [])
+
+      all_may : AllMay (shape g) honest commit (V.at_first (shape g)) (p.moves ++ take_ ∷ [])
+      all_may = may-append (shape g) honest commit (V.at_first (shape g)) p.moves (take_ ∷ []) p.may (subst (AllMay (shape g) honest commit st) t.are out.may)
+
+      agreed : Agreed (shape g) honest st f.receiver (entries f.items)
+      agreed = all_agreed (shape g) honest commit p.moves f.receiver t.node (entries f.items) f.openings facts.accepted.sighted (facts.binding p.moves p.used) all_may
+
+      sent_is : st.machine.sent ≡ map step (honest_items sid (called sha w k who c past).log)
+      sent_is = ap (λ (z : State). z.machine.sent) (sym st_is) ∙ told'.sent.0
+
+      -- a role's transcript until the frame
+      transcript_before : (r : ℕ) (pk : Past) → past_of (called sha w k who c past) (principal cast r) ≡ Some pk → r < length cast.names → (r == f.receiver) ≡ false → st.transcript r ≡ entries (flat_map items_of (exchanges_of sid r pk.calls))
+      transcript_before r pk e l ne = sym (rw ne refl) ∙ ap (λ (z : State). z.transcript r) (sym st_is) ∙ (told'.transcript (principal cast r) pk e r refl l).0
+
+      own_receiver : (pk : Past) → past_of (called sha w k who c past) who ≡ Some pk → own_part_of (shape g) st f.receiver ≡ entries (up_to_last (λ (i : Item). i.role) f.receiver (flat_map items_of (exchanges_of sid f.receiver pk.calls)))
+      own_receiver pk e =
+          let transcript_r = told'.transcript who pk e f.receiver t.is_who t.inside in
+          sym (upto-more (by (shape g)) f.receiver (st.transcript f.receiver) (entries f.items) (has-entries (shape g) f.receiver f.items t.roles ∙ t.no_own))
+          ∙ ap (up_to_last (by (shape g)) f.receiver) (sym (rw (eqb_same f.receiver) refl))
+          ∙ own_entries g st' f.receiver (flat_map items_of (exchanges_of sid f.receiver pk.calls)) (ap (λ (z : State). z.transcript f.receiver) (sym st_is) ∙ transcript_r.0) transcript_r.1
+
+      last_of_own : (r : ℕ) (us : List Item) (t : A.TimedLabel) → (st.machine.at r).own ≡ Some t → (st.machine.at r).own ≡ last (V.steps_of (own_part_of (shape g) st r)) → own_part_of (shape g) st r ≡ entries us → (i : Item) × (last us ≡ Some i) × (step i ≡ t)
+      last_of_own r us t e o u = split_some step (last us) t (sym (steps_entries us) ∙ ap (λ l. last (V.steps_of l)) (sym u) ∙ sym o ∙ e)
+
+      -- the sender of an item held the commitments that its receiver holds
+      module _ (pr : Past) (pr_is : past_of (called sha w k who c past) who ≡ Some pr) (prefix : List Item) (i : Item) (rest : List Item) (e : f.items ≡ prefix ++ i ∷ rest) (h : honest_role s cast i.role ≡ true) where
+        not_receiver : (i.role == f.receiver) ≡ false
+        not_receiver = has-mid (λ (i : Item). i.role) f.receiver prefix i rest (subst (λ l. has (λ (i : Item). i.role) f.receiver l ≡ false) e t.no_own)
+
+        role : i.role ≡ sender (shape g) i.label
+        role = all-mid (λ (i : Item). i.role ≡ sender (shape g) i.label) prefix i rest (subst (Roles (shape g)) e t.roles)
+
+        inside : i.role < length cast.names
+        inside = subst (λ z. i.role < z) (sym facts.lengths) (subst (λ z. z < length g.roles) (sym role) (role_small g facts.is_graph facts.accepted (source (shape g) i.label)))
+
+        -- the sender's past, before the frame and after
+        before : (y : Past) × (past_of w (principal cast i.role) ≡ Some y)
+        before = told.pasts (principal cast i.role) h
+
+        its_past_ : (y : Past) × (past_of (called sha w k who c past) (principal cast i.role) ≡ Some y)
+        its_past_ = told'.pasts (principal cast i.role) h
+
+        -- all its items, and those up to its last own one
+        abbrev all : List Item
+        all = flat_map items_of (exchanges_of sid i.role (its_past_.0).calls)
+
+        abbrev up_to : List Item
+        up_to = up_to_last (λ (i : Item). i.role) i.role (flat_map items_of (exchanges_of sid i.role (its_past_.0).calls))
+
+        roles_all : Roles (shape g) all
+        roles_all = (told'.transcript (principal cast i.role) its_past_.0 its_past_.1 i.role refl inside).1
+
+        own_is : own_part_of (shape g) st i.role ≡ entries up_to
+        own_is = own_entries g st i.role all (transcript_before i.role its_past_.0 its_past_.1 inside not_receiver) roles_all
+
+        current : (st.machine.at i.role).own ≡ Some (step i)
+        current = ap (λ r. (st.machine.at r).own) role ∙ agreed.current (entries prefix) (entries rest) (entry i) (ap entries e ∙ map-append entry prefix (i ∷ rest)) (ap honest (sym role) ∙ h)
+
+        its_last : (st.machine.at i.role).own ≡ last (V.steps_of (own_part_of (shape g) st i.role))
+        its_last = own_last (before.0).programs (p.nodes (principal cast i.role) before.0 before.1).own st i.role (node_of before.0) (p.nodes (principal cast i.role) before.0 before.1).ok inside
+
+        found : (j : Item) × (last up_to ≡ Some j) × (step j ≡ step i)
+        found = last_of_own i.role up_to (step i) current its_last own_is
+
+        cut : (xs : List Item) × (up_to ≡ xs ++ found.0 ∷ [])
+        cut = split_end up_to found.0 found.1
+
+        found_role : (found.0).role ≡ sender (shape g) (found.0).label
+        found_role = all-mid (λ (i : Item). i.role ≡ sender (shape g) i.label) cut.0 found.0 [] (subst (Roles (shape g)) cut.1 (all-up_to_last (λ (i : Item). i.role ≡ sender (shape g) i.label) (λ (i : Item). i.role) i.role all roles_all))
+
+        held_by : HeldBySender (called sha w k who c past) g cast sid i (commitments g (up_to_last (λ (i : Item). i.role) f.receiver (flat_map items_of (exchanges_of sid f.receiver pr.calls)) ++ prefix ++ i ∷ []))
+        held_by = (
+          its_past_.0,
+          cut.0,
+          found.0,
+          after_last (λ (i : Item). i.role) i.role all,
+          its_past_.1,
+          sym (up_to_last-after (λ (i : Item). i.role) i.role all) ∙ ap (λ l. l ++ after_last (λ (i : Item). i.role) i.role all) cut.1 ∙ append_assoc cut.0 (found.0 ∷ []) (after_last (λ (i : Item). i.role) i.role all),
+          ap (λ r. record { role = r; label = (found.0).label; time = (found.0).time }) (found_role ∙ ap (λ (z : A.TimedLabel). sender (shape g) z.label) found.2 ∙ sym role) ∙ ap (λ (z : A.TimedLabel). record { role = i.role; label = z.label; time = z.time }) found.2,
+          same_held g honest st f t.roles agreed (up_to_last (λ (i : Item). i.role) f.receiver (flat_map items_of (exchanges_of sid f.receiver pr.calls))) prefix i rest up_to (own_receiver pr pr_is) e h own_is ∙ ap (commitments g) cut.1,
+        )
+
+      shows_last : (pr : Past) → past_of (called sha w k who c past) who ≡ Some pr → f.sid ≡ sid → ShowsLastSteps s (called sha w k who c past) g cast f (up_to_last (λ (i : Item). i.role) f.receiver (flat_map items_of (exchanges_of f.sid f.receiver pr.calls)))
+      shows_last pr pr_is q = record {
+        items = subst (λ z. map bare (filter (λ (i : Item). honest_role s cast i.role) f.items) ≡ map bare (last_of (λ (i : Item). i.role) (after_last (λ (i : Item). i.role) f.receiver (honest_items z (called sha w k who c past).log)))) (sym q)
+            (shown_items g honest st f t.roles agreed (honest_items sid (called sha w k who c past).log) told'.sent.1 sent_is);
+        held = λ prefix i rest e h. subst (λ z. HeldBySender (called sha w k who c past) g cast z i (commitments g (up_to_last (λ (i : Item). i.role) f.receiver (flat_map items_of (exchanges_of z f.receiver pr.calls)) ++ prefix ++ i ∷ []))) (sym q) (held_by pr pr_is prefix i rest e h);
+      }
+
+    pub shows_called : Shows (called sha w k who c past)
+    shows_called l who' bs f pr e t q pr_is =
+        let same : Some (entry_ c) ≡ Some l = sym (last-append w.log (entry_ c) []) ∙ e in
+        let same' : entry_ c ≡ l = cc in
+        let who_is : Some who ≡ Some who' = ap (λ (z : Logged). z.who) same' ∙ t.1 in
+        let who_is' : who ≡ who' = cc in
+        let call_is : Some c ≡ Some (Deliver bs) = ap (λ (z : Logged). z.call) same' ∙ t.2 in
+        let call_is' : c ≡ Deliver bs = cc in
+        let ans : Answered (answer sha (node_of past) c) ≡ Answered (Happened (receipt f)) = ap (λ (z : Logged). z.outcome) same' ∙ t.4 in
+        let ans' : answer sha (node_of past) c ≡ Happened (receipt f) = cc in
+        shows_last f (out.took f record { bs = bs; is_call = call_is'; is_read = t.3; is_answer = ans'; is_sid = q }) pr (ap (past_of (called sha w k who c past)) who_is' ∙ pr_is) q
+      where
+        entry_ : Call → Logged
+        entry_ c = record { number = k; who = Some who; call = Some c; outcome = Answered (answer sha (node_of past) c); frame = frame_in (answer sha (node_of past) c); notes = notes sha (node_of past) c }
+
+-- ---- a run
+
+module _ (sha : Hash) (hash : IsHash sha) (ps : List Past) (are : All (Begins sha) ps) (calls : List CallAt) (range : AreCallsInRange calls) (sid : List ℕ) (premises : Premises sha (honest_are ps) (run_apart sha ps calls)) (first : FirstCast sha hash ps are calls range sid) where
+  abbrev pub of_run : SessionApart sha (honest_are ps) sid first.cast (first.program).graph (run_apart sha ps calls) (Own sha hash ps are calls range)
+  of_run = W.known sha hash ps are calls range sid premises first
+
+  pub facts_of : SessionFacts sha (honest_are ps) sid first.cast (first.program).graph (run_apart sha ps calls)
+  facts_of = record {
+    is_graph = (the_program sha hash ps are calls range sid premises first).is_graph;
+    accepted = (the_program sha hash ps are calls range sid premises first).accepted;
+    differ = first.differ;
+    lengths = first.lengths;
+    binding = W.binding sha hash ps are calls range sid premises first;
+  }
+
+  abbrev pub first_progress : Progress of_run (record { pasts = ps; log = [] })
+  first_progress = begins sha hash ps are calls range sid premises first
+
+  pub first_told : (p : Progress of_run (record { pasts = ps; log = [] })) → p.moves ≡ [] → Told of_run (record { pasts = ps; log = [] }) p
+  first_told p e = record {
+    transcript = λ who y q r i l. subst (λ ms. IsTranscript sid (first.program).graph (after_moves of_run ms) r y.calls) (sym e) (subst (IsTranscript sid (first.program).graph (V.at_first (shape (first.program).graph)) r) (sym (all_in (Begins sha) ps y are (found_in (λ (p : Past). bytes_eq p.keys.me who) ps y q)).calls) (refl, tt));
+    sent = (ap (λ ms. (after_moves of_run ms).machine.sent) e, tt);
+    pasts = λ who h. there ps who h;
+  }
+
+  shown_in_end : Shows of_run facts_of (run_apart sha ps calls)
+  shown_in_end =
+      let r = with_all of_run (λ w p. Told of_run w p × Shows of_run facts_of w)
+      (λ w k p h who past q c r after out. (told_called of_run w k p who past q c r after h.0 out, shows_called of_run facts_of w k p h.0 who past q c r after out))
+      (record { pasts = ps; log = [] }) 1 (first_progress, (first_told first_progress (first_moves sha hash ps are calls range sid premises first), λ l who bs f past e. absurd (let n : None ≡ Some l = e in cc))) calls (recursion_from_All (λ (c : CallAt). IsCallInRange c.call) calls range) refl in
+      r.1.1
+
+  -- what a frame that was accepted last shows
+  pub last_shown : (l : Logged) (who : Name) (bs : List ℕ) (f : Frame) (y : Graph) (past : Past) → last (run_apart sha ps calls).log ≡ Some l → IsTaken (run_apart sha ps calls) l who bs f → f.sid ≡ sid → graph_with sha (honest_are ps).graphs first.cast.graph ≡ Some y → past_of (run_apart sha ps calls) who ≡ Some past
+      → ShowsLastSteps (honest_are ps) (run_apart sha ps calls) y first.cast f (up_to_last (λ (i : Item). i.role) f.receiver (flat_map items_of (exchanges_of f.sid f.receiver past.calls)))
+  last_shown l who bs f y past e t q gr its =
+      let two : Some (first.program).graph ≡ Some y = sym (graph_is sha hash ps are calls range sid premises first) ∙ gr in
+      let same : (first.program).graph ≡ y = cc in
+      subst (λ z. ShowsLastSteps (honest_are ps) (run_apart sha ps calls) z first.cast f (up_to_last (λ (i : Item). i.role) f.receiver (flat_map items_of (exchanges_of f.sid f.receiver past.calls)))) same (shown_in_end l who bs f past e t q its)
+
+-- where the acceptance ends the run
+shows_at_end : (sha : Hash) → IsHash sha → (ps : List Past) (calls : List CallAt) (who : Name) (bs : List ℕ) (f : Frame) (l : Logged) (cast : Cast) (g : Graph) (past : Past) → All (Begins sha) ps → AreCallsInRange calls → Premises sha (honest_are ps) (run_apart sha ps calls)
+    → last (run_apart sha ps calls).log ≡ Some l → IsTaken (run_apart sha ps calls) l who bs f → cast_of_session f.sid (run_apart sha ps calls).log ≡ Some cast → graph_with sha (honest_are ps).graphs cast.graph ≡ Some g → past_of (run_apart sha ps calls) who ≡ Some past
+    → ShowsLastSteps (honest_are ps) (run_apart sha ps calls) g cast f (up_to_last (λ (i : Item). i.role) f.receiver (flat_map items_of (exchanges_of f.sid f.receiver past.calls)))
+shows_at_end sha hash ps calls who bs f l cast g past are range premises e t is gr its =
+    let first : FirstCast sha hash ps are calls range f.sid = first_cast sha hash ps are calls range f.sid (some_event f.sid (run_apart sha ps calls).log cast is) in
+    let two : Some first.cast ≡ Some cast = sym first.is_cast ∙ is in
+    let same : first.cast ≡ cast = cc in
+    subst (λ c. ShowsLastSteps (honest_are ps) (run_apart sha ps calls) g c f (up_to_last (λ (i : Item). i.role) f.receiver (flat_map items_of (exchanges_of f.sid f.receiver past.calls)))) same
+    (last_shown sha hash ps are calls range f.sid premises first l who bs f g past e t refl (subst (λ (c : Cast). graph_with sha (honest_are ps).graphs c.graph ≡ Some g) (sym same) gr) its)
+
+pub frames_show_last_steps_apart : (sha : Hash) → IsHash sha → FramesShowLastStepsApart sha
+frames_show_last_steps_apart sha hash ps calls are range premises who bs f l cast g past t is gr its =
+    let at_end : last (run_apart sha ps (take l.number calls)).log ≡ Some l = is_last sha ps calls l (in_from_Contains (run_apart sha ps calls).log l t.0) in
+    shows_at_end sha hash ps (take l.number calls) who bs f l cast g past are (All-take (λ (c : CallAt). IsCallInRange c.call) l.number calls range) (premises_before sha ps calls l.number (honest_are ps) premises) at_end
+    (contains_from_in (run_apart sha ps (take l.number calls)).log l (in_last_of (run_apart sha ps (take l.number calls)).log l at_end), t.1, t.2, t.3, t.4) is gr its
+  where
+    in_last_of : (xs : List Logged) (l : Logged) → last xs ≡ Some l → In xs l
+    in_last_of [] l e = absurd (cc)
+    in_last_of (x ∷ []) l e = inl (let q : x ≡ l = cc in sym q)
+    in_last_of (x ∷ y ∷ ys) l e = inr (in_last_of (y ∷ ys) l e)

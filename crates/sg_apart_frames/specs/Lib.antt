@@ -1,0 +1,4 @@
+pub mod Receipts
+pub mod LastSteps
+pub mod Delivery
+pub mod GoesOn

@@ -1,0 +1,13 @@
+pub mod Accepting
+pub mod Adding
+pub mod Apart
+pub mod Behind
+pub mod Canonical
+pub mod Compiling
+pub mod Lines
+pub mod Once
+pub mod OneTable
+pub mod Only
+pub mod Reading
+pub mod Refusals
+pub mod Tabled

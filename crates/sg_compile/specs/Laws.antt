@@ -1,0 +1,32 @@
+-- What holds of all graphs and all texts of programs: a graph is compiled or refused, and a text is of one program or has a fault.
+use Rattle.std.specs.Prelude.{◌≡◌, ℕ, List, All}
+use Rattle.sg_protocol.specs.Graph.{Graph}
+use Rattle.sg_protocol.specs.IsSchedule.{AreCompiled}
+use Rattle.sg_protocol.specs.Keyring.{Program}
+use Rattle.sg_protocol.specs.Texts.{real}
+use Rattle.sg_compile.specs.All.{IsAllFault}
+use Rattle.sg_compile.specs.Compiled.{IsCompiled, IsRefused, IsWhole}
+use Rattle.sg_compile.specs.Loading.{IsLoadFault}
+use Rattle.sg_compile.specs.Text.{program_text}
+use Rattle.sg_compile.specs.declared.all.AllFault.TheVariants.{Refused}
+use Rattle.sg_compile.specs.declared.check.CompileFault.{CompileFault}
+use Rattle.sg_compile.specs.declared.check.CompileFault.TheVariants.{OutOfMemory as CompileMemory}
+use Rattle.sg_compile.specs.declared.loader.LoadFault.{LoadFault}
+use Rattle.sg_compile.specs.declared.loader.LoadFault.TheVariants.{OutOfMemory as LoadMemory}
+
+-- A graph that has a program for a role isn't refused for it
+abbrev pub CompiledIsNotRefused : Type 0
+CompiledIsNotRefused = (g : Graph) (r : ℕ) (p : Program) (f : CompileFault) → IsCompiled g r p → IsRefused g r f → f ≡ CompileMemory
+
+-- Of graphs that have programs for all their roles none is refused
+abbrev pub AllCompiledIsNotRefused : Type 0
+AllCompiledIsNotRefused = (graphs : List Graph) (programs : List Program) (index : ℕ) (f : CompileFault)
+    → AreCompiled real graphs programs → All IsWhole programs → IsAllFault graphs (Refused index f) → ⊥
+
+-- Two programs have two texts
+abbrev pub TextsDiffer : Type 0
+TextsDiffer = (p q : Program) → IsWhole p → IsWhole q → program_text p ≡ program_text q → p ≡ q
+
+-- The text of a program has no fault
+abbrev pub TextIsNotRefused : Type 0
+TextIsNotRefused = (p : Program) (f : LoadFault) → IsWhole p → IsLoadFault (program_text p) f → f ≡ LoadMemory

@@ -1,0 +1,7 @@
+pub mod All
+pub mod Compiled
+pub mod FaultText
+pub mod Laws
+pub mod Loading
+pub mod Refused
+pub mod Text

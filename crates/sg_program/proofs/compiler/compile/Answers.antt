@@ -1,6 +1,0 @@
-use Rattle.sg_program.proofs.Only.{compiled_or_memory}
-use Rattle.sg_program.proofs.compiler.compile.Goals as goal
-
-pub returns-clause-compiles : goal.returns-clause-compiles
-returns-clause-compiles c =
-    λ p compiled. compiled_or_memory c.args.graph.now c.args.role p compiled c.compile_accepted.result c.compile_accepted.ensures.compiled c.compile_accepted.ensures.refused

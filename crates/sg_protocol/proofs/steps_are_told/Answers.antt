@@ -1,6 +1,0 @@
--- In which graphs the steps of a run have their names.
-use Rattle.sg_protocol.proofs.ToldRuns.{steps_are_told}
-use Rattle.sg_protocol.proofs.steps_are_told.Goals as goal
-
-pub returns : goal.returns
-returns c = steps_are_told
