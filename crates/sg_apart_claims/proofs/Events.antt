@@ -26,13 +26,13 @@ use Rattle.sg_protocol.specs.World.{World}
 use Rattle.sg_protocol.specs.Run.{cast_in}
 use Rattle.sg_protocol.specs.Ranges.{IsCallInRange}
 use Rattle.sg_protocol.specs.Bounds.{IsSession}
-use Rattle.sg_protocol.specs.Told.{GivesVariables, HasNamed, names_numbers}
+use Rattle.sg_protocol.specs.Named.{GivesVariables, HasNamed, names_numbers}
 use Rattle.sg_protocol.proofs.AfterCalls.{cast_parts}
 use Rattle.sg_protocol.proofs.Course.{small_values}
 use Rattle.sg_protocol.proofs.Moves.{row_none}
 use Rattle.sg_protocol.proofs.ReadBack.{read-SpellsFrame}
 use Rattle.sg_protocol.proofs.Sendings.{took}
-use Rattle.sg_protocol.proofs.Told.{call_told}
+use Rattle.sg_protocol.proofs.Named.{call_named}
 use Rattle.sg_apart_claims.proofs.Nodes.{Hashed, IsKnown, KnownNode, compiled, fits_cast, fresh, none_compiled, none_declared, nothing, owned}
 
 -- an answer with an event names its numbers
@@ -120,10 +120,10 @@ module _ (sha : Hash) (hash : IsHash sha) (graphs : List Graph) (wf : World) (wh
 
   pub event_cast : (e : Event) → In (events_of_answer (answer sha n c)) e → EventCast e
   event_cast e i =
-      let t = call_told sha n (compiled sha hash graphs wf who n k c range hs) c (gives c range) (answer sha n c) refl (names (answer sha n c) e i) in
-      let same = t.told.event e (contains_from_in (events_of_answer (answer sha n c)) e i) in
-      let x : Session = t.told.session in
-      let within : role_of e < length (t.told.program).graph.roles = has_role (t.told.program).graph c (answer sha n c) e i t.told.named in
+      let t = call_named sha n (compiled sha hash graphs wf who n k c range hs) c (gives c range) (answer sha n c) refl (names (answer sha n c) e i) in
+      let same = t.is_named.event e (contains_from_in (events_of_answer (answer sha n c)) e i) in
+      let x : Session = t.is_named.session in
+      let within : role_of e < length (t.is_named.program).graph.roles = has_role (t.is_named.program).graph c (answer sha n c) e i t.is_named.named in
       elim t.is_from [
         | inl j ↦
             let kx : IsKnown sha hash graphs wf who x = rec_in (IsKnown sha hash graphs wf who) n.live x k.known j in
@@ -133,9 +133,9 @@ module _ (sha : Hash) (hash : IsHash sha) (graphs : List Graph) (wf : World) (wh
               id = kx.id ∙ sym same.0;
               is_hashed = kx.is_hashed;
               me = ap (principal x.cast) same.1 ∙ kx.me;
-              program = t.told.program;
+              program = t.is_named.program;
               there = t.there;
-              digest = t.told.is_graph;
+              digest = t.is_named.is_graph;
               role = within;
               joins = λ d. absurd (contradicts (owned n.joins n.live x k.owns j) (ap (λ z. has_joined n.joins z x.role) (sym same.0) ∙ ap (has_joined n.joins (sid_of e)) (sym same.1) ∙ fresh sha hash graphs wf who n k c range hs e i d));
             }
@@ -147,9 +147,9 @@ module _ (sha : Hash) (hash : IsHash sha) (graphs : List Graph) (wf : World) (wh
               id = b.1 ∙ sym same.0;
               is_hashed = hs (session_text_of x.cast) b.2;
               me = both.1;
-              program = t.told.program;
+              program = t.is_named.program;
               there = t.there;
-              digest = t.told.is_graph;
+              digest = t.is_named.is_graph;
               role = within;
               joins = λ d. b.0;
             }

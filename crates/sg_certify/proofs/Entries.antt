@@ -26,13 +26,13 @@ use Rattle.sg_protocol.specs.Schedule.{Schedule, graph_with}
 use Rattle.sg_protocol.specs.Premises.{hashed}
 use Rattle.sg_protocol.specs.Session.{Session, time}
 use Rattle.sg_protocol.specs.Texts.{real, graph_digest, graph_text_of, session_id}
-use Rattle.sg_protocol.specs.Told.{IsNamed, IsAnswered, IsOfOneGraph, HasEvent, HasNamed, names_numbers}
+use Rattle.sg_protocol.specs.Named.{IsNamed, IsAnswered, IsOfOneGraph, HasEvent, HasNamed, names_numbers}
 use Rattle.sg_protocol.specs.Verdict.{receipt, decided, verdict_on, rows}
 use Rattle.sg_protocol.specs.World.{Logged, World, Answered}
 use Rattle.sg_protocol.proofs.Finding.{find_passes}
 use Rattle.sg_protocol.proofs.RealHash.{real_hash}
 use Rattle.sg_protocol.proofs.TextLaws as TL
-use Rattle.sg_protocol.proofs.ToldRuns.{steps_are_named}
+use Rattle.sg_protocol.proofs.NamedRuns.{steps_are_named}
 use Rattle.sg_protocol.proofs.Whole.{find_some, found_in, program_graph, same_name, same_named}
 use Rattle.sg_certify.specs.Runs.{IsUnbroken}
 
@@ -190,12 +190,12 @@ module _ (programs : List Program) (s : Schedule) (u : IsUnbroken programs s) wh
   -- an entry's event is of the one cast of its session
   pub entry : (l : Logged) (c : Call) (e : Event) → Contains w.log l → l.call ≡ Some c → events_of_outcome l.outcome ≡ e ∷ [] → IsEntry programs s e
   entry l c e there call one =
-      let told = steps_are_named real real_hash in
-      let a : IsAnswered real programs s l c = told.answered programs s l c there call in
+      let steps_named = steps_are_named real real_hash in
+      let a : IsAnswered real programs s l c = steps_named.answered programs s l c there call in
       let event : events_of_answer (answer real (node_of a.past) c) ≡ e ∷ [] = ap events_of_outcome (sym a.outcome) ∙ one in
       let named : names_numbers (answer real (node_of a.past) c) ≡ true = named_by (answer real (node_of a.past) c) e event in
-      let t : IsNamed real (node_of a.past) c (answer real (node_of a.past) c) = told.told programs s u.compiled u.schedule l c there call a named in
-      let g : IsOfOneGraph real s w (node_of a.past) (answer real (node_of a.past) c) t.program t.session = told.one_graph programs s u.compiled u.schedule u.premises.collision_free l c there call a named t in
+      let t : IsNamed real (node_of a.past) c (answer real (node_of a.past) c) = steps_named.entries programs s u.compiled u.schedule l c there call a named in
+      let g : IsOfOneGraph real s w (node_of a.past) (answer real (node_of a.past) c) t.program t.session = steps_named.one_graph programs s u.compiled u.schedule u.premises.collision_free l c there call a named t in
       let had : Contains (events_of_answer (answer real (node_of a.past) c)) e = subst (λ es. Contains es e) (sym event) (contains_from_in (e ∷ []) e (inl refl)) in
       let its = t.event e had in
       let less : role_of e < length t.program.graph.roles = has_role t.program.graph c (answer real (node_of a.past) c) e event t.named in

@@ -26,7 +26,7 @@ use Rattle.sg_protocol.specs.Ranges.{IsCallInRange, IsCast}
 use Rattle.sg_protocol.specs.Session.{Session}
 use Rattle.sg_protocol.specs.Texts.{graph_text_of, real}
 use Rattle.sg_protocol.specs.TextLaws.{IsVersion}
-use Rattle.sg_protocol.specs.Told.{live_with}
+use Rattle.sg_protocol.specs.Named.{live_with}
 use Rattle.sg_protocol.specs.Turn.{turn_of}
 use Rattle.sg_protocol.proofs.Finding.{find_all}
 use Rattle.sg_protocol.proofs.RealHash.{real_hash}

@@ -9,9 +9,9 @@ use Rattle.sg_protocol.specs.Calls.{Event, events_of_answer}
 use Rattle.sg_protocol.specs.Node.{Node, has_joined}
 use Rattle.sg_protocol.specs.Past.{Past, AnsweredCall, AreAnswers, new_node, node_of, pairs_differ}
 use Rattle.sg_protocol.specs.NodeAfter.{node_after}
-use Rattle.sg_protocol.specs.Restarts.{AreLives, joined_by, told_in_lives}
+use Rattle.sg_protocol.specs.Restarts.{AreLives, joined_by, reported_in_lives}
 use Rattle.sg_protocol.specs.Texts.{Hash, real}
-use Rattle.sg_protocol.proofs.ToldLives.{told_join_once}
+use Rattle.sg_protocol.proofs.ReportedLives.{reported_join_once}
 use Rattle.sg_lives.specs.LedgerRuns.{LedgerRun, AreRuns, reported_in_runs, RunsAreLives, RunsTellJoinsOnce}
 use Rattle.sg_lives.proofs.NodeJoins.{joins_after_all}
 
@@ -48,15 +48,15 @@ runs_are_lives opened (r ∷ rs) h =
     let answered : AreAnswers real (new_node past.keys past.programs opened) f.prefix = first_answers real (new_node past.keys past.programs opened) f.prefix f.rest (subst (AreAnswers real (new_node past.keys past.programs opened)) f.is own) in
     let joins : (node_of life).joins ≡ opened ++ joins_made f.prefix = joins_after_all real (new_node past.keys past.programs opened) f.prefix answered in
     let next : (h.2).0 ≡ opened ++ joins_made f.prefix = only_joins r.image (h.2).0 (opened ++ joins_made f.prefix) (h.2).1 f.represents in
-    let rest : (lives : List (ℕ × Past)) × AreLives real (h.2).0 (map (λ (l : ℕ × Past). l.1) lives) × (told_in_lives lives ≡ reported_in_runs rs) = runs_are_lives (h.2).0 rs (h.2).2 in
+    let rest : (lives : List (ℕ × Past)) × AreLives real (h.2).0 (map (λ (l : ℕ × Past). l.1) lives) × (reported_in_lives lives ≡ reported_in_runs rs) = runs_are_lives (h.2).0 rs (h.2).2 in
     let reported : take r.reported f.prefix ≡ take r.reported past.calls = sym (ap (take r.reported) f.is ∙ take_within r.reported f.prefix f.rest f.enough) in (
       (r.reported, life) ∷ rest.0,
       (refl, answered, subst (λ js. AreLives real js (map (λ (l : ℕ × Past). l.1) rest.0)) (next ∙ sym joins) rest.1),
-      ap (λ cs. flat_map (λ (c : AnsweredCall). events_of_answer c.answer) cs ++ told_in_lives rest.0) reported
+      ap (λ cs. flat_map (λ (c : AnsweredCall). events_of_answer c.answer) cs ++ reported_in_lives rest.0) reported
           ∙ ap (λ es. flat_map (λ (c : AnsweredCall). events_of_answer c.answer) (take r.reported past.calls) ++ es) rest.2,
     )
 
 pub runs_tell_joins_once : RunsTellJoinsOnce
 runs_tell_joins_once opened runs h =
     let l = runs_are_lives opened runs h in
-    subst (λ (es : List Event). IsTrue (pairs_differ (joined_by es)) × All (λ (j : Join). has_joined opened j.0 j.1 ≡ false) (joined_by es)) l.2 (told_join_once real opened l.0 l.1)
+    subst (λ (es : List Event). IsTrue (pairs_differ (joined_by es)) × All (λ (j : Join). has_joined opened j.0 j.1 ≡ false) (joined_by es)) l.2 (reported_join_once real opened l.0 l.1)

@@ -22,7 +22,7 @@ use Rattle.sg_protocol.specs.NodeAfter.{node_after}
 use Rattle.sg_protocol.specs.Past.{Past, AnsweredCall, AreAnswers, new_node, node_of, node_after_all, past_after}
 use Rattle.sg_protocol.specs.Session.{Session}
 use Rattle.sg_protocol.specs.Texts.{Hash, real}
-use Rattle.sg_protocol.specs.Told.{live_with}
+use Rattle.sg_protocol.specs.Named.{live_with}
 use Rattle.sg_protocol.specs.Turn.{turn_of}
 use Rattle.sg_script.specs.Script.{Start as ScriptStart, Choice, Script}
 use Rattle.sg_lives.specs.LedgerRuns.{IsOver, KeptIsRun}

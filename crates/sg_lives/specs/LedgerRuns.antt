@@ -10,7 +10,7 @@ use Rattle.sg_protocol.specs.Calls.{Event, events_of_answer}
 use Rattle.sg_protocol.specs.Keyring.{Keyring, Program}
 use Rattle.sg_protocol.specs.Node.{has_joined}
 use Rattle.sg_protocol.specs.Past.{Past, AreAnswers, new_node, pairs_differ}
-use Rattle.sg_protocol.specs.Restarts.{AreLives, joined_by, told_in_lives}
+use Rattle.sg_protocol.specs.Restarts.{AreLives, joined_by, reported_in_lives}
 use Rattle.sg_protocol.specs.Texts.{real}
 use Rattle.sg_script.specs.Script.{Script}
 
@@ -36,7 +36,7 @@ reported_in_runs rs = flat_map (λ r. flat_map (λ c. events_of_answer c.answer)
 
 -- Runs over one ledger are lives of one principal, each of the first calls of its run: of all that the run reported, and maybe of more
 abbrev pub RunsAreLives : Type 0
-RunsAreLives = (opened : List Join) (runs : List LedgerRun) → AreRuns opened runs → (lives : List (ℕ × Past)) × AreLives real opened (map (λ (l : ℕ × Past). l.1) lives) × (told_in_lives lives ≡ reported_in_runs runs)
+RunsAreLives = (opened : List Join) (runs : List LedgerRun) → AreRuns opened runs → (lives : List (ℕ × Past)) × AreLives real opened (map (λ (l : ℕ × Past). l.1) lives) × (reported_in_lives lives ≡ reported_in_runs runs)
 
 -- So what runs over one ledger reported has no two joins of one pair, and none of a pair that the ledger was first opened with
 abbrev pub RunsTellJoinsOnce : Type 0

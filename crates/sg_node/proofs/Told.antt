@@ -9,7 +9,7 @@ use Rattle.sg_protocol.specs.Node.{Node, program_for, session_with, session_for}
 use Rattle.sg_protocol.specs.NodeStates.{RepresentsNode, has_sid, is_held_for}
 use Rattle.sg_protocol.specs.Notes.{session_of_frame}
 use Rattle.sg_protocol.specs.Session.{Session}
-use Rattle.sg_protocol.specs.Told.{live_with}
+use Rattle.sg_protocol.specs.Named.{live_with}
 use Rattle.sg_node.specs.declared.node.Node.TheInside.{Inside}
 use Rattle.sg_node.specs.declared.sessions.Live.{Live}
 use Rattle.sg_node.specs.Graphs.{graph_for, graph_at}

@@ -6,7 +6,7 @@ ghost use Rattle.sg_protocol.specs.NodeStates.{RepresentsPast};
 ghost use Rattle.sg_protocol.specs.Notes.{session_of_frame};
 ghost use Rattle.sg_protocol.specs.Past.{Past, node_of};
 ghost use Rattle.sg_protocol.specs.Texts.{real};
-ghost use Rattle.sg_protocol.specs.Told.{graph_of_call, live_with};
+ghost use Rattle.sg_protocol.specs.Named.{graph_of_call, live_with};
 ghost use Rattle.sg_node.specs.Graphs.{graph_for, graph_at};
 ghost use Rattle.sg_node.specs.Slots.{state_in};
 

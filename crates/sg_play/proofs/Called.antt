@@ -17,7 +17,7 @@ use Rattle.sg_protocol.specs.Past.{Past, node_of}
 use Rattle.sg_protocol.specs.Ranges.{IsCallInRange, AreValues}
 use Rattle.sg_protocol.specs.Spelling.{spelling}
 use Rattle.sg_protocol.specs.Texts.{real}
-use Rattle.sg_protocol.specs.Told.{graph_of_call}
+use Rattle.sg_protocol.specs.Named.{graph_of_call}
 use Rattle.sg_node.specs.Answers.{GoesOn}
 use Rattle.sg_report.specs.Reported.{Reported, Sends, reported_answer}
 use Rattle.sg_protocol.specs.Run.{frame_in}

@@ -7,7 +7,7 @@ use Rattle.sg_protocol.specs.Calls.{Call, Answer, Start, Abandon, Deliver, Happe
 use Rattle.sg_protocol.specs.Keyring.{Program}
 use Rattle.sg_protocol.specs.Past.{node_of}
 use Rattle.sg_protocol.specs.Session.{Session}
-use Rattle.sg_protocol.specs.Told.{live_with}
+use Rattle.sg_protocol.specs.Named.{live_with}
 use Rattle.sg_protocol.specs.Turn.{turn_of}
 use Rattle.sg_script.specs.Script.{Start as ScriptStart, Choice}
 use Rattle.sg_play.specs.Choosing.{is_ready}

@@ -9,7 +9,7 @@ use Rattle.sg_protocol.specs.Keyring.{Keyring, Program}
 use Rattle.sg_protocol.specs.Past.{Past, node_of, past_after}
 use Rattle.sg_protocol.specs.Session.{Session}
 use Rattle.sg_protocol.specs.Texts.{real}
-use Rattle.sg_protocol.specs.Told.{live_with}
+use Rattle.sg_protocol.specs.Named.{live_with}
 use Rattle.sg_protocol.specs.Turn.{turn_of}
 use Rattle.sg_program.specs.Together.{is_named}
 use Rattle.sg_script.specs.Script.{Start as ScriptStart, Choice, Script}

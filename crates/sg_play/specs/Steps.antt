@@ -9,7 +9,7 @@ use Rattle.sg_protocol.specs.Keyring.{Keyring}
 use Rattle.sg_protocol.specs.Past.{AnsweredCall, Past, node_of, past_after}
 use Rattle.sg_protocol.specs.Spelling.{spelling}
 use Rattle.sg_protocol.specs.Texts.{real}
-use Rattle.sg_protocol.specs.Told.{graph_of_call}
+use Rattle.sg_protocol.specs.Named.{graph_of_call}
 use Rattle.sg_keys.specs.Names.{addr_of}
 use Rattle.sg_text.specs.Sessions.{KnownSessions, session_name}
 use Rattle.sg_report.specs.Lines.{graph_or_none, line_text}

@@ -6,7 +6,7 @@ use Rattle.sg_protocol.specs.Calls.{Answer, Sends}
 use Rattle.sg_protocol.specs.Keyring.{Program}
 use Rattle.sg_protocol.specs.Past.{node_of}
 use Rattle.sg_protocol.specs.Session.{Session}
-use Rattle.sg_protocol.specs.Told.{live_with}
+use Rattle.sg_protocol.specs.Named.{live_with}
 use Rattle.sg_script.specs.Script.{Choice}
 use Rattle.sg_play.specs.Choosing.{is_ready}
 use Rattle.sg_play.specs.Played.{Play, abandons, answer_in, called, act_by, chosen}

@@ -5,7 +5,7 @@ ghost use Rattle.sg_protocol.specs.Calls.{Start, Act, Abandon, Deliver};
 ghost use Rattle.sg_protocol.specs.NodeStates.{RepresentsPast};
 ghost use Rattle.sg_protocol.specs.Past.{Past, node_of};
 ghost use Rattle.sg_protocol.specs.Texts.{real};
-ghost use Rattle.sg_protocol.specs.Told.{graph_of_call};
+ghost use Rattle.sg_protocol.specs.Named.{graph_of_call};
 ghost use Rattle.sg_report.specs.Outcome.{outcome_of};
 ghost use Rattle.sg_walk.specs.Model.{values_of};
 ghost use Rattle.sg_play.specs.Asking.{IsAsked, IsAskedWithFrames, addressed};

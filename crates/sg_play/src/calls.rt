@@ -4,7 +4,7 @@ ghost use Rattle.std.specs.Option.{option_copied};
 ghost use Rattle.sg_text.specs.Sessions.{sids_met};
 ghost use Rattle.sg_protocol.specs.Calls.{Abandon, Act};
 ghost use Rattle.sg_protocol.specs.Past.{node_of};
-ghost use Rattle.sg_protocol.specs.Told.{live_with};
+ghost use Rattle.sg_protocol.specs.Named.{live_with};
 ghost use Rattle.sg_protocol.specs.Turn.{turn_of};
 ghost use Rattle.sg_report.specs.Outcome.{outcome_of};
 ghost use Rattle.sg_walk.specs.Model.{values_of};

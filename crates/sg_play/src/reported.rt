@@ -3,7 +3,7 @@ ghost use Rattle.std.specs.Prelude.{◌≡◌, ◌<◌, nat_lt, true, length, So
 ghost use Rattle.std.specs.List.{list_all};
 ghost use Rattle.std.specs.Option.{option_copied};
 ghost use Rattle.sg_model.specs.Lists.{keys_of};
-ghost use Rattle.sg_protocol.specs.Told.{HasEvent, HasNumbers};
+ghost use Rattle.sg_protocol.specs.Named.{HasEvent, HasNumbers};
 ghost use Rattle.sg_report.specs.Lines.{graph_or_none, line_text};
 ghost use Rattle.sg_report.specs.Outcome.{outcome_of};
 ghost use Rattle.sg_report.specs.Reported.{CanBeReported, Reported};

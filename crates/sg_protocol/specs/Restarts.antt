@@ -59,17 +59,17 @@ abbrev pub LivesJoinOnce : Hash → Type 0
 LivesJoinOnce sha = (first : List (List ℕ × ℕ)) (lives : List Past) → AreLives sha first lives → IsTrue (joins_once first (events_of_lives lives))
 
 -- what was printed in lives, each with the number of its first calls whose lines were printed: the others were cut off by a crash
-abbrev pub told_in_lives : List (ℕ × Past) → List Event
-told_in_lives ls = flat_map (λ (l : ℕ × Past). flat_map (λ c. events_of_answer c.answer) (take l.0 (l.1).calls)) ls
+abbrev pub reported_in_lives : List (ℕ × Past) → List Event
+reported_in_lives ls = flat_map (λ (l : ℕ × Past). flat_map (λ c. events_of_answer c.answer) (take l.0 (l.1).calls)) ls
 
 -- the pairs that events join, in order
 abbrev pub joined_by : List Event → List (List ℕ × ℕ)
 joined_by es = map (λ e. (sid_of e, role_of e)) (filter does_join es)
 
 -- Wherever its lives were cut off, what a principal printed of them has no two joins of one pair, and none of a pair that it began with
-abbrev pub ToldJoinOnce : Hash → Type 0
-ToldJoinOnce sha = (first : List (List ℕ × ℕ)) (ls : List (ℕ × Past)) → AreLives sha first (map (λ (l : ℕ × Past). l.1) ls) →
-    IsTrue (pairs_differ (joined_by (told_in_lives ls))) × All (λ (j : List ℕ × ℕ). has_joined first j.0 j.1 ≡ false) (joined_by (told_in_lives ls))
+abbrev pub ReportedJoinOnce : Hash → Type 0
+ReportedJoinOnce sha = (first : List (List ℕ × ℕ)) (ls : List (ℕ × Past)) → AreLives sha first (map (λ (l : ℕ × Past). l.1) ls) →
+    IsTrue (pairs_differ (joined_by (reported_in_lives ls))) × All (λ (j : List ℕ × ℕ). has_joined first j.0 j.1 ≡ false) (joined_by (reported_in_lives ls))
 
 -- ---- runs
 

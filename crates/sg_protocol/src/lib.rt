@@ -8,7 +8,7 @@
 //! `Spelling`, `Reading`, `Texts`, `Keyring`, `Session`, `Sending`, `Checks`, `Calls`, `Node`, `Verdict`, `Acting`, `NodeAfter`,
 //! `Past`, `Notes`, `Schedule`, `World`, `Crafted`, `Run`, `Premises`, `Walk`, `IsSchedule`, `Headline`. What code keeps and may
 //! rely on: `Kept`, `Representation`, `Following`, `Live`, `Reachable`, `NodeStates`, `Ranges`. What a replay reports: `Explaining`, `Steps`,
-//! `Broken`, `Turn`, `Told`. What else holds: `Isolation`, `Receipts`, `LastSteps`, `Completeness`, `GoesOn`, `Claims`, `Restarts`. Examples
+//! `Broken`, `Turn`, `Named`. What else holds: `Isolation`, `Receipts`, `LastSteps`, `Completeness`, `GoesOn`, `Claims`, `Restarts`. Examples
 //! are computed in `proofs/Example*.antt`; of the proofs read `proofs/Whole.antt` first, which puts the headline together.
 #![tactic(auto)]
 
@@ -39,8 +39,8 @@ ghost use Rattle.sg_protocol.specs.LastSteps.{FramesShowLastSteps};
 ghost use Rattle.sg_protocol.specs.Completeness.{DeliveryIsComplete};
 ghost use Rattle.sg_protocol.specs.GoesOn.{SessionsGoOn};
 ghost use Rattle.sg_protocol.specs.Turn.{TurnIsOfSession};
-ghost use Rattle.sg_protocol.specs.Restarts.{RestartsAbandon, NoRestartsNoChange, LivesJoinOnce, ToldJoinOnce, RestartsAreAbandonments, HeadlineOverRestarts, ReceiptsHaveSendsOverRestarts, SessionsHaveOneCastOverRestarts, NoneTakesTwoRolesOverRestarts, FramesShowLastStepsOverRestarts};
-ghost use Rattle.sg_protocol.specs.Told.{StepsAreNamed};
+ghost use Rattle.sg_protocol.specs.Restarts.{RestartsAbandon, NoRestartsNoChange, LivesJoinOnce, ReportedJoinOnce, RestartsAreAbandonments, HeadlineOverRestarts, ReceiptsHaveSendsOverRestarts, SessionsHaveOneCastOverRestarts, NoneTakesTwoRolesOverRestarts, FramesShowLastStepsOverRestarts};
+ghost use Rattle.sg_protocol.specs.Named.{StepsAreNamed};
 ghost use Rattle.sg_protocol.specs.Claims.{ClaimsAreKept, EventsStandOnce};
 
 /// What is read from the spelling of a frame is this frame, so no two frames have one spelling.
@@ -323,7 +323,7 @@ pub fn restarts_abandon()
 /// its lives were cut off, what it printed of them has no two joins of one pair.
 pub fn lives_join_once()
     ensures whole { (sha : List ℕ → List ℕ) → LivesJoinOnce sha }
-    ensures told { (sha : List ℕ → List ℕ) → ToldJoinOnce sha }
+    ensures reported { (sha : List ℕ → List ℕ) → ReportedJoinOnce sha }
 {}
 
 /// The headline over restarts: if the assumptions hold of a run with restarts, each session follows one walk, and,

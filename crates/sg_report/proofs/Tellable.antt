@@ -2,7 +2,7 @@
 use Rattle.std.proofs.Common.{◌≡◌, ℕ, ◌<◌, true, false, Option, true≢false}
 use Rattle.sg_protocol.specs.Calls.{Answer, Happened, Sends, NotActed, NotDelivered, ActFault, SendFault, Refusal}
 use Rattle.sg_protocol.specs.Graph.{Graph}
-use Rattle.sg_protocol.specs.Told.{names_numbers}
+use Rattle.sg_protocol.specs.Named.{names_numbers}
 use Rattle.sg_report.specs.Reported.{CanBeReported, reported_answer}
 
 -- an answer that names no number has its names in any graph, or in none

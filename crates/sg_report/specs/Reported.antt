@@ -5,7 +5,7 @@ use Rattle.sg_protocol.specs.Calls as Protocol
 use Rattle.sg_protocol.specs.Calls.{Event, Call, Abandon, sid_of}
 use Rattle.sg_protocol.specs.Graph.{Graph}
 use Rattle.sg_protocol.specs.Steps.{frame_number}
-use Rattle.sg_protocol.specs.Told.{HasEvent}
+use Rattle.sg_protocol.specs.Named.{HasEvent}
 use Rattle.sg_protocol.specs.World as Core
 use Rattle.sg_protocol.specs.World.{Logged}
 

@@ -2,7 +2,7 @@
 ghost use Rattle.std.specs.Prelude.{◌≡◌, ◌++◌, IfOk, IfSome, IsSomeAnd, OnErr, OnOk, codes, length, take};
 ghost use Rattle.std.specs.Option.{option_copied};
 ghost use Rattle.sg_text.specs.Events.{event_text, event_values, sent_to};
-ghost use Rattle.sg_protocol.specs.Told.{HasEvent};
+ghost use Rattle.sg_protocol.specs.Named.{HasEvent};
 ghost use Rattle.sg_walk.specs.Model.{event_of};
 ghost use Rattle.sg_report.specs.Lines.{by_whom, graph_or_none, line_text, reported_text};
 ghost use Rattle.sg_report.specs.Outcome.{outcome_of};

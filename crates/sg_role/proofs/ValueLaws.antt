@@ -12,7 +12,7 @@ use Rattle.sg_protocol.specs.Calls.{SendFault}
 use Rattle.sg_protocol.specs.Graph.{Graph, writes, AreNumbers}
 use Rattle.sg_protocol.specs.Keyring.{Program}
 use Rattle.sg_protocol.specs.Representation.{Held}
-use Rattle.sg_protocol.proofs.Told.{out_of_order_in, untyped_in}
+use Rattle.sg_protocol.proofs.Named.{out_of_order_in, untyped_in}
 use Rattle.sg_role.specs.Stepping.{first_bad}
 
 -- ---- the first of the numbers

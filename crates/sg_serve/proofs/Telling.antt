@@ -19,7 +19,7 @@ use Rattle.sg_protocol.specs.Keyring.{Keyring}
 use Rattle.sg_protocol.specs.Past.{node_of}
 use Rattle.sg_protocol.specs.Spelling.{spelling}
 use Rattle.sg_protocol.specs.Texts.{real}
-use Rattle.sg_protocol.specs.Told.{graph_of_call}
+use Rattle.sg_protocol.specs.Named.{graph_of_call}
 use Rattle.sg_report.specs.Reported as Report
 use Rattle.sg_report.specs.Reported.{Reported, session_reported, sid_left, reported_answer}
 use Rattle.sg_serve.specs.declared.server.Server.{Server}

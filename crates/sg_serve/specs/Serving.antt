@@ -17,7 +17,7 @@ use Rattle.sg_protocol.specs.Calls.{Call, Start, Act, Abandon, Deliver}
 use Rattle.sg_protocol.specs.Graph.{Graph}
 use Rattle.sg_protocol.specs.Past.{node_of}
 use Rattle.sg_protocol.specs.Texts.{real}
-use Rattle.sg_protocol.specs.Told.{graph_of_call, live_with}
+use Rattle.sg_protocol.specs.Named.{graph_of_call, live_with}
 use Rattle.sg_protocol.specs.Turn.{turn_of}
 use Rattle.sg_sched_text.specs.Adding.{known_values, is_twice}
 use Rattle.sg_report.specs.Lines.{graph_or_none}

@@ -6,7 +6,7 @@ use Rattle.std.proofs.lemmas.List.Elements.{All-from_recursion}
 use Rattle.sg_model.specs.Lists.{keys_of}
 use Rattle.sg_base.specs.declared.value.Value.{Value}
 use Rattle.sg_protocol.specs.Graph.{Graph}
-use Rattle.sg_protocol.specs.Told.{HasEvent}
+use Rattle.sg_protocol.specs.Named.{HasEvent}
 use Rattle.sg_walk.specs.Model.{event_of, step_of, values_of, writes_of}
 use Rattle.sg_walk.specs.declared.event.Event.{Event}
 use Rattle.sg_walk.specs.declared.event.Event.TheVariants.{Sent, Received}

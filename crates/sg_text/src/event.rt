@@ -1,7 +1,7 @@
 //! Events.
 ghost use Rattle.std.specs.Prelude.{◌≡◌, ◌<◌, ◌++◌, OnErr, OnOk, codes, length, take};
 ghost use Rattle.std.specs.Fmt.{decimal};
-ghost use Rattle.sg_protocol.specs.Told.{HasEvent};
+ghost use Rattle.sg_protocol.specs.Named.{HasEvent};
 ghost use Rattle.sg_walk.specs.Model.{event_of};
 ghost use Rattle.sg_text.specs.Events.{event_text, event_values, moved_text, sent_to};
 

@@ -24,7 +24,7 @@ use Rattle.sg_protocol.specs.Run.{frame_in}
 use Rattle.sg_protocol.specs.Schedule.{NamedSession, Schedule, StartStep, ActStep, sid_at, confounder}
 use Rattle.sg_protocol.specs.Spelling.{spelling, u64}
 use Rattle.sg_protocol.specs.Texts.{real, session_id}
-use Rattle.sg_protocol.specs.Told.{graph_of_call}
+use Rattle.sg_protocol.specs.Named.{graph_of_call}
 use Rattle.sg_protocol.specs.World.{World, call_of}
 use Rattle.sg_walk.specs.Model.{values_of}
 use Rattle.sg_role.specs.Sending.{with_notes}

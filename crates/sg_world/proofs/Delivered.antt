@@ -12,7 +12,7 @@ use Rattle.sg_protocol.specs.Reading.{read}
 use Rattle.sg_protocol.specs.Schedule as Core
 use Rattle.sg_protocol.specs.Session.{Session}
 use Rattle.sg_protocol.specs.Texts.{real}
-use Rattle.sg_protocol.specs.Told.{graph_of_call}
+use Rattle.sg_protocol.specs.Named.{graph_of_call}
 use Rattle.sg_protocol.specs.World.{World, bytes_of, frame_at}
 use Rattle.sg_sched.specs.Format.StepsHeld.{changed}
 use Rattle.sg_sched.specs.declared.step.Change.{Change}

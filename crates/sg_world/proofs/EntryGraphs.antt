@@ -15,7 +15,7 @@ use Rattle.sg_protocol.specs.Run.{run}
 use Rattle.sg_protocol.specs.Schedule.{Schedule, Step}
 use Rattle.sg_protocol.specs.Steps.{with_step}
 use Rattle.sg_protocol.specs.Texts.{real}
-use Rattle.sg_protocol.specs.Told.{graph_of_call}
+use Rattle.sg_protocol.specs.Named.{graph_of_call}
 use Rattle.sg_protocol.specs.World.{Logged, World, past_of}
 use Rattle.sg_world.specs.Entries.{graph_of_entry}
 

@@ -11,7 +11,7 @@ use Rattle.sg_law.proofs.Upto.{In, in_from_Contains}
 use Rattle.sg_model.specs.Lists.{is_in, keys_of, first_some}
 use Rattle.sg_model.specs.Names.{Name}
 use Rattle.sg_protocol.proofs.RealHash.{real_hash}
-use Rattle.sg_protocol.proofs.ToldRuns.{entries_are_answered, entries_are_named}
+use Rattle.sg_protocol.proofs.NamedRuns.{entries_are_answered, entries_are_named}
 use Rattle.sg_protocol.specs.Acting.{answer, started, rows_of_start}
 use Rattle.sg_protocol.specs.Calls.{Answer, Happened, Sends, NotActed, NotDelivered, NotStarted, Call, Start, Act, Abandon, Deliver, ActFault, SendFault, StartFault, Refusal}
 use Rattle.sg_protocol.specs.Beginnings.{first_steps}
@@ -27,7 +27,7 @@ use Rattle.sg_protocol.specs.Schedule.{Step, StartStep, ActStep, AbandonStep, De
 use Rattle.sg_protocol.specs.Session.{Session}
 use Rattle.sg_protocol.specs.Steps.{is_taken, frame_number}
 use Rattle.sg_protocol.specs.Texts.{real, session_id}
-use Rattle.sg_protocol.specs.Told.{HasNamed, names_numbers, IsAnswered, IsNamed, graph_of_call}
+use Rattle.sg_protocol.specs.Named.{HasNamed, names_numbers, IsAnswered, IsNamed, graph_of_call}
 use Rattle.sg_protocol.specs.Verdict.{verdict_on, decided, receipt, rows}
 use Rattle.sg_protocol.specs.World.{World, Logged, Outcome, Answered, bytes_of, call_of, past_of}
 use Rattle.sg_report.proofs.Tellable.{reported-without_numbers}

@@ -7,7 +7,7 @@ use Rattle.sg_protocol.specs.Past.{Past, node_of}
 use Rattle.sg_protocol.specs.Run.{run}
 use Rattle.sg_protocol.specs.Schedule.{Schedule}
 use Rattle.sg_protocol.specs.Texts.{real}
-use Rattle.sg_protocol.specs.Told.{graph_of_call}
+use Rattle.sg_protocol.specs.Named.{graph_of_call}
 use Rattle.sg_protocol.specs.World.{Logged, past_of}
 
 -- the past of the entry's principal before the step

@@ -14,7 +14,7 @@ use Rattle.sg_protocol.specs.Ranges.{IsCallInRange}
 use Rattle.sg_protocol.specs.Run.{frame_in}
 use Rattle.sg_protocol.specs.Schedule.{NamedSession, Schedule, Step, StartStep, ActStep, AbandonStep, DeliverStep, CraftStep}
 use Rattle.sg_protocol.specs.Texts.{real}
-use Rattle.sg_protocol.specs.Told.{graph_of_call}
+use Rattle.sg_protocol.specs.Named.{graph_of_call}
 use Rattle.sg_protocol.specs.World.{World, frames, call_of, flipped}
 use Rattle.sg_sched.specs.declared.step.Change.{Change}
 use Rattle.sg_sched.specs.declared.step.Change.TheVariants.{Whole, Flip, Cut}

@@ -1,5 +1,5 @@
 use Rattle.std.proofs.Common.{◌∙◌}
-use Rattle.sg_protocol.specs.Told.{live_with}
+use Rattle.sg_protocol.specs.Named.{live_with}
 use Rattle.sg_protocol.specs.Past.{node_of}
 use Rattle.sg_serve.proofs.Saying.{some_same}
 use Rattle.sg_serve.proofs.server.Server.is_live.Goals as goal

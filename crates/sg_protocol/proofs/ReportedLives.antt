@@ -9,14 +9,14 @@ use Rattle.sg_protocol.specs.Texts.{Hash}
 use Rattle.sg_protocol.specs.Calls.{Event, sid_of, role_of, does_join, events_of_answer}
 use Rattle.sg_protocol.specs.Node.{has_joined}
 use Rattle.sg_protocol.specs.Past.{AnsweredCall, Past, joins_once, pairs_differ}
-use Rattle.sg_protocol.specs.Restarts.{events_of_lives, told_in_lives, joined_by, ToldJoinOnce}
+use Rattle.sg_protocol.specs.Restarts.{events_of_lives, reported_in_lives, joined_by, ReportedJoinOnce}
 use Rattle.sg_protocol.proofs.Finding.{joined_more, joined_now}
 use Rattle.sg_protocol.proofs.Lives.{lives_join_once}
 
 -- the first events are some of the others, in their order
 abbrev IsPart : List Event → List Event → Type 0
-IsPart told [] = told ≡ []
-IsPart told (e ∷ es) = IsPart told es ⊎ ((rest : List Event) × (told ≡ e ∷ rest) × IsPart rest es)
+IsPart reported [] = reported ≡ []
+IsPart reported (e ∷ es) = IsPart reported es ⊎ ((rest : List Event) × (reported ≡ e ∷ rest) × IsPart rest es)
 
 abbrev evs : List AnsweredCall → List Event
 evs cs = flat_map (λ (c : AnsweredCall). events_of_answer c.answer) cs
@@ -39,9 +39,9 @@ part_take zero cs = part_none (evs cs)
 part_take (suc n) [] = refl
 part_take (suc n) (c ∷ cs) = part_both (events_of_answer c.answer) (events_of_answer c.answer) (evs (take n cs)) (evs cs) (part_refl (events_of_answer c.answer)) (part_take n cs)
 
-told_part : (ls : List (ℕ × Past)) → IsPart (told_in_lives ls) (events_of_lives (map (λ (l : ℕ × Past). l.1) ls))
-told_part [] = refl
-told_part (l ∷ ls) = part_both (evs (take l.0 (l.1).calls)) (evs (l.1).calls) (told_in_lives ls) (events_of_lives (map (λ (l : ℕ × Past). l.1) ls)) (part_take l.0 (l.1).calls) (told_part ls)
+reported_part : (ls : List (ℕ × Past)) → IsPart (reported_in_lives ls) (events_of_lives (map (λ (l : ℕ × Past). l.1) ls))
+reported_part [] = refl
+reported_part (l ∷ ls) = part_both (evs (take l.0 (l.1).calls)) (evs (l.1).calls) (reported_in_lives ls) (events_of_lives (map (λ (l : ℕ × Past). l.1) ls)) (part_take l.0 (l.1).calls) (reported_part ls)
 
 -- ---- none of these pairs was joined
 
@@ -67,12 +67,12 @@ not_among js sid r (k ∷ ks) a = elim (cases_Bool (bytes_eq k.0 sid && (k.1 == 
 ]
 
 abbrev Differ : List (List ℕ × ℕ) → List Event → Type 0
-Differ js told = (pairs_differ (joined_by told) ≡ true) × AllByRecursion (Absent js) (joined_by told)
+Differ js reported = (pairs_differ (joined_by reported) ≡ true) × AllByRecursion (Absent js) (joined_by reported)
 
 -- one more event that was printed
-one_told : (js : List (List ℕ × ℕ)) (e : Event) (rest es : List Event) → (b : Bool) → does_join e ≡ b → joins_once js (e ∷ es) ≡ true
+one_reported : (js : List (List ℕ × ℕ)) (e : Event) (rest es : List Event) → (b : Bool) → does_join e ≡ b → joins_once js (e ∷ es) ≡ true
     → ((ks : List (List ℕ × ℕ)) → joins_once ks es ≡ true → Differ ks rest) → Differ js (e ∷ rest)
-one_told js e rest es true j h f =
+one_reported js e rest es true j h f =
     let here : (not (has_joined js (sid_of e) (role_of e)) && joins_once (js ++ (sid_of e, role_of e) ∷ []) es) ≡ true = (rw j at h) in
     let both = and_parts (not (has_joined js (sid_of e) (role_of e))) (joins_once (js ++ (sid_of e, role_of e) ∷ []) es) here in
     let r : Differ (js ++ (sid_of e, role_of e) ∷ []) rest = f (js ++ (sid_of e, role_of e) ∷ []) both.1 in
@@ -80,28 +80,28 @@ one_told js e rest es true j h f =
       and_from (not (has_joined (joined_by rest) (sid_of e) (role_of e))) (pairs_differ (joined_by rest)) (ap not (not_among js (sid_of e) (role_of e) (joined_by rest) r.1)) r.0,
       (not-true (has_joined js (sid_of e) (role_of e)) both.0, all_fewer js (sid_of e, role_of e) (joined_by rest) r.1),
     )
-one_told js e rest es false j h f =
+one_reported js e rest es false j h f =
     let here : (has_joined js (sid_of e) (role_of e) && joins_once js es) ≡ true = (rw j at h) in
     let r : Differ js rest = f js (and_parts (has_joined js (sid_of e) (role_of e)) (joins_once js es) here).1 in
     subst (λ l. (pairs_differ l ≡ true) × AllByRecursion (Absent js) l) (sym (let z : joined_by (e ∷ rest) ≡ joined_by rest = rw j refl in z)) r
 
 -- one more event that was not printed
-one_untold : (js : List (List ℕ × ℕ)) (e : Event) (told es : List Event) → (b : Bool) → does_join e ≡ b → joins_once js (e ∷ es) ≡ true
-    → ((ks : List (List ℕ × ℕ)) → joins_once ks es ≡ true → Differ ks told) → Differ js told
-one_untold js e told es true j h f =
+one_unreported : (js : List (List ℕ × ℕ)) (e : Event) (reported es : List Event) → (b : Bool) → does_join e ≡ b → joins_once js (e ∷ es) ≡ true
+    → ((ks : List (List ℕ × ℕ)) → joins_once ks es ≡ true → Differ ks reported) → Differ js reported
+one_unreported js e reported es true j h f =
     let here : (not (has_joined js (sid_of e) (role_of e)) && joins_once (js ++ (sid_of e, role_of e) ∷ []) es) ≡ true = (rw j at h) in
-    let r : Differ (js ++ (sid_of e, role_of e) ∷ []) told = f (js ++ (sid_of e, role_of e) ∷ []) (and_parts (not (has_joined js (sid_of e) (role_of e))) (joins_once (js ++ (sid_of e, role_of e) ∷ []) es) here).1 in
-    (r.0, all_fewer js (sid_of e, role_of e) (joined_by told) r.1)
-one_untold js e told es false j h f =
+    let r : Differ (js ++ (sid_of e, role_of e) ∷ []) reported = f (js ++ (sid_of e, role_of e) ∷ []) (and_parts (not (has_joined js (sid_of e) (role_of e))) (joins_once (js ++ (sid_of e, role_of e) ∷ []) es) here).1 in
+    (r.0, all_fewer js (sid_of e, role_of e) (joined_by reported) r.1)
+one_unreported js e reported es false j h f =
     let here : (has_joined js (sid_of e) (role_of e) && joins_once js es) ≡ true = (rw j at h) in
     f js (and_parts (has_joined js (sid_of e) (role_of e)) (joins_once js es) here).1
 
-part_differ : (es told : List Event) → IsPart told es → (js : List (List ℕ × ℕ)) → joins_once js es ≡ true → Differ js told
-part_differ [] told e js h = subst (Differ js) (sym e) (refl, tt)
-part_differ (e ∷ es) told (inl p) js h = one_untold js e told es (does_join e) refl h (part_differ es told p)
-part_differ (e ∷ es) told (inr p) js h = subst (Differ js) (sym p.1) (one_told js e p.0 es (does_join e) refl h (part_differ es p.0 p.2))
+part_differ : (es reported : List Event) → IsPart reported es → (js : List (List ℕ × ℕ)) → joins_once js es ≡ true → Differ js reported
+part_differ [] reported e js h = subst (Differ js) (sym e) (refl, tt)
+part_differ (e ∷ es) reported (inl p) js h = one_unreported js e reported es (does_join e) refl h (part_differ es reported p)
+part_differ (e ∷ es) reported (inr p) js h = subst (Differ js) (sym p.1) (one_reported js e p.0 es (does_join e) refl h (part_differ es p.0 p.2))
 
-pub told_join_once : (sha : Hash) → ToldJoinOnce sha
-told_join_once sha first ls a =
-    let d : Differ first (told_in_lives ls) = part_differ (events_of_lives (map (λ (l : ℕ × Past). l.1) ls)) (told_in_lives ls) (told_part ls) first (lives_join_once sha first (map (λ (l : ℕ × Past). l.1) ls) a) in
-    (d.0, All-from_recursion (Absent first) (joined_by (told_in_lives ls)) d.1)
+pub reported_join_once : (sha : Hash) → ReportedJoinOnce sha
+reported_join_once sha first ls a =
+    let d : Differ first (reported_in_lives ls) = part_differ (events_of_lives (map (λ (l : ℕ × Past). l.1) ls)) (reported_in_lives ls) (reported_part ls) first (lives_join_once sha first (map (λ (l : ℕ × Past). l.1) ls) a) in
+    (d.0, All-from_recursion (Absent first) (joined_by (reported_in_lives ls)) d.1)

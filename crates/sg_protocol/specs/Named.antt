@@ -124,5 +124,5 @@ EntriesHaveOneGraph sha = (programs : List Program) (s : Schedule) → AreCompil
 pub record StepsAreNamed (sha : Hash) : Type 0 where
   pub at_nodes : AnswersAreNamed sha
   pub answered : EntriesAreAnswered sha
-  pub told : EntriesAreNamed sha
+  pub entries : EntriesAreNamed sha
   pub one_graph : EntriesHaveOneGraph sha

@@ -31,7 +31,7 @@ use Rattle.sg_protocol.specs.Notes.{notes, notes_of_start, notes_of_read, hashed
 use Rattle.sg_protocol.specs.Past.{is_frame_of}
 use Rattle.sg_protocol.specs.Run.{cast_in}
 use Rattle.sg_protocol.specs.IsSchedule.{IsProgram}
-use Rattle.sg_protocol.specs.Told.{IsNamed, AnswersAreNamed, GivesVariables, HasNamed, names_numbers}
+use Rattle.sg_protocol.specs.Named.{IsNamed, AnswersAreNamed, GivesVariables, HasNamed, names_numbers}
 use Rattle.sg_protocol.proofs.Acts as C
 use Rattle.sg_protocol.proofs.Bridge.{has_view-Contains}
 use Rattle.sg_protocol.proofs.Entries.{view_last_edge}
@@ -164,8 +164,8 @@ module _ (sha : Hash) (n : Node) (programs : AllByRecursion (IsProgram sha) n.pr
   abbrev pub IsFrom : Call → Session → Type 0
   IsFrom c x = In n.live x ⊎ ((cast_in c ≡ Some x.cast) × (session_id sha x.cast ≡ x.sid) × In (notes sha n c).hashed (session_text_of x.cast))
 
-  pub record TellsFrom (c : Call) (a : Answer) : Type 0 where
-    pub told : IsNamed sha n c a
+  pub record NamesFrom (c : Call) (a : Answer) : Type 0 where
+    pub is_named : IsNamed sha n c a
     pub there : In n.programs told.program
     pub is_from : IsFrom c told.session
 
@@ -187,17 +187,17 @@ module _ (sha : Hash) (n : Node) (programs : AllByRecursion (IsProgram sha) n.pr
 
   -- ---- a start
 
-  start_told : (c : Cast) (a : Answer) → answer sha n (Start c) ≡ a → names_numbers a ≡ true → TellsFrom (Start c) a
-  start_told c a full h = by_program (starter n.programs c.graph) refl full
+  start_named : (c : Cast) (a : Answer) → answer sha n (Start c) ≡ a → names_numbers a ≡ true → NamesFrom (Start c) a
+  start_named c a full h = by_program (starter n.programs c.graph) refl full
     where
-      by_rows : (p : Program) → starter n.programs c.graph ≡ Some p → (o : Option StartFault) → started (session_id sha c) p.role o ≡ a → TellsFrom (Start c) a
+      by_rows : (p : Program) → starter n.programs c.graph ≡ Some p → (o : Option StartFault) → started (session_id sha c) p.role o ≡ a → NamesFrom (Start c) a
       by_rows p q (Some f) e = absurd (let z : false ≡ true = ap names_numbers e ∙ h in cc)
       by_rows p q None e =
           let st : Program → Bool = λ (p : Program). bytes_eq p.digest c.graph && (p.role == role_at (shape p.graph) 0) in
           let ip : IsProgram sha p = find_all st (IsProgram sha) n.programs p programs q in
           let d : bytes_eq p.digest c.graph ≡ true = (and_parts (bytes_eq p.digest c.graph) (p.role == role_at (shape p.graph) 0) (find_passes st n.programs p q)).0 in
-          subst (TellsFrom (Start c)) e record {
-            told = record {
+          subst (NamesFrom (Start c)) e record {
+            is_named = record {
               program = p;
               session = new_session (session_id sha c) c p.role;
               is_session = ap (option_map (λ (p : Program). (p, new_session (session_id sha c) c p.role))) q;
@@ -211,7 +211,7 @@ module _ (sha : Hash) (n : Node) (programs : AllByRecursion (IsProgram sha) n.pr
             is_from = inr (refl, refl, subst (λ z. In (notes_of_start c z).hashed (session_text_of c)) (sym (full ∙ sym e)) (inl refl));
           }
 
-      by_program : (o : Option Program) → starter n.programs c.graph ≡ o → option_map_or (λ (p : Program). started (session_id sha c) p.role (first_some (rows_of_start n p (session_id sha c) c))) o (NotStarted StartFault.UnknownGraph) ≡ a → TellsFrom (Start c) a
+      by_program : (o : Option Program) → starter n.programs c.graph ≡ o → option_map_or (λ (p : Program). started (session_id sha c) p.role (first_some (rows_of_start n p (session_id sha c) c))) o (NotStarted StartFault.UnknownGraph) ≡ a → NamesFrom (Start c) a
       by_program None q e = absurd (let z : false ≡ true = ap names_numbers e ∙ h in cc)
       by_program (Some p) q e = by_rows p q (first_some (rows_of_start n p (session_id sha c) c)) e
 
@@ -226,14 +226,14 @@ module _ (sha : Hash) (n : Node) (programs : AllByRecursion (IsProgram sha) n.pr
   bad_found None false v e = absurd (let z : None ≡ Some (Send (BadValues v)) = e in cc)
   bad_found (Some w) b v e = (let z : Some (Send (BadValues w)) ≡ Some (Send (BadValues v)) = e in let s : w ≡ v = cc in ap (λ y. Some y) s)
 
-  act_told : (sid0 : List ℕ) (label : ℕ) (values : Map Value) (confs : List (List ℕ)) → AllByRecursion (λ k. k < 256) (keys_of values) → (a : Answer) → answer sha n (Act sid0 label values confs) ≡ a → names_numbers a ≡ true → TellsFrom (Act sid0 label values confs) a
-  act_told sid0 label values confs good a full h = by_session (session_with n.live sid0) refl full
+  act_named : (sid0 : List ℕ) (label : ℕ) (values : Map Value) (confs : List (List ℕ)) → AllByRecursion (λ k. k < 256) (keys_of values) → (a : Answer) → answer sha n (Act sid0 label values confs) ≡ a → names_numbers a ≡ true → NamesFrom (Act sid0 label values confs) a
+  act_named sid0 label values confs good a full h = by_session (session_with n.live sid0) refl full
     where
-      told_by : (x : Session) → session_with n.live sid0 ≡ Some x → (p : Program) → program_for n.programs x.cast.graph x.role ≡ Some p → (a : Answer) → HasNamed p.graph (Act sid0 label values confs) a → ((v : Event) → Contains (events_of_answer a) v → (sid_of v ≡ x.sid) × (role_of v ≡ x.role)) → TellsFrom (Act sid0 label values confs) a
-      told_by x q p q2 a named event =
+      named_by : (x : Session) → session_with n.live sid0 ≡ Some x → (p : Program) → program_for n.programs x.cast.graph x.role ≡ Some p → (a : Answer) → HasNamed p.graph (Act sid0 label values confs) a → ((v : Event) → Contains (events_of_answer a) v → (sid_of v ≡ x.sid) × (role_of v ≡ x.role)) → NamesFrom (Act sid0 label values confs) a
+      named_by x q p q2 a named event =
           let w : IsFor x.cast.graph x.role p = program_is x.cast.graph x.role p q2 in
           record {
-            told = record {
+            is_named = record {
               program = p;
               session = x;
               is_session = ap (option_and_then (λ (s : Session). option_map (λ (p : Program). (p, s)) (program_for n.programs s.cast.graph s.role))) q ∙ ap (option_map (λ (p : Program). (p, x))) q2;
@@ -247,15 +247,15 @@ module _ (sha : Hash) (n : Node) (programs : AllByRecursion (IsProgram sha) n.pr
             is_from = inl (found_in (λ (z : Session). bytes_eq z.sid sid0) n.live x q);
           }
 
-      by_rows : (x : Session) → session_with n.live sid0 ≡ Some x → (p : Program) → program_for n.programs x.cast.graph x.role ≡ Some p → (o : Option ActFault) → first_some (rows_of_act p x label values) ≡ o → acted (sent sha n.keys p x label values confs) o ≡ a → TellsFrom (Act sid0 label values confs) a
+      by_rows : (x : Session) → session_with n.live sid0 ≡ Some x → (p : Program) → program_for n.programs x.cast.graph x.role ≡ Some p → (o : Option ActFault) → first_some (rows_of_act p x label values) ≡ o → acted (sent sha n.keys p x label values confs) o ≡ a → NamesFrom (Act sid0 label values confs) a
       by_rows x q p q2 None q3 e =
           let w : IsFor x.cast.graph x.role p = program_is x.cast.graph x.role p q2 in
           let ip : IsProgram sha p = w.is_program in
           let rs : C.ActRows p.graph x label values = C.act_rows p x label values q3 in
           let r : x.role < length p.graph.roles = subst (λ z. z < length p.graph.roles) (sym w.role_is) ip.role in
           let ks : AllByRecursion (λ y. y < length p.graph.variables) (keys_of values) = subst (AllByRecursion (λ y. y < length p.graph.variables)) (sym (keys_are p.graph ip.is_graph label values good rs.good)) (writes_below p.graph ip.is_graph label) in
-          subst (TellsFrom (Act sid0 label values confs)) e
-          (told_by x q p q2 (sent sha n.keys p x label values confs) (r, C.lt_of label (length p.graph.edges) rs.edge, ks) (λ v i. let s = one_event (Sent x.sid x.role label (time x + 1) values) v i in (ap sid_of s, ap role_of s)))
+          subst (NamesFrom (Act sid0 label values confs)) e
+          (named_by x q p q2 (sent sha n.keys p x label values confs) (r, C.lt_of label (length p.graph.edges) rs.edge, ks) (λ v i. let s = one_event (Sent x.sid x.role label (time x + 1) values) v i in (ap sid_of s, ap role_of s)))
       by_rows x q p q2 (Some (Send (BadValues v))) q3 e =
           let ip : IsProgram sha p = (program_is x.cast.graph x.role p q2).is_program in
           let spent : Bool = nat_le 1000000 (time x) in
@@ -264,25 +264,25 @@ module _ (sha : Hash) (n : Node) (programs : AllByRecursion (IsProgram sha) n.pr
           let one = past_row (not (at_turn p.graph x)) ActFault.NotYourTurn (Send (BadValues v)) (option_map Send (row (not (leaves p.graph x label)) SendFault.NoSuchLabel) ∷ rest) (λ e. cc) q3 in
           let two : first_some rest ≡ Some (Send (BadValues v)) = past_label (not (leaves p.graph x label)) v rest one.1 in
           let three : bad ≡ Some v = bad_found bad spent v two in
-          subst (TellsFrom (Act sid0 label values confs)) e
-          (told_by x q p q2 (NotActed (Send (BadValues v))) (bad_named p.graph label values v (writes_below p.graph ip.is_graph label) (find_passes (is_bad p.graph label values) (below 256) v three)) (λ v i. absurd (in_from_Contains [] v i)))
+          subst (NamesFrom (Act sid0 label values confs)) e
+          (named_by x q p q2 (NotActed (Send (BadValues v))) (bad_named p.graph label values v (writes_below p.graph ip.is_graph label) (find_passes (is_bad p.graph label values) (below 256) v three)) (λ v i. absurd (in_from_Contains [] v i)))
       by_rows x q p q2 (Some (Send SendFault.NoSuchLabel)) q3 e = absurd (let z : false ≡ true = ap names_numbers e ∙ h in cc)
       by_rows x q p q2 (Some (Send SendFault.TimeSpent)) q3 e = absurd (let z : false ≡ true = ap names_numbers e ∙ h in cc)
       by_rows x q p q2 (Some ActFault.UnknownSession) q3 e = absurd (let z : false ≡ true = ap names_numbers e ∙ h in cc)
       by_rows x q p q2 (Some ActFault.NotYourTurn) q3 e = absurd (let z : false ≡ true = ap names_numbers e ∙ h in cc)
 
-      by_program : (x : Session) → session_with n.live sid0 ≡ Some x → (o : Option Program) → program_for n.programs x.cast.graph x.role ≡ o → option_map_or (λ p. acted (sent sha n.keys p x label values confs) (first_some (rows_of_act p x label values))) o (NotActed ActFault.UnknownSession) ≡ a → TellsFrom (Act sid0 label values confs) a
+      by_program : (x : Session) → session_with n.live sid0 ≡ Some x → (o : Option Program) → program_for n.programs x.cast.graph x.role ≡ o → option_map_or (λ p. acted (sent sha n.keys p x label values confs) (first_some (rows_of_act p x label values))) o (NotActed ActFault.UnknownSession) ≡ a → NamesFrom (Act sid0 label values confs) a
       by_program x q None q2 e = absurd (let z : false ≡ true = ap names_numbers e ∙ h in cc)
       by_program x q (Some p) q2 e = by_rows x q p q2 (first_some (rows_of_act p x label values)) refl e
 
-      by_session : (o : Option Session) → session_with n.live sid0 ≡ o → option_map_or (λ x. option_map_or (λ p. acted (sent sha n.keys p x label values confs) (first_some (rows_of_act p x label values))) (program_for n.programs x.cast.graph x.role) (NotActed ActFault.UnknownSession)) o (NotActed ActFault.UnknownSession) ≡ a → TellsFrom (Act sid0 label values confs) a
+      by_session : (o : Option Session) → session_with n.live sid0 ≡ o → option_map_or (λ x. option_map_or (λ p. acted (sent sha n.keys p x label values confs) (first_some (rows_of_act p x label values))) (program_for n.programs x.cast.graph x.role) (NotActed ActFault.UnknownSession)) o (NotActed ActFault.UnknownSession) ≡ a → NamesFrom (Act sid0 label values confs) a
       by_session None q e = absurd (let z : false ≡ true = ap names_numbers e ∙ h in cc)
       by_session (Some x) q e = by_program x q (program_for n.programs x.cast.graph x.role) refl e
 
-  abandon_told : (sid0 : List ℕ) (a : Answer) → answer sha n (Abandon sid0) ≡ a → names_numbers a ≡ true → TellsFrom (Abandon sid0) a
-  abandon_told sid0 a full h = go (session_with n.live sid0) full
+  abandon_named : (sid0 : List ℕ) (a : Answer) → answer sha n (Abandon sid0) ≡ a → names_numbers a ≡ true → NamesFrom (Abandon sid0) a
+  abandon_named sid0 a full h = go (session_with n.live sid0) full
     where
-      go : (o : Option Session) → option_map_or (λ (x : Session). Abandoned) o NotAbandoned ≡ a → TellsFrom (Abandon sid0) a
+      go : (o : Option Session) → option_map_or (λ (x : Session). Abandoned) o NotAbandoned ≡ a → NamesFrom (Abandon sid0) a
       go None e = absurd (let z : false ≡ true = ap names_numbers e ∙ h in cc)
       go (Some x) e = absurd (let z : false ≡ true = ap names_numbers e ∙ h in cc)
 
@@ -369,12 +369,12 @@ module _ (sha : Hash) (n : Node) (programs : AllByRecursion (IsProgram sha) n.pr
   reads_below p ip None = tt
   reads_below p ip (Some e) = (reads_in (length p.graph.variables) p.graph.edges ip.is_graph.variables e).1
 
-  deliver_told : (bs : List ℕ) (a : Answer) → answer sha n (Deliver bs) ≡ a → names_numbers a ≡ true → TellsFrom (Deliver bs) a
-  deliver_told bs a full h = by_read (read bs) refl full
+  deliver_named : (bs : List ℕ) (a : Answer) → answer sha n (Deliver bs) ≡ a → names_numbers a ≡ true → NamesFrom (Deliver bs) a
+  deliver_named bs a full h = by_read (read bs) refl full
     where
-      told_by : (f : Frame) → read bs ≡ Ok f → (o : Option Refusal) (t : ForFrame bs f o) (a : Answer) → HasNamed t.p.graph (Deliver bs) a → ((v : Event) → Contains (events_of_answer a) v → (sid_of v ≡ t.x.sid) × (role_of v ≡ t.x.role)) → TellsFrom (Deliver bs) a
-      told_by f rd o t a named event = record {
-        told = record {
+      named_by : (f : Frame) → read bs ≡ Ok f → (o : Option Refusal) (t : ForFrame bs f o) (a : Answer) → HasNamed t.p.graph (Deliver bs) a → ((v : Event) → Contains (events_of_answer a) v → (sid_of v ≡ t.x.sid) × (role_of v ≡ t.x.role)) → NamesFrom (Deliver bs) a
+      named_by f rd o t a named event = record {
+        is_named = record {
           program = t.p;
           session = t.x;
           is_session = ap (λ r. option_and_then (session_of_frame n) (result_ok r)) rd ∙ t.found;
@@ -407,28 +407,28 @@ module _ (sha : Hash) (n : Node) (programs : AllByRecursion (IsProgram sha) n.pr
               let lt : i.label < length t.p.graph.edges = view_last_edge t.p.graph t.p.role v ((t.its.is_program.views.each v).0 (has_view-Contains t.p.views v rs.viewed)) f.items i refl q in
               subst (λ o. unwrap_or (option_map (λ (i : Item). i.label) o) 0 < length t.p.graph.edges) (sym q) lt
 
-      by_rows : (f : Frame) → read bs ≡ Ok f → (o : Option Refusal) → first_some (rows sha n f) ≡ o → decided (receipt f) o ≡ a → TellsFrom (Deliver bs) a
+      by_rows : (f : Frame) → read bs ≡ Ok f → (o : Option Refusal) → first_some (rows sha n f) ≡ o → decided (receipt f) o ≡ a → NamesFrom (Deliver bs) a
       by_rows f rd None q e =
           let t : ForFrame bs f None = for_frame bs f rd None refl q in
-          subst (TellsFrom (Deliver bs)) e (told_by f rd None t (Happened (receipt f)) (event_named f t) (λ v i. let s = one_event (receipt f) v i in (ap sid_of s ∙ t.sid, ap role_of s ∙ t.receiver)))
+          subst (NamesFrom (Deliver bs)) e (named_by f rd None t (Happened (receipt f)) (event_named f t) (λ v i. let s = one_event (receipt f) v i in (ap sid_of s ∙ t.sid, ap role_of s ∙ t.receiver)))
       by_rows f rd (Some (Refusal.BadOpening v)) q e =
           let t : ForFrame bs f (Some (Refusal.BadOpening v)) = for_frame bs f rd (Some (Refusal.BadOpening v)) refl q in
           let u : Unopened t.p t.x f v = unopened sha n.keys t.p t.x f v t.looked in
           let vars : map (λ (o : Opening). o.variable) f.openings ≡ option_map_or (reads t.p.graph) (last_label f.items) [] = same_bytes _ _ (and_parts _ (bytes_eq (map (λ (o : Opening). o.variable) f.openings) (option_map_or (reads t.p.graph) (last_label f.items) [])) u.shown).1 in
-          subst (TellsFrom (Deliver bs)) e
-          (told_by f rd (Some (Refusal.BadOpening v)) t (NotDelivered (Refusal.BadOpening v)) (in_all (length t.p.graph.variables) v (map (λ (o : Opening). o.variable) f.openings) (subst (AllByRecursion (λ y. y < length t.p.graph.variables)) (sym vars) (reads_below t.p t.its.is_program (last_label f.items))) u.there)
+          subst (NamesFrom (Deliver bs)) e
+          (named_by f rd (Some (Refusal.BadOpening v)) t (NotDelivered (Refusal.BadOpening v)) (in_all (length t.p.graph.variables) v (map (λ (o : Opening). o.variable) f.openings) (subst (AllByRecursion (λ y. y < length t.p.graph.variables)) (sym vars) (reads_below t.p t.its.is_program (last_label f.items))) u.there)
           (λ v i. absurd (in_from_Contains [] v i)))
       by_rows f rd (Some other) q e = absurd (let z : false ≡ true = ap names_numbers e ∙ h in cc)
 
-      by_read : (r : Result Frame ℕ) → read bs ≡ r → verdict_on sha n r ≡ a → TellsFrom (Deliver bs) a
+      by_read : (r : Result Frame ℕ) → read bs ≡ r → verdict_on sha n r ≡ a → NamesFrom (Deliver bs) a
       by_read (Err at) q e = absurd (let z : false ≡ true = ap names_numbers e ∙ h in cc)
       by_read (Ok f) q e = by_rows f q (first_some (rows sha n f)) refl e
 
-  pub call_told : (c : Call) → GivesVariables c → (a : Answer) → answer sha n c ≡ a → names_numbers a ≡ true → TellsFrom c a
-  call_told (Start c) r a e h = start_told c a e h
-  call_told (Act sid0 label values confs) r a e h = act_told sid0 label values confs r a e h
-  call_told (Abandon sid0) r a e h = abandon_told sid0 a e h
-  call_told (Deliver bs) r a e h = deliver_told bs a e h
+  pub call_named : (c : Call) → GivesVariables c → (a : Answer) → answer sha n c ≡ a → names_numbers a ≡ true → NamesFrom c a
+  call_named (Start c) r a e h = start_named c a e h
+  call_named (Act sid0 label values confs) r a e h = act_named sid0 label values confs r a e h
+  call_named (Abandon sid0) r a e h = abandon_named sid0 a e h
+  call_named (Deliver bs) r a e h = deliver_named bs a e h
 
 pub answers_are_named : (sha : Hash) → AnswersAreNamed sha
-answers_are_named sha n c programs r h = (call_told sha n (recursion_from_All (IsProgram sha) n.programs programs) c r (answer sha n c) refl h).told
+answers_are_named sha n c programs r h = (call_named sha n (recursion_from_All (IsProgram sha) n.programs programs) c r (answer sha n c) refl h).is_named

@@ -32,7 +32,7 @@ use Rattle.sg_protocol.specs.Premises.{hashed, CollisionFree}
 use Rattle.sg_protocol.specs.Beginnings.{first_steps}
 use Rattle.sg_protocol.specs.IsSchedule.{IsProgram, AreCompiled, IsSchedule, IsStep}
 use Rattle.sg_protocol.specs.Headline.{IsOfCast}
-use Rattle.sg_protocol.specs.Told.{IsNamed, GivesVariables, IsAnswered, EntriesAreAnswered, EntriesAreNamed, EntriesHaveOneGraph, IsOfOneGraph, StepsAreNamed, names_numbers}
+use Rattle.sg_protocol.specs.Named.{IsNamed, GivesVariables, IsAnswered, EntriesAreAnswered, EntriesAreNamed, EntriesHaveOneGraph, IsOfOneGraph, StepsAreNamed, names_numbers}
 use Rattle.sg_protocol.proofs.TextLaws as TL
 use Rattle.sg_protocol.proofs.Course.{Suffix, suffix_all, small_values}
 use Rattle.sg_protocol.proofs.Finding.{find_passes}
@@ -44,7 +44,7 @@ use Rattle.sg_protocol.proofs.ReadBack.{read-SpellsFrame}
 use Rattle.sg_protocol.proofs.Roles.{sessions_have_one_cast}
 use Rattle.sg_protocol.proofs.Sendings.{Known, LogsOk, all_logs, new_logs, step_logs, no_entry}
 use Rattle.sg_protocol.proofs.Sent.{FitSession}
-use Rattle.sg_protocol.proofs.Told.{TellsFrom, call_told, answers_are_named}
+use Rattle.sg_protocol.proofs.Named.{NamesFrom, call_named, answers_are_named}
 use Rattle.sg_protocol.proofs.Whole.{FirstCast, find_some, found_in, program_graph, same_name, same_named}
 
 -- ---- the step of an entry
@@ -202,15 +202,15 @@ module _ (sha : Hash) (hash : IsHash sha) (programs : List Program) (s : Schedul
     are_programs : AllByRecursion (IsProgram sha) n.programs
     are_programs = subst (AllByRecursion (IsProgram sha)) (sym programs_are) (recursion_from_All (IsProgram sha) programs compiled.each)
 
-    tells : names_numbers (answer sha n c) ≡ true → TellsFrom sha n are_programs c (answer sha n c)
-    tells h = call_told sha n are_programs c (call_small sha s at (1 + length r.before) r.step c good_step r.one.call) (answer sha n c) refl h
+    named : names_numbers (answer sha n c) ≡ true → NamesFrom sha n are_programs c (answer sha n c)
+    named h = call_named sha n are_programs c (call_small sha s at (1 + length r.before) r.step c good_step r.one.call) (answer sha n c) refl h
 
 pub entries_are_named : (sha : Hash) → IsHash sha → EntriesAreNamed sha
 entries_are_named sha hash programs s compiled sched l c i e a h =
     let r = run_step sha programs s l c i e in
     let same = same_past sha programs s l c r a in
     subst (λ p. IsNamed sha (node_of p) c (answer sha (node_of p) c)) same
-    (tells sha hash programs s compiled sched l c r (subst (λ p. names_numbers (answer sha (node_of p) c) ≡ true) (sym same) h)).told
+    (named sha hash programs s compiled sched l c r (subst (λ p. names_numbers (answer sha (node_of p) c) ≡ true) (sym same) h)).is_named
 
 -- ---- one cast and one graph
 
@@ -222,8 +222,8 @@ module _ (sha : Hash) (hash : IsHash sha) (programs : List Program) (s : Schedul
   abbrev n' : Node
   n' = node_of r.one.past
 
-  abbrev t : TellsFrom sha n' (are_programs sha hash programs s compiled sched l c r) c (answer sha n' c)
-  t = tells sha hash programs s compiled sched l c r h
+  abbrev t : NamesFrom sha n' (are_programs sha hash programs s compiled sched l c r) c (answer sha n' c)
+  t = named sha hash programs s compiled sched l c r h
 
   -- the session's cast is one whose text was hashed
   record IsNoted (x : Session) : Type 0 where
@@ -286,12 +286,12 @@ module _ (sha : Hash) (hash : IsHash sha) (programs : List Program) (s : Schedul
 
   one_graph : CollisionFree sha (hashed s w) → (u : IsNamed sha n' c (answer sha n' c)) → IsOfOneGraph sha s w n' (answer sha n' c) u.program u.session
   one_graph free u =
-      let two : Some (t.told.program, t.told.session) ≡ Some (u.program, u.session) = sym t.told.is_session ∙ u.is_session in
-      let pair : (t.told.program, t.told.session) ≡ (u.program, u.session) = cc in
-      let xs : t.told.session ≡ u.session = ap (λ (z : Program × Session). z.1) pair in
-      let ps : t.told.program ≡ u.program = ap (λ (z : Program × Session). z.0) pair in
-      let there : In programs u.program = subst (In programs) ps (subst (λ z. In z t.told.program) (programs_are sha hash programs s compiled sched l c r) t.there) in
-      let same : (cast : Cast) → cast_of_session u.session.sid w.log ≡ Some cast → u.session.cast ≡ cast = same_cast free u.session (subst IsNoted xs (noted t.told.session t.is_from)) in
+      let two : Some (t.is_named.program, t.is_named.session) ≡ Some (u.program, u.session) = sym t.is_named.is_session ∙ u.is_session in
+      let pair : (t.is_named.program, t.is_named.session) ≡ (u.program, u.session) = cc in
+      let xs : t.is_named.session ≡ u.session = ap (λ (z : Program × Session). z.1) pair in
+      let ps : t.is_named.program ≡ u.program = ap (λ (z : Program × Session). z.0) pair in
+      let there : In programs u.program = subst (In programs) ps (subst (λ z. In z t.is_named.program) (programs_are sha hash programs s compiled sched l c r) t.there) in
+      let same : (cast : Cast) → cast_of_session u.session.sid w.log ≡ Some cast → u.session.cast ≡ cast = same_cast free u.session (subst IsNoted xs (noted t.is_named.session t.is_from)) in
       record { graph = graph_found free u.program there u.session.cast.graph u.is_graph; cast = same; event = had same; live = λ j. is_live same (in_from_Contains n'.live u.session j) }
     where
       is_live : ((cast : Cast) → cast_of_session u.session.sid w.log ≡ Some cast → u.session.cast ≡ cast) → In n'.live u.session → cast_of_session u.session.sid w.log ≡ Some u.session.cast
@@ -318,4 +318,4 @@ entries_have_one_graph sha hash programs s compiled sched free l c i e a =
     subst (HasOneGraph sha programs s c) (same_past sha programs s l c r a) (λ h u. one_graph sha hash programs s compiled sched l c (in_from_Contains (run sha programs s).log l i) e r h free u)
 
 pub steps_are_named : (sha : Hash) → IsHash sha → StepsAreNamed sha
-steps_are_named sha hash = record { at_nodes = answers_are_named sha; answered = entries_are_answered sha; told = entries_are_named sha hash; one_graph = entries_have_one_graph sha hash }
+steps_are_named sha hash = record { at_nodes = answers_are_named sha; answered = entries_are_answered sha; entries = entries_are_named sha hash; one_graph = entries_have_one_graph sha hash }
