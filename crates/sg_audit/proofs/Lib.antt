@@ -13,7 +13,7 @@ pub mod Orders
 pub mod Fitting
 pub mod OneLine
 pub mod NextLine
-pub mod Telling
+pub mod ReadingLines
 pub mod Blocks
 pub mod Spelled
 pub mod WrittenAssignments

@@ -24,7 +24,7 @@ use Rattle.sg_audit.specs.declared.fault.LogFault.TheVariants.{Form, Unknown, Tw
 use Rattle.sg_audit.proofs.Fitting.{nothing_fine}
 use Rattle.sg_audit.proofs.WrittenLines.{form_is, form_ok}
 use Rattle.sg_audit.proofs.OneLine.{sessions_so_far, same_whole}
-use Rattle.sg_audit.proofs.Telling.{nothing_kept, no_line, wrong_line, Reached, reached, Ends, Well, Few, Formless, Faulty, ends}
+use Rattle.sg_audit.proofs.ReadingLines.{nothing_kept, no_line, wrong_line, Reached, reached, Ends, Well, Few, Formless, Faulty, ends}
 use Rattle.sg_audit.proofs.Blocks.{Begins, BlankAll, Other, Open, Whole, begins, block_read, opened_read, none_read, other_read}
 
 none_some : {A : Type 0} {x : A} → None ≡ Some x → ⊥

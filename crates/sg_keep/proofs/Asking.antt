@@ -21,7 +21,7 @@ use Rattle.sg_play.specs.Played.{Play, all_deliveries, all_starts, beginning, ca
 use Rattle.sg_play.specs.Representation.{HasAsked, KeepsJoins, RepresentsPlay}
 use Rattle.sg_play.specs.Steps.{Step, frames_of}
 use Rattle.sg_play.proofs.Endings.{whole_none}
-use Rattle.sg_play.proofs.Telling.{asked_quiet}
+use Rattle.sg_play.proofs.Reporting.{asked_quiet}
 use Rattle.sg_keep.specs.declared.fault.KeepFault.{KeepFault}
 use Rattle.sg_keep.specs.declared.fault.KeepFault.TheVariants.{Played, DiskFailed}
 use Rattle.sg_keep.specs.declared.keeper.Keeper.{Keeper}
@@ -65,14 +65,14 @@ is_asked k pl may_leave p c reported graph h s is comes stays = record {
 
 -- ---- the join of the outcome
 
-told_join : (n : ℕ) (a : Answer) → join_reported (reported_answer n a) ≡ join_in a
-told_join n (Protocol.Happened e) = refl
-told_join n (Protocol.Sends e to f) = refl
-told_join n Protocol.Abandoned = refl
-told_join n (Protocol.NotStarted x) = refl
-told_join n (Protocol.NotActed x) = refl
-told_join n Protocol.NotAbandoned = refl
-told_join n (Protocol.NotDelivered x) = refl
+reported_join : (n : ℕ) (a : Answer) → join_reported (reported_answer n a) ≡ join_in a
+reported_join n (Protocol.Happened e) = refl
+reported_join n (Protocol.Sends e to f) = refl
+reported_join n Protocol.Abandoned = refl
+reported_join n (Protocol.NotStarted x) = refl
+reported_join n (Protocol.NotActed x) = refl
+reported_join n Protocol.NotAbandoned = refl
+reported_join n (Protocol.NotDelivered x) = refl
 
 module _ (k : Keeper) (may_leave : List ℕ → Type 0) (reported : Option Reported) (h : HasAskedNode k may_leave reported) where
   -- the node's answer
@@ -80,7 +80,7 @@ module _ (k : Keeper) (may_leave : List ℕ → Type 0) (reported : Option Repor
   given = answer real (node_of h.past) h.call
 
   pub join_is : (r : Option Join) → r ≡ option_and_then join_reported reported → r ≡ join_in given
-  join_is r e = e ∙ ap (option_and_then join_reported) h.is_reported ∙ told_join h.number given
+  join_is r e = e ∙ ap (option_and_then join_reported) h.is_reported ∙ reported_join h.number given
 
   -- a pair that joins is new to the ledger
   pub is_new : IfSome (option_and_then join_reported reported) (IsNew k.ledger.joins)

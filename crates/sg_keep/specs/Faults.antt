@@ -12,7 +12,7 @@ pub record Counts : Type 0 where
   pub disk : ℕ
 
 -- no count falls, and a fault of one of them is answered only if its count rose
-pub record TellsFaults {A : Type 0} (old new : Counts) (result : Result A KeepFault) : Type 0 where
+pub record CountsFaults {A : Type 0} (old new : Counts) (result : Result A KeepFault) : Type 0 where
   pub link_falls : old.link ≤ new.link
   pub out_falls : old.out ≤ new.out
   pub disk_falls : old.disk ≤ new.disk

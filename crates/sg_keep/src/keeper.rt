@@ -26,12 +26,12 @@ pub(crate) struct Keeper<'p> {
 }
 
 impl<'p> Keeper<'p> {
-    ghost use Rattle.sg_keep.specs.Faults.{TellsFaults};
+    ghost use Rattle.sg_keep.specs.Faults.{CountsFaults};
     ghost use Rattle.sg_keep.specs.Representation.{Progressed, HasAskedNode, HoldsJoins, IsAsked};
 
     /// Keeps the join of the outcome of a call, if it is one; gives the outside the outcome when the join is kept; and plays the turn that
     /// it gives.
-    pub(crate) fn tell<L: Link, R: Fresh, O: Sink, D: Disk>(
+    pub(crate) fn report<L: Link, R: Fresh, O: Sink, D: Disk>(
         &mut self,
         outcome: &Outcome,
         graph: Option<&Graph>,
@@ -43,7 +43,7 @@ impl<'p> Keeper<'p> {
         requires asked { HasAskedNode self.old (D.may_leave disk.old) (outcome_of outcome.now) }
         ensures link_bound { L.bound link.new ≡ L.bound link.old }
         ensures disk_bound { D.bound disk.new ≡ D.bound disk.old }
-        ensures faults { TellsFaults (record { link = L.faults link.old; out = O.faults out.old; disk = D.faults disk.old })
+        ensures faults { CountsFaults (record { link = L.faults link.old; out = O.faults out.old; disk = D.faults disk.old })
             (record { link = L.faults link.new; out = O.faults out.new; disk = D.faults disk.new }) result }
         ensures deliveries { L.deliveries link.new ≡ L.deliveries link.old }
         ensures holds { OnOk result (HoldsJoins self.new (D.may_leave disk.new)) }

@@ -3,7 +3,7 @@ ghost use Rattle.std.specs.Prelude.{◌≡◌, ◌≤◌, ℕ, List, Some, take,
 ghost use Rattle.sg_play.specs.Ends.{Outside, Whole};
 ghost use Rattle.sg_play.specs.Played.{Play, all_deliveries, all_starts, played, starts, with_turn};
 ghost use Rattle.sg_protocol.specs.Calls.{Deliver};
-ghost use Rattle.sg_keep.specs.Faults.{TellsFaults};
+ghost use Rattle.sg_keep.specs.Faults.{CountsFaults};
 ghost use Rattle.sg_keep.specs.KeptRuns.{AllRepresent, HasKept};
 ghost use Rattle.sg_keep.specs.Representation.{Progressed, HoldsJoins, RepresentsKept};
 
@@ -31,7 +31,7 @@ impl<'p> Keeper<'p> {
         requires holds { HoldsJoins self.old (D.may_leave disk.old) }
         ensures link_bound { L.bound link.new ≡ L.bound link.old }
         ensures disk_bound { D.bound disk.new ≡ D.bound disk.old }
-        ensures faults { TellsFaults (record { link = L.faults link.old; out = O.faults out.old; disk = D.faults disk.old })
+        ensures faults { CountsFaults (record { link = L.faults link.old; out = O.faults out.old; disk = D.faults disk.old })
             (record { link = L.faults link.new; out = O.faults out.new; disk = D.faults disk.new }) result }
         ensures deliveries { L.deliveries link.new ≡ L.deliveries link.old }
         ensures holds { OnOk result (HoldsJoins self.new (D.may_leave disk.new)) }
@@ -60,7 +60,7 @@ impl<'p> Keeper<'p> {
         requires holds { HoldsJoins self.old (D.may_leave disk.old) }
         ensures link_bound { L.bound link.new ≡ L.bound link.old }
         ensures disk_bound { D.bound disk.new ≡ D.bound disk.old }
-        ensures faults { TellsFaults (record { link = L.faults link.old; out = O.faults out.old; disk = D.faults disk.old })
+        ensures faults { CountsFaults (record { link = L.faults link.old; out = O.faults out.old; disk = D.faults disk.old })
             (record { link = L.faults link.new; out = O.faults out.new; disk = D.faults disk.new }) result }
         ensures deliveries { L.deliveries link.new ≡ L.deliveries link.old }
         ensures holds { OnOk result (HoldsJoins self.new (D.may_leave disk.new)) }
@@ -70,7 +70,7 @@ impl<'p> Keeper<'p> {
     {
         let nonce = fresh.next();
         match self.player.ask_start(start_of, nonce) {
-            Ok((outcome, graph)) => self.tell(&outcome, graph, link, fresh, out, disk),
+            Ok((outcome, graph)) => self.report(&outcome, graph, link, fresh, out, disk),
             Err(fault) => Err(KeepFault::Played(fault)),
         }
     }
@@ -88,7 +88,7 @@ impl<'p> Keeper<'p> {
         requires holds { HoldsJoins self.old (D.may_leave disk.old) }
         ensures link_bound { L.bound link.new ≡ L.bound link.old }
         ensures disk_bound { D.bound disk.new ≡ D.bound disk.old }
-        ensures faults { TellsFaults (record { link = L.faults link.old; out = O.faults out.old; disk = D.faults disk.old })
+        ensures faults { CountsFaults (record { link = L.faults link.old; out = O.faults out.old; disk = D.faults disk.old })
             (record { link = L.faults link.new; out = O.faults out.new; disk = D.faults disk.new }) result }
         ensures progress { (p : Play) (start : Outside) (deliveries : List (List ℕ)) → L.deliveries link.old ≡ Some deliveries → RepresentsKept self.old p → R.random fresh.old ≡ Some p.random
             → Whole start (record { written = O.written out.old; sent = L.sent link.old }) p.steps
@@ -125,7 +125,7 @@ impl<'p> Keeper<'p> {
         requires holds { HoldsJoins self.old (D.may_leave disk.old) }
         ensures link_bound { L.bound link.new ≡ L.bound link.old }
         ensures disk_bound { D.bound disk.new ≡ D.bound disk.old }
-        ensures faults { TellsFaults (record { link = L.faults link.old; out = O.faults out.old; disk = D.faults disk.old })
+        ensures faults { CountsFaults (record { link = L.faults link.old; out = O.faults out.old; disk = D.faults disk.old })
             (record { link = L.faults link.new; out = O.faults out.new; disk = D.faults disk.new }) result }
         ensures deliveries { L.deliveries link.new ≡ L.deliveries link.old }
         ensures holds { OnOk result (HoldsJoins self.new (D.may_leave disk.new)) }
@@ -134,7 +134,7 @@ impl<'p> Keeper<'p> {
             → Progressed start (record { written = O.written out.new; sent = L.sent link.new }) (D.may_leave disk.new) self.new (R.random fresh.new) (with_turn p (Deliver bytes.now)) result }
     {
         match self.player.ask_deliver(bytes) {
-            Ok((outcome, graph)) => self.tell(&outcome, graph, link, fresh, out, disk),
+            Ok((outcome, graph)) => self.report(&outcome, graph, link, fresh, out, disk),
             Err(fault) => Err(KeepFault::Played(fault)),
         }
     }
@@ -163,7 +163,7 @@ pub fn keep<'p, L: Link, R: Fresh, O: Sink, D: Disk>(
     requires represents { AllRepresent (D.may_leave disk.old) ledger.joins }
     ensures link_bound { L.bound link.new ≡ L.bound link.old }
     ensures disk_bound { D.bound disk.new ≡ D.bound disk.old }
-    ensures faults { TellsFaults (record { link = L.faults link.old; out = O.faults out.old; disk = D.faults disk.old })
+    ensures faults { CountsFaults (record { link = L.faults link.old; out = O.faults out.old; disk = D.faults disk.old })
         (record { link = L.faults link.new; out = O.faults out.new; disk = D.faults disk.new }) result }
 
     // If the deliveries and the random bytes to come are known: what was written and sent is what the play says, up to where it ended,

@@ -28,7 +28,7 @@ use Rattle.sg_play.specs.Representation.{ProgressedOnItsWay, ProgressedActing, P
 use Rattle.sg_play.specs.Turns.{acted, acted_by, acted_in, is_sent, or_leaves}
 use Rattle.sg_play.proofs.Coming.{ended_on}
 use Rattle.sg_play.proofs.Extends.{Extends, nothing}
-use Rattle.sg_play.proofs.Telling.{asked_made}
+use Rattle.sg_play.proofs.Reporting.{asked_made}
 use Rattle.sg_play.proofs.Turning.{acted_first, leaves, leaving_adds, no_turn, stays, turn_is}
 
 -- ---- asking for the act

@@ -3,7 +3,7 @@ pub mod Endings
 pub mod Extends
 pub mod Coming
 pub mod Called
-pub mod Telling
+pub mod Reporting
 pub mod Turning
 pub mod Acting
 pub mod Sent

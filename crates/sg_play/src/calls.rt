@@ -22,7 +22,7 @@ use sg_report::Outcome;
 
 impl<'p> Player<'p> {
     /// Asks the node for an act in a session, with a confounder to hide each value: the outcome, the graph by which its numbers have names,
-    /// and the frame that was made, with the address of its receiver. The step's line is still to be written, by `tell`.
+    /// and the frame that was made, with the address of its receiver. The step's line is still to be written, by `report`.
     pub fn ask_act(
         &mut self,
         sid: Sid,
@@ -50,7 +50,7 @@ impl<'p> Player<'p> {
     }
 
     /// Asks the node to abandon a session: the outcome, and the graph by which its numbers have names. The step's line is still to be
-    /// written, by `tell`.
+    /// written, by `report`.
     pub fn ask_abandon(&mut self, sid: Sid) -> (Outcome, Option<&'p Graph>)
         ensures asked { (p : Play) → RepresentsPlay self.old p
             → HasAsked self.new p (Abandon sid) (outcome_of result.0) (option_copied result.1) [] }

@@ -12,7 +12,7 @@
 //! out, and with the frame of one more step and a prefix of its line if a line was not written whole.
 //!
 //! Who has an order of its own makes each call by itself, and then has the line of its step: `Player::ask_start`, `ask_deliver`, `ask_act` or
-//! `ask_abandon`, and `tell`. A play goes by the same calls.
+//! `ask_abandon`, and `report`. A play goes by the same calls.
 //!
 //! Look-ups go by hash tables: the choices for a node of a graph, what a session is called, and what the node has of it.
 #![tactic(auto)]

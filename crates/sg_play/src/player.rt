@@ -191,7 +191,7 @@ impl<'p> Player<'p> {
             → ProgressedOnItsWay start (record { written = O.written out.new; sent = L.sent link.new }) self.new (called p c) result }
         ensures node { OnOk result (self.new.node ≡ self.old.node) }
     {
-        match self.tell(left, graph, outcome) {
+        match self.report(left, graph, outcome) {
             Ok(line) => post(OutputStep { line, frame }, link, out),
             Err(fault) => {
                 let_go(frame);
@@ -201,7 +201,7 @@ impl<'p> Player<'p> {
     }
 
     /// The line of the next step: of the outcome of a call, in the session that the call left, if it left one. It is to be written.
-    pub fn tell(
+    pub fn report(
         &mut self,
         left: Option<Sid>,
         graph: Option<&Graph>,

@@ -7,7 +7,7 @@ use Rattle.sg_keep.specs.KeptRuns.{AllRepresent, HasKept}
 use Rattle.sg_keep.specs.declared.fault.KeepFault.{KeepFault}
 use Rattle.sg_keep.specs.declared.fault.KeepFault.TheVariants as KeepFaults
 use Rattle.sg_keep.proofs.Asking.{not_begun}
-use Rattle.sg_keep.proofs.Counting.{disk_falls_only, later_tells, link_took, link_tells}
+use Rattle.sg_keep.proofs.Counting.{disk_falls_only, later_counts, link_took, link_counts}
 use Rattle.sg_ledger.specs.Format.{Join}
 use Rattle.sg_play.specs.declared.fault.PlayFault.TheVariants as PlayFaults
 use Rattle.sg_ending.specs.Output.{Output}
@@ -21,7 +21,7 @@ pub after_ledger : (opened : List Join) (s : Setup) (most : ℕ) (old new : Outs
     → EndsOver opened s most old new disk1 disk2 r → EndsOver opened s most old new disk disk2 r
 after_ledger opened s most old new disk disk1 disk2 r l h = record {
   plays = h.plays;
-  faults = later_tells (counts old disk) (counts old disk1) (counts new disk2) r (disk_falls_only (old.link).faults (old.out).faults disk.faults disk1.faults l) h.faults;
+  faults = later_counts (counts old disk) (counts old disk1) (counts new disk2) r (disk_falls_only (old.link).faults (old.out).faults disk.faults disk1.faults l) h.faults;
   left = h.left;
   at_most = h.at_most;
 }
@@ -40,7 +40,7 @@ module _ (opened : List Join) (s : Setup) (most : ℕ) (out : Output) (random : 
     plays = λ ds ws d w. subst
         (λ (x : Option (List (Addr × List ℕ))). HasKept (record { written = out.bytes; sent = x }) (record { written = (new.out).bytes; sent = (new.link).sent }) disk'.may_leave (play_over opened s most ds ws) r) kept_sent
         (h.plays ds ws (kept ∙ d) w);
-    faults = later_tells (counts before disk) (counts opened_link disk) (counts new disk') r (link_took link.faults link1.faults out.faults disk.faults falls) h.faults;
+    faults = later_counts (counts before disk) (counts opened_link disk) (counts new disk') r (link_took link.faults link1.faults out.faults disk.faults falls) h.faults;
     left = on_ok_weaker r (λ t ds d. t ds (kept ∙ d)) h.left;
     at_most = λ ds d. h.at_most ds (kept ∙ d);
   }
@@ -51,7 +51,7 @@ module _ (opened : List Join) (s : Setup) (most : ℕ) (out : Output) (random : 
     plays = λ ds ws d w. subst
         (λ (x : Option (List (Addr × List ℕ))). HasKept (record { written = out.bytes; sent = link.sent }) (record { written = out.bytes; sent = x }) disk.may_leave (play_over opened s most ds ws) (Err (KeepFaults.Played PlayFaults.LinkFailed))) (sym kept_sent)
         (not_begun (record { written = out.bytes; sent = link.sent }) disk.may_leave s.keys s.programs opened s.script (take most ds) ws all PlayFaults.OutOfMemory refl);
-    faults = link_tells link.faults link1.faults out.faults disk.faults falls risen;
+    faults = link_counts link.faults link1.faults out.faults disk.faults falls risen;
     left = tt;
     at_most = none_left most link.deliveries link1.deliveries kept;
   }

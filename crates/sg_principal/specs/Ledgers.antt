@@ -1,7 +1,7 @@
 -- How the making of a ledger ends, and a run over one, and what they leave of the disk.
 use Rattle.std.specs.Prelude.{◌≡◌, ◌≢◌, ℕ, ◌⊎◌, List, [], take, codes, Option, Some, Result, Ok, Err, OnOk, ⊤}
 use Rattle.sg_base.specs.Outside.{HasRisen}
-use Rattle.sg_keep.specs.Faults.{Counts, TellsFaults}
+use Rattle.sg_keep.specs.Faults.{Counts, CountsFaults}
 use Rattle.sg_keep.specs.KeptRuns.{AllRepresent, HasKept}
 use Rattle.sg_keep.specs.declared.fault.KeepFault.{KeepFault}
 use Rattle.sg_keep.specs.declared.fault.KeepFault.TheVariants as KeepFaults
@@ -89,7 +89,7 @@ counts o disk = record { link = (o.link).faults; out = (o.out).faults; disk = di
 -- the play of a setup over the joins of an opened ledger ended so, of which a fault is reported only if its count rose
 pub record EndsOver (opened : List Join) (s : Setup) (most : ℕ) (old new : Outside) (disk disk' : Disked) (result : Result (Unit {0}) KeepFault) : Type 0 where
   pub plays : PlaysOver opened s most old new disk' result
-  pub faults : TellsFaults (counts old disk) (counts new disk') result
+  pub faults : CountsFaults (counts old disk) (counts new disk') result
   pub left : OnOk result (Takes most (old.link).deliveries (new.link).deliveries)
   pub at_most : TakesAtMost most (old.link).deliveries (new.link).deliveries
 

@@ -5,7 +5,7 @@ use Rattle.sg_base.specs.declared.address.Addr.{Addr}
 use Rattle.sg_input.specs.Lines.{lines_of}
 use Rattle.sg_ledger.specs.Disk.{IfSeen}
 use Rattle.sg_ledger.specs.Format.{Join, Represents}
-use Rattle.sg_serve.specs.Faults.{Counts, TellsFaults}
+use Rattle.sg_serve.specs.Faults.{Counts, CountsFaults}
 use Rattle.sg_serve.specs.Served.{Outside as KnownOutside, Served, images_if, opening}
 use Rattle.sg_serve.specs.declared.fault.ServeFault.{ServeFault}
 use Rattle.sg_serve.specs.declared.fault.ServeFault.TheVariants as ServeFaults
@@ -79,7 +79,7 @@ counts o disk = record { link = (o.link).faults; out = (o.out).faults; disk = di
 pub record EndsServing (kept : Bool) (opened : List Join) (p : Principal) (old new : Application) (disk disk' : Disked) (result : Result (Unit {0}) ServeFault) : Type 0 where
   pub bound : (new.link).bound ≡ (old.link).bound
   pub answers : Answers kept opened p old new disk' result
-  pub faults : TellsFaults (counts old disk) (counts new disk') result
+  pub faults : CountsFaults (counts old disk) (counts new disk') result
   pub input_falls : (old.input).faults ≤ (new.input).faults
   pub input_failed : result ≡ Err ServeFaults.InputFailed → HasRisen (old.input).faults (new.input).faults
 

@@ -1,3 +1,3 @@
 pub mod Words
-pub mod Tellable
+pub mod NamedAnswers
 pub mod Answered

@@ -7,7 +7,7 @@ use Rattle.sg_keep.specs.KeptRuns.{AllRepresent}
 use Rattle.sg_ledger.specs.Format.{Join, OpenLedger, Represents}
 use Rattle.sg_model.specs.Names.{Name}
 use Rattle.sg_node.proofs.Life.{pasts_go_on}
-use Rattle.sg_play.proofs.Telling.{asked_quiet}
+use Rattle.sg_play.proofs.Reporting.{asked_quiet}
 use Rattle.sg_play.specs.Asking.{IsAsked, addressed, sealed_in}
 use Rattle.sg_play.specs.Played.{Play, answer_in, called}
 use Rattle.sg_play.specs.Representation.{HasAsked, KeepsJoins, RepresentsPlay}
@@ -77,14 +77,14 @@ holds_on old new may_leave h same keeps =
 
 -- ---- the join of the outcome
 
-told_join : (n : ℕ) (a : Answer) → join_reported (reported_answer n a) ≡ join_in a
-told_join n (Protocol.Happened e) = refl
-told_join n (Protocol.Sends e to f) = refl
-told_join n Protocol.Abandoned = refl
-told_join n (Protocol.NotStarted x) = refl
-told_join n (Protocol.NotActed x) = refl
-told_join n Protocol.NotAbandoned = refl
-told_join n (Protocol.NotDelivered x) = refl
+reported_join : (n : ℕ) (a : Answer) → join_reported (reported_answer n a) ≡ join_in a
+reported_join n (Protocol.Happened e) = refl
+reported_join n (Protocol.Sends e to f) = refl
+reported_join n Protocol.Abandoned = refl
+reported_join n (Protocol.NotStarted x) = refl
+reported_join n (Protocol.NotActed x) = refl
+reported_join n Protocol.NotAbandoned = refl
+reported_join n (Protocol.NotDelivered x) = refl
 
 module _ (sv : Server) (may_leave : List ℕ → Type 0) (reported : Option Reported) (h : HasAskedNode sv may_leave reported) where
   -- the node's answer
@@ -96,7 +96,7 @@ module _ (sv : Server) (may_leave : List ℕ → Type 0) (reported : Option Repo
   joined = option_and_then join_reported reported
 
   join_is : joined ≡ join_in given
-  join_is = ap (option_and_then join_reported) h.is_reported ∙ told_join h.number given
+  join_is = ap (option_and_then join_reported) h.is_reported ∙ reported_join h.number given
 
   -- if there is no ledger
   pub holds_none : sv.ledger ≡ None → HoldsJoins sv may_leave

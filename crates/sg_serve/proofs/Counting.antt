@@ -4,7 +4,7 @@ use Rattle.sg_base.specs.Outside.{HasRisen}
 use Rattle.sg_play.proofs.Rising.{risen_last}
 use Rattle.sg_serve.specs.declared.fault.ServeFault.{ServeFault}
 use Rattle.sg_serve.specs.declared.fault.ServeFault.TheVariants.{InputFailed, WriteFailed, DiskFailed, OutOfMemory}
-use Rattle.sg_serve.specs.Faults.{Counts, TellsFaults}
+use Rattle.sg_serve.specs.Faults.{Counts, CountsFaults}
 
 -- no count fell
 pub record NoFall (old new : Counts) : Type 0 where
@@ -22,11 +22,11 @@ falls_on a b c f g = record {
   disk = let x = f.disk in let y = g.disk in omega (arith, x, y);
 }
 
-pub falls_of : {A : Type 0} (old new : Counts) (r : Result A ServeFault) → TellsFaults old new r → NoFall old new
+pub falls_of : {A : Type 0} (old new : Counts) (r : Result A ServeFault) → CountsFaults old new r → NoFall old new
 falls_of old new r h = record { link = h.link_falls; out = h.out_falls; disk = h.disk_falls }
 
 -- if it answered
-pub went : {A : Type 0} (old new : Counts) (a : A) → NoFall old new → TellsFaults old new (Ok a)
+pub went : {A : Type 0} (old new : Counts) (a : A) → NoFall old new → CountsFaults old new (Ok a)
 went old new a f = record { link_falls = f.link; out_falls = f.out; disk_falls = f.disk; write_failed = λ e. absurd (cc); disk_failed = λ e. absurd (cc) }
 
 -- if memory ran out or the input failed
@@ -38,7 +38,7 @@ not_disk : {A : Type 0} (f : ServeFault) (r : Result A ServeFault) → (f ≡ Ou
 not_disk f r (inl is) e w = cc
 not_disk f r (inr is) e w = cc
 
-pub other : {A : Type 0} (old new : Counts) (r : Result A ServeFault) (f : ServeFault) → (f ≡ OutOfMemory) ⊎ (f ≡ InputFailed) → r ≡ Err f → NoFall old new → TellsFaults old new r
+pub other : {A : Type 0} (old new : Counts) (r : Result A ServeFault) (f : ServeFault) → (f ≡ OutOfMemory) ⊎ (f ≡ InputFailed) → r ≡ Err f → NoFall old new → CountsFaults old new r
 other old new r f is e h = record {
   link_falls = h.link;
   out_falls = h.out;
@@ -48,8 +48,8 @@ other old new r f is e h = record {
 }
 
 -- what a later part of a call reports, the call reports
-pub later_tells : {A : Type 0} (old mid new : Counts) (r : Result A ServeFault) → NoFall old mid → TellsFaults mid new r → TellsFaults old new r
-later_tells old mid new r f h = record {
+pub later_counts : {A : Type 0} (old mid new : Counts) (r : Result A ServeFault) → NoFall old mid → CountsFaults mid new r → CountsFaults old new r
+later_counts old mid new r f h = record {
   link_falls = let a = f.link in let b = h.link_falls in omega (arith, a, b);
   out_falls = let a = f.out in let b = h.out_falls in omega (arith, a, b);
   disk_falls = let a = f.disk in let b = h.disk_falls in omega (arith, a, b);

@@ -5,7 +5,7 @@ pub mod Saying
 pub mod Giving
 pub mod Counting
 pub mod Asking
-pub mod Telling
+pub mod Reporting
 pub mod Replying
 pub mod Answering
 pub mod Lining

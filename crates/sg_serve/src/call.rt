@@ -91,7 +91,7 @@ impl<'p> Server<'p> {
             return say_unknown(self.alloc, number);
         };
         let (outcome, graph) = self.player.ask_abandon(sid);
-        self.tell(&Some(sid), &outcome, graph, None)
+        self.report(&Some(sid), &outcome, graph, None)
     }
 
     // Acts in the session of a number, by the graph of the session.
@@ -148,7 +148,7 @@ impl<'p> Server<'p> {
             return Err(ServeFault::OutOfMemory);
         };
         match self.player.ask_act(sid, label, values, drawn.as_slice()) {
-            Ok((outcome, graph, frame)) => self.tell(&None, &outcome, graph, frame),
+            Ok((outcome, graph, frame)) => self.report(&None, &outcome, graph, frame),
             Err(_) => Err(ServeFault::OutOfMemory),
         }
     }

@@ -21,10 +21,10 @@ mod graphs;
 mod laws;
 mod line;
 mod reply;
+mod report;
 mod run;
 mod say;
 mod server;
-mod tell;
 
 pub use fault::ServeFault;
 pub use laws::{again_changes_nothing, runs_are_of_nodes};

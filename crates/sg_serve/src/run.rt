@@ -5,7 +5,7 @@ ghost use Rattle.sg_base.specs.Outside.{HasRisen};
 ghost use Rattle.sg_input.specs.Lines.{Line, lines_left, lines_of};
 ghost use Rattle.sg_keep.specs.KeptRuns.{AllRepresent};
 ghost use Rattle.sg_protocol.specs.NodeStates.{new_state};
-ghost use Rattle.sg_serve.specs.Faults.{TellsFaults};
+ghost use Rattle.sg_serve.specs.Faults.{CountsFaults};
 ghost use Rattle.sg_serve.specs.Lines.{Run};
 ghost use Rattle.sg_serve.specs.Served.{Agrees, Outside, Served, images_if, joins_kept, opening};
 ghost use Rattle.sg_serve.specs.Representation.{Answered, HoldsJoins, RepresentsServing, found_line};
@@ -36,7 +36,7 @@ impl<'p> Server<'p> {
         requires holds { HoldsJoins self.old (D.may_leave disk.old) }
         ensures link_bound { L.bound link.new ≡ L.bound link.old }
         ensures disk_bound { D.bound disk.new ≡ D.bound disk.old }
-        ensures faults { TellsFaults (record { link = L.faults link.old; out = O.faults out.old; disk = D.faults disk.old })
+        ensures faults { CountsFaults (record { link = L.faults link.old; out = O.faults out.old; disk = D.faults disk.old })
             (record { link = L.faults link.new; out = O.faults out.new; disk = D.faults disk.new }) result }
         ensures untouched { IsNone self.old.ledger → disk.new ≡ disk.old }
         ensures input_falls { I.faults input.old ≤ I.faults input.new }
@@ -81,7 +81,7 @@ impl<'p> Server<'p> {
         requires holds { HoldsJoins self.old (D.may_leave disk.old) }
         ensures link_bound { L.bound link.new ≡ L.bound link.old }
         ensures disk_bound { D.bound disk.new ≡ D.bound disk.old }
-        ensures faults { TellsFaults (record { link = L.faults link.old; out = O.faults out.old; disk = D.faults disk.old })
+        ensures faults { CountsFaults (record { link = L.faults link.old; out = O.faults out.old; disk = D.faults disk.old })
             (record { link = L.faults link.new; out = O.faults out.new; disk = D.faults disk.new }) result }
         ensures untouched { IsNone self.old.ledger → disk.new ≡ disk.old }
         ensures causes { result ≢ Err ServeFault.InputFailed }
@@ -125,7 +125,7 @@ pub fn serve<'p, I: Input, L: TimedLink, R: Fresh, O: Sink, D: Disk>(
     requires represents { AllRepresent (images_if (is_some ledger) (D.may_leave disk.old)) (joins_kept ledger) }
     ensures link_bound { L.bound link.new ≡ L.bound link.old }
     ensures disk_bound { D.bound disk.new ≡ D.bound disk.old }
-    ensures faults { TellsFaults (record { link = L.faults link.old; out = O.faults out.old; disk = D.faults disk.old })
+    ensures faults { CountsFaults (record { link = L.faults link.old; out = O.faults out.old; disk = D.faults disk.old })
         (record { link = L.faults link.new; out = O.faults out.new; disk = D.faults disk.new }) result }
     ensures input_falls { I.faults input.old ≤ I.faults input.new }
     ensures input_failed { result ≡ Err ServeFault.InputFailed → HasRisen (I.faults input.old) (I.faults input.new) }

@@ -17,7 +17,7 @@ use Rattle.sg_world.specs.Setting.{Setting}
 use Rattle.sg_world.proofs.KeptLines.{events_alike, lines_alike}
 use Rattle.sg_world.proofs.Pasts.{Named}
 use Rattle.sg_world.proofs.RunEntries.{entries_of_steps}
-use Rattle.sg_world.proofs.Tellable.{lines_can_be_reported}
+use Rattle.sg_world.proofs.NamedLines.{lines_can_be_reported}
 use Rattle.sg_world.proofs.Worlds.{replay}
 use Rattle.sg_world.proofs.WrittenLines.{can_be_written}
 

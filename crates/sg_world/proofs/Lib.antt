@@ -13,7 +13,7 @@ mod Graphs
 mod Crafting
 mod RunEntries
 mod RunsOfReplays
-mod Tellable
+mod NamedLines
 mod KeptLines
 mod PremiseLaws
 mod NamesMore

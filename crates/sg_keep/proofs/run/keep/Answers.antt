@@ -9,7 +9,7 @@ use Rattle.sg_keep.specs.Faults.{Counts}
 use Rattle.sg_keep.specs.KeptRuns.{HasKept}
 use Rattle.sg_keep.specs.declared.keeper.Keeper.{Keeper}
 use Rattle.sg_keep.proofs.Asking.{came_kept, holds_first, not_begun, represents_first, starts_ended}
-use Rattle.sg_keep.proofs.Counting.{falls_of, later_tells, memory_tells, none_for_memory}
+use Rattle.sg_keep.proofs.Counting.{falls_of, later_counts, memory_counts, none_for_memory}
 use Rattle.sg_keep.proofs.run.keep.Goals as goal
 
 pub returns-in_default-clause-faults : goal.returns-in_default-clause-faults
@@ -20,7 +20,7 @@ returns-in_default-clause-kept g c = λ deliveries random reported drawn.
     not_begun (record { written = g.O.Sink.written c.args.out.now; sent = g.L.Link.sent c.args.link.now }) (g.D.Disk.may_leave c.args.disk.now) c.args.keys.now c.args.programs.now c.args.ledger.joins c.args.script (take c.args.most deliveries) random c.requires.represents _ refl
 
 pub returns-in-Err-clause-faults : goal.returns-in-Err-clause-faults
-returns-in-Err-clause-faults g c = memory_tells (record { link = g.L.Link.faults c.args.link.now; out = g.O.Sink.faults c.args.out.now; disk = g.D.Disk.faults c.args.disk.now }) c.in-Err.fault c.in-Err.ensures.memory
+returns-in-Err-clause-faults g c = memory_counts (record { link = g.L.Link.faults c.args.link.now; out = g.O.Sink.faults c.args.out.now; disk = g.D.Disk.faults c.args.disk.now }) c.in-Err.fault c.in-Err.ensures.memory
 
 pub returns-in-Err-clause-kept : goal.returns-in-Err-clause-kept
 returns-in-Err-clause-kept g c = λ deliveries random reported drawn.
@@ -60,7 +60,7 @@ returns-clause-faults g c =
     let old : Counts = record { link = g.L.Link.faults c.args.link.now; out = g.O.Sink.faults c.args.out.now; disk = g.D.Disk.faults c.args.disk.now } in
     let mid : Counts = record { link = g.L.Link.faults c.start_all.new.link; out = g.O.Sink.faults c.start_all.new.out; disk = g.D.Disk.faults c.start_all.new.disk } in
     let new : Counts = record { link = g.L.Link.faults c.take_all.new.link; out = g.O.Sink.faults c.take_all.new.out; disk = g.D.Disk.faults c.take_all.new.disk } in
-    later_tells old mid new c.take_all.result (falls_of old mid c.start_all.result c.start_all.ensures.faults) c.take_all.ensures.faults
+    later_counts old mid new c.take_all.result (falls_of old mid c.start_all.result c.start_all.ensures.faults) c.take_all.ensures.faults
 
 pub returns-clause-kept : goal.returns-clause-kept
 returns-clause-kept g c = λ deliveries random reported drawn.

@@ -4,23 +4,23 @@ use Rattle.sg_protocol.specs.Calls.{Deliver}
 use Rattle.sg_report.specs.Outcome.{outcome_of}
 use Rattle.sg_play.specs.Played.{with_turn}
 use Rattle.sg_keep.proofs.Asking.{asked_node, is_asked, memory_end}
-use Rattle.sg_keep.proofs.Counting.{memory_tells}
+use Rattle.sg_keep.proofs.Counting.{memory_counts}
 use Rattle.sg_keep.proofs.Going.{with_call}
 use Rattle.sg_keep.proofs.keeper.Keeper.deliver.Goals as goal
 
-pub tell-requires : goal.tell-requires
-tell-requires g c =
+pub report-requires : goal.report-requires
+report-requires g c =
     let h = c.requires.holds in
     record { asked = asked_node c.args.self.now c.ask_deliver.new.self (g.D.Disk.may_leave c.args.disk.now) (Deliver c.args.bytes.now) (outcome_of c.in-Ok.outcome) (option_copied c.in-Ok.graph) h (c.in-Ok.ensures.comes 0 h.past h.represents) }
 
 pub returns-in-Ok-clause-progress : goal.returns-in-Ok-clause-progress
 returns-in-Ok-clause-progress g c = λ p start s w h.
-    c.tell.ensures.progress p (Deliver c.args.bytes.now) start
+    c.report.ensures.progress p (Deliver c.args.bytes.now) start
     (is_asked c.args.self.now c.ask_deliver.new.self (g.D.Disk.may_leave c.args.disk.now) p (Deliver c.args.bytes.now) (outcome_of c.in-Ok.outcome) (option_copied c.in-Ok.graph) c.requires.holds s c.in-Ok.ensures.rest (λ number. c.in-Ok.ensures.comes number p.past s.player.node) refl)
     w h
 
 pub returns-in-Err-clause-faults : goal.returns-in-Err-clause-faults
-returns-in-Err-clause-faults g c = memory_tells (record { link = g.L.Link.faults c.args.link.now; out = g.O.Sink.faults c.args.out.now; disk = g.D.Disk.faults c.args.disk.now }) c.in-Err.fault c.in-Err.ensures.memory
+returns-in-Err-clause-faults g c = memory_counts (record { link = g.L.Link.faults c.args.link.now; out = g.O.Sink.faults c.args.out.now; disk = g.D.Disk.faults c.args.disk.now }) c.in-Err.fault c.in-Err.ensures.memory
 
 pub returns-in-Err-clause-progress : goal.returns-in-Err-clause-progress
 returns-in-Err-clause-progress g c = λ p start s w h.

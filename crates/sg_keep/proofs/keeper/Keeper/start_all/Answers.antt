@@ -7,7 +7,7 @@ use Rattle.sg_play.proofs.Looping.{start_next}
 use Rattle.sg_keep.specs.Faults.{Counts}
 use Rattle.sg_keep.specs.KeptRuns.{HasKept}
 use Rattle.sg_keep.specs.Representation.{Progressed}
-use Rattle.sg_keep.proofs.Counting.{falls_of, falls_on, later_tells, no_fall, went}
+use Rattle.sg_keep.proofs.Counting.{falls_of, falls_on, later_counts, no_fall, went}
 use Rattle.sg_keep.proofs.Ending.{end_on, to_same}
 use Rattle.sg_keep.proofs.Going.{starts_on}
 use Rattle.sg_keep.proofs.keeper.Keeper.start_all.Goals as goal
@@ -42,7 +42,7 @@ returns-in-Err-clause-faults g c =
     let old : Counts = record { link = g.L.Link.faults c.args.link.now; out = g.O.Sink.faults c.args.out.now; disk = g.D.Disk.faults c.args.disk.now } in
     let mid : Counts = record { link = g.L.Link.faults c.loop-start.link; out = g.O.Sink.faults c.loop-start.out; disk = g.D.Disk.faults c.loop-start.disk } in
     let new : Counts = record { link = g.L.Link.faults c.start_one.new.link; out = g.O.Sink.faults c.start_one.new.out; disk = g.D.Disk.faults c.start_one.new.disk } in
-    later_tells old mid new (Err c.in-Err.fault) c.loop-start.invariant.falls c.in-Err.ensures.faults
+    later_counts old mid new (Err c.in-Err.fault) c.loop-start.invariant.falls c.in-Err.ensures.faults
 
 pub returns-in-Err-clause-progress : goal.returns-in-Err-clause-progress
 returns-in-Err-clause-progress g c = λ p start s w h.

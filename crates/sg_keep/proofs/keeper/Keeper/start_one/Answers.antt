@@ -6,31 +6,31 @@ use Rattle.sg_play.specs.Ends.{Outside}
 use Rattle.sg_play.specs.Played.{Play, cast_of_start, starts, with_turn, without}
 use Rattle.sg_play.proofs.Running.{start_is, without_one}
 use Rattle.sg_keep.proofs.Asking.{asked_node, is_asked, kept_without, memory_end}
-use Rattle.sg_keep.proofs.Counting.{memory_tells}
+use Rattle.sg_keep.proofs.Counting.{memory_counts}
 use Rattle.sg_keep.proofs.Ending.{to_same}
 use Rattle.sg_keep.proofs.Going.{by_start}
 use Rattle.sg_keep.proofs.keeper.Keeper.start_one.Goals as goal
 
-pub tell-requires : goal.tell-requires
-tell-requires g c =
+pub report-requires : goal.report-requires
+report-requires g c =
     let h = c.requires.holds in
     record { asked = asked_node c.args.self.now c.ask_start.new.self (g.D.Disk.may_leave c.args.disk.now) (Start (cast_of_start c.args.self.now.player.programs.now c.args.start_of.now c.next-nonce.result)) (outcome_of c.in-Ok.outcome) (option_copied c.in-Ok.graph) h (c.in-Ok.ensures.comes 0 h.past h.represents) }
 
 pub returns-in-Ok-clause-progress : goal.returns-in-Ok-clause-progress
 returns-in-Ok-clause-progress g c = λ p start s w h.
     let leaves = g.D.Disk.may_leave c.args.disk.now in
-    let now : Outside = record { written = g.O.Sink.written c.tell.new.out; sent = g.L.Link.sent c.tell.new.link } in
+    let now : Outside = record { written = g.O.Sink.written c.report.new.out; sent = g.L.Link.sent c.report.new.link } in
     let q : Play = without 1 p in
     let cast = cast_of_start c.args.self.now.player.programs.now c.args.start_of.now c.next-nonce.result in
     let t = kept_without c.args.self.now p q refl refl (without_one c.args.self.now.player p s.player) s in
     let is : with_turn q (Start cast) ≡ starts p c.args.start_of.now = start_is p c.args.start_of.now c.args.self.now.player.programs.now c.next-nonce.result cast s.player.programs (c.next-nonce.ensures.drawn p.random w) refl in
-    to_same start now (g.D.Disk.may_leave c.tell.new.disk) c.tell.new.self (g.R.Fresh.random c.tell.new.fresh) (with_turn q (Start cast)) (starts p c.args.start_of.now) c.tell.result is
-    (c.tell.ensures.progress q (Start cast) start
+    to_same start now (g.D.Disk.may_leave c.report.new.disk) c.report.new.self (g.R.Fresh.random c.report.new.fresh) (with_turn q (Start cast)) (starts p c.args.start_of.now) c.report.result is
+    (c.report.ensures.progress q (Start cast) start
     (is_asked c.args.self.now c.ask_start.new.self leaves q (Start cast) (outcome_of c.in-Ok.outcome) (option_copied c.in-Ok.graph) c.requires.holds t c.in-Ok.ensures.rest (λ number. c.in-Ok.ensures.comes number q.past t.player.node) refl)
     (c.next-nonce.ensures.taken p.random w) h)
 
 pub returns-in-Err-clause-faults : goal.returns-in-Err-clause-faults
-returns-in-Err-clause-faults g c = memory_tells (record { link = g.L.Link.faults c.args.link.now; out = g.O.Sink.faults c.args.out.now; disk = g.D.Disk.faults c.args.disk.now }) c.in-Err.fault c.in-Err.ensures.memory
+returns-in-Err-clause-faults g c = memory_counts (record { link = g.L.Link.faults c.args.link.now; out = g.O.Sink.faults c.args.out.now; disk = g.D.Disk.faults c.args.disk.now }) c.in-Err.fault c.in-Err.ensures.memory
 
 pub returns-in-Err-clause-progress : goal.returns-in-Err-clause-progress
 returns-in-Err-clause-progress g c = λ p start s w h.

@@ -8,7 +8,7 @@ use Rattle.sg_keep.specs.Faults.{Counts}
 use Rattle.sg_keep.specs.KeptRuns.{HasKept}
 use Rattle.sg_keep.specs.Representation.{Progressed}
 use Rattle.sg_keep.proofs.Asking.{link_end, memory_end}
-use Rattle.sg_keep.proofs.Counting.{falls_of, falls_on, later_tells, link_full, link_tells, link_took, no_fall, went}
+use Rattle.sg_keep.proofs.Counting.{falls_of, falls_on, later_counts, link_full, link_counts, link_took, no_fall, went}
 use Rattle.sg_keep.proofs.Ending.{end_on, to_same}
 use Rattle.sg_keep.proofs.Going.{deliveries_on}
 use Rattle.sg_keep.proofs.keeper.Keeper.take_all.Goals as goal
@@ -55,7 +55,7 @@ returns-in-Err-clause-faults g c =
     let mid : Counts = record { link = g.L.Link.faults c.loop-taken.link; out = g.O.Sink.faults c.loop-taken.out; disk = g.D.Disk.faults c.loop-taken.disk } in
     let took : Counts = record { link = g.L.Link.faults c.recv.new.self; out = g.O.Sink.faults c.loop-taken.out; disk = g.D.Disk.faults c.loop-taken.disk } in
     let new : Counts = record { link = g.L.Link.faults c.deliver.new.link; out = g.O.Sink.faults c.deliver.new.out; disk = g.D.Disk.faults c.deliver.new.disk } in
-    later_tells old took new (Err c.in-Err.fault) (falls_on old mid took c.loop-taken.invariant.falls (link_took _ _ _ _ c.recv.ensures.never_falls)) c.in-Err.ensures.faults
+    later_counts old took new (Err c.in-Err.fault) (falls_on old mid took c.loop-taken.invariant.falls (link_took _ _ _ _ c.recv.ensures.never_falls)) c.in-Err.ensures.faults
 
 pub returns-in-Err-clause-progress : goal.returns-in-Err-clause-progress
 returns-in-Err-clause-progress g c = let within : c.loop-taken._taken + 1 ≤ c.args.most = omega arith in λ p start deliveries reported s w h.
@@ -115,7 +115,7 @@ returns-in-Err-Failed-clause-faults g c =
     let old : Counts = record { link = g.L.Link.faults c.args.link.now; out = g.O.Sink.faults c.args.out.now; disk = g.D.Disk.faults c.args.disk.now } in
     let mid : Counts = record { link = g.L.Link.faults c.loop-taken.link; out = g.O.Sink.faults c.loop-taken.out; disk = g.D.Disk.faults c.loop-taken.disk } in
     let took : Counts = record { link = g.L.Link.faults c.recv.new.self; out = g.O.Sink.faults c.loop-taken.out; disk = g.D.Disk.faults c.loop-taken.disk } in
-    later_tells old mid took _ c.loop-taken.invariant.falls (link_tells _ _ _ _ c.recv.ensures.never_falls (c.recv.ensures.failed (c.in-Err-Failed.is ∙ ap Err c.in-Err-Failed.field-0-is)))
+    later_counts old mid took _ c.loop-taken.invariant.falls (link_counts _ _ _ _ c.recv.ensures.never_falls (c.recv.ensures.failed (c.in-Err-Failed.is ∙ ap Err c.in-Err-Failed.field-0-is)))
 
 pub returns-in-Err-Failed-clause-progress : goal.returns-in-Err-Failed-clause-progress
 returns-in-Err-Failed-clause-progress g c = let within : c.loop-taken._taken ≤ c.args.most = omega arith in λ p start deliveries reported s w h.
@@ -134,7 +134,7 @@ returns-in-Err-OutOfMemory-clause-faults g c =
     let old : Counts = record { link = g.L.Link.faults c.args.link.now; out = g.O.Sink.faults c.args.out.now; disk = g.D.Disk.faults c.args.disk.now } in
     let mid : Counts = record { link = g.L.Link.faults c.loop-taken.link; out = g.O.Sink.faults c.loop-taken.out; disk = g.D.Disk.faults c.loop-taken.disk } in
     let took : Counts = record { link = g.L.Link.faults c.recv.new.self; out = g.O.Sink.faults c.loop-taken.out; disk = g.D.Disk.faults c.loop-taken.disk } in
-    later_tells old mid took _ c.loop-taken.invariant.falls (link_full _ _ _ _ c.recv.ensures.never_falls)
+    later_counts old mid took _ c.loop-taken.invariant.falls (link_full _ _ _ _ c.recv.ensures.never_falls)
 
 pub returns-in-Err-OutOfMemory-clause-progress : goal.returns-in-Err-OutOfMemory-clause-progress
 returns-in-Err-OutOfMemory-clause-progress g c = let within : c.loop-taken._taken ≤ c.args.most = omega arith in λ p start deliveries reported s w h.

@@ -3,7 +3,7 @@ use Rattle.std.specs.Option.{option_copied}
 use Rattle.sg_protocol.specs.Calls.{Abandon}
 use Rattle.sg_report.specs.Outcome.{outcome_of}
 use Rattle.sg_play.proofs.Keeping.{keeps_by_leaving}
-use Rattle.sg_play.proofs.Telling.{asked_quiet}
+use Rattle.sg_play.proofs.Reporting.{asked_quiet}
 use Rattle.sg_play.proofs.player.Player.ask_abandon.Goals as goal
 
 pub returns-clause-asked : goal.returns-clause-asked

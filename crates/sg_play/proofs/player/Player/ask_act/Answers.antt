@@ -12,7 +12,7 @@ use Rattle.sg_play.specs.Posting.{frames_made}
 use Rattle.sg_play.specs.Representation.{HasAsked, KeepsJoins, RepresentsPlay}
 use Rattle.sg_play.proofs.Keeping.{keeps_by_act}
 use Rattle.sg_play.proofs.Results.{each_ok, then_ok}
-use Rattle.sg_play.proofs.Telling.{asked_made}
+use Rattle.sg_play.proofs.Reporting.{asked_made}
 use Rattle.sg_play.proofs.player.Player.ask_act.Goals as goal
 
 pub returns-clause-asked : goal.returns-clause-asked

@@ -7,7 +7,7 @@ use Rattle.sg_play.specs.Played.{answer_in, called}
 use Rattle.sg_report.proofs.Answered.{err_same}
 use Rattle.sg_play.proofs.Coming.{no_memory_by}
 use Rattle.sg_play.proofs.Extends.{by_call}
-use Rattle.sg_play.proofs.Telling.{asked_quiet, reported_given}
+use Rattle.sg_play.proofs.Reporting.{asked_quiet, reported_given}
 use Rattle.sg_play.proofs.player.Player.take.Goals as goal
 use Rattle.sg_report.specs.Reported.{sid_reported}
 

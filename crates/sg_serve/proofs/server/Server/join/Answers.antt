@@ -16,8 +16,8 @@ returns-in-Ok-clause-replied g c = λ s k called has leaves.
     let leaves_now = g.D.Disk.may_leave c.keep_join.new.disk in
     let reported = outcome_of c.args.outcome.now in
     let graph = option_copied c.args.graph in
-    replied_so _ s c.tell.new.self (calls s k) c.tell.result
-    (applied c.tell.result _ (λ (step : Step). HasReplied c.tell.new.self step (calls s k)) (λ step h. h s k (called_with sv leaves_now s k reported graph None called m c.keep_join.ensures.rest) leaves) c.tell.ensures.replied)
+    replied_so _ s c.report.new.self (calls s k) c.report.result
+    (applied c.report.result _ (λ (step : Step). HasReplied c.report.new.self step (calls s k)) (λ step h. h s k (called_with sv leaves_now s k reported graph None called m c.keep_join.ensures.rest) leaves) c.report.ensures.replied)
     (join_kept sv leaves_now s k reported graph None called m c.keep_join.ensures.rest c.keep_join.ensures.same c.in-Ok.ensures.holds)
 
 pub returns-in-Err-clause-replied : goal.returns-in-Err-clause-replied

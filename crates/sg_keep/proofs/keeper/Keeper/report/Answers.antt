@@ -6,14 +6,14 @@ use Rattle.sg_play.specs.Ends.{Outside}
 use Rattle.sg_play.specs.Played.{answer_in, called}
 use Rattle.sg_play.proofs.Keeping.{keeps_same, keeps_then}
 use Rattle.sg_play.proofs.Running.{turn_given}
-use Rattle.sg_play.proofs.Telling.{reported_given}
+use Rattle.sg_play.proofs.Reporting.{reported_given}
 use Rattle.sg_keep.proofs.Asking.{asked_then, holds_on, represents_kept, unkept, unplayed, untold}
-use Rattle.sg_keep.proofs.Counting.{disk_falls_only, later_tells, of_play, play_went, unkept_tells}
-use Rattle.sg_keep.proofs.keeper.Keeper.tell.Goals as goal
+use Rattle.sg_keep.proofs.Counting.{disk_falls_only, later_counts, of_play, play_went, unkept_counts}
+use Rattle.sg_keep.proofs.keeper.Keeper.report.Goals as goal
 
 pub returns-in-Err-clause-faults : goal.returns-in-Err-clause-faults
 returns-in-Err-clause-faults g c =
-    unkept_tells (g.L.Link.faults c.args.link.now) (g.O.Sink.faults c.args.out.now) (g.D.Disk.faults c.args.disk.now) (g.D.Disk.faults c.keep_join.new.disk) c.in-Err.fault c.keep_join.ensures.falls c.in-Err.ensures.causes
+    unkept_counts (g.L.Link.faults c.args.link.now) (g.O.Sink.faults c.args.out.now) (g.D.Disk.faults c.args.disk.now) (g.D.Disk.faults c.keep_join.new.disk) c.in-Err.fault c.keep_join.ensures.falls c.in-Err.ensures.causes
     (λ e. c.keep_join.ensures.failed (c.in-Err.is ∙ ap Err e))
 
 pub returns-in-Err-clause-progress : goal.returns-in-Err-clause-progress
@@ -29,7 +29,7 @@ returns-in-Err-give-clause-faults g c =
     let kept = g.D.Disk.faults c.keep_join.new.disk in
     let link' = g.L.Link.faults c.give.new.link in
     let out' = g.O.Sink.faults c.give.new.out in
-    later_tells (record { link = link; out = out; disk = g.D.Disk.faults c.args.disk.now }) (record { link = link; out = out; disk = kept }) (record { link = link'; out = out'; disk = kept }) _
+    later_counts (record { link = link; out = out; disk = g.D.Disk.faults c.args.disk.now }) (record { link = link; out = out; disk = kept }) (record { link = link'; out = out'; disk = kept }) _
     (disk_falls_only link out (g.D.Disk.faults c.args.disk.now) kept c.keep_join.ensures.falls)
     (of_play link link' out out' kept c.give.result _ c.in-Err-give.fault c.in-Err-give.is refl c.give.ensures.link_falls c.give.ensures.out_falls c.give.ensures.link_failed c.give.ensures.write_failed)
 
@@ -51,7 +51,7 @@ returns-in-Ok-play_if-clause-faults g c =
     let mid_out = g.O.Sink.faults c.give.new.out in
     let link' = g.L.Link.faults c.play_if.new.link in
     let out' = g.O.Sink.faults c.play_if.new.out in
-    later_tells (record { link = link; out = out; disk = g.D.Disk.faults c.args.disk.now }) (record { link = mid_link; out = mid_out; disk = kept }) (record { link = link'; out = out'; disk = kept }) _
+    later_counts (record { link = link; out = out; disk = g.D.Disk.faults c.args.disk.now }) (record { link = mid_link; out = mid_out; disk = kept }) (record { link = link'; out = out'; disk = kept }) _
     (record { link = c.give.ensures.link_falls; out = c.give.ensures.out_falls; disk = c.keep_join.ensures.falls })
     (play_went mid_link link' mid_out out' kept tt c.play_if.ensures.link_falls c.play_if.ensures.out_falls)
 
@@ -82,7 +82,7 @@ returns-in-Err-play_if-clause-faults g c =
     let mid_out = g.O.Sink.faults c.give.new.out in
     let link' = g.L.Link.faults c.play_if.new.link in
     let out' = g.O.Sink.faults c.play_if.new.out in
-    later_tells (record { link = link; out = out; disk = g.D.Disk.faults c.args.disk.now }) (record { link = mid_link; out = mid_out; disk = kept }) (record { link = link'; out = out'; disk = kept }) _
+    later_counts (record { link = link; out = out; disk = g.D.Disk.faults c.args.disk.now }) (record { link = mid_link; out = mid_out; disk = kept }) (record { link = link'; out = out'; disk = kept }) _
     (record { link = c.give.ensures.link_falls; out = c.give.ensures.out_falls; disk = c.keep_join.ensures.falls })
     (of_play mid_link link' mid_out out' kept c.play_if.result _ c.in-Err-play_if.fault c.in-Err-play_if.is refl c.play_if.ensures.link_falls c.play_if.ensures.out_falls c.play_if.ensures.link_failed c.play_if.ensures.write_failed)
 

@@ -30,7 +30,7 @@ use Rattle.sg_protocol.specs.Texts.{real, session_id}
 use Rattle.sg_protocol.specs.Named.{HasNamed, names_numbers, IsAnswered, IsNamed, graph_of_call}
 use Rattle.sg_protocol.specs.Verdict.{verdict_on, decided, receipt, rows}
 use Rattle.sg_protocol.specs.World.{World, Logged, Outcome, Answered, bytes_of, call_of, past_of}
-use Rattle.sg_report.proofs.Tellable.{reported-without_numbers}
+use Rattle.sg_report.proofs.NamedAnswers.{reported-without_numbers}
 use Rattle.sg_report.specs.Report.{StepLine}
 use Rattle.sg_report.specs.Reported.{CanBeReported, reported_answer, reported_outcome, reported_after}
 use Rattle.sg_world.specs.Account.{graph_reported, line_of_entry, lines_of, CanBeNamed}

@@ -47,7 +47,7 @@ impl<'p> Server<'p> {
             → Replied (images_if (is_some self.old.ledger) (D.may_leave disk.new)) s self.new (calls s c) result }
     {
         match self.keep_join(outcome, disk) {
-            Ok(()) => self.tell(&None, outcome, graph, None),
+            Ok(()) => self.report(&None, outcome, graph, None),
             Err(fault) => Err(fault),
         }
     }
@@ -78,7 +78,7 @@ impl<'p> Server<'p> {
     }
 
     // Reports the outcome of a call, by the graph of the call, and remembers the frame that it made, if it made one.
-    pub(crate) fn tell(
+    pub(crate) fn report(
         &mut self,
         left: &Option<Sid>,
         outcome: &Outcome,
@@ -92,7 +92,7 @@ impl<'p> Server<'p> {
     {
         let frame = opened(number_of(outcome), frame);
         let copy = copied_if(self.alloc, &frame)?;
-        let line = self.tell_line(left, outcome, graph)?;
+        let line = self.report_line(left, outcome, graph)?;
         self.add_graph(graph)?;
         let session = session_of(left, outcome);
         self.remember(session, frame)?;
@@ -100,7 +100,7 @@ impl<'p> Server<'p> {
     }
 
     // The line of the outcome of a call.
-    fn tell_line(
+    fn report_line(
         &mut self,
         left: &Option<Sid>,
         outcome: &Outcome,
@@ -112,7 +112,7 @@ impl<'p> Server<'p> {
             → (line.items ≡ (step_in p c).line) × RepresentsPlay self.new.player (called p c)) }
         ensures memory { IfErr result (λ e. e ≡ ServeFault.OutOfMemory) }
     {
-        match self.player.tell(*left, graph, outcome) {
+        match self.player.report(*left, graph, outcome) {
             Ok(line) => Ok(line),
             Err(_) => Err(ServeFault::OutOfMemory),
         }

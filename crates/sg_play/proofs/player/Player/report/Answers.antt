@@ -7,8 +7,8 @@ use Rattle.sg_report.specs.Reported.{Reported, session_reported}
 use Rattle.sg_play.specs.declared.player.Player.{Player}
 use Rattle.sg_play.specs.Meeting.{met_more}
 use Rattle.sg_play.specs.Steps.{met_in}
-use Rattle.sg_play.proofs.Telling.{line_is, represents_reported, reported_in, reported_rest}
-use Rattle.sg_play.proofs.player.Player.tell.Goals as goal
+use Rattle.sg_play.proofs.Reporting.{line_is, represents_reported, reported_in, reported_rest}
+use Rattle.sg_play.proofs.player.Player.report.Goals as goal
 
 pub returns-clause-rest : goal.returns-clause-rest
 returns-clause-rest c = reported_rest c.args.self.now c.meet.new.self c.in_ok-number.number c.in_ok-meet.ensures.rest c.in_ok-number.ensures.next

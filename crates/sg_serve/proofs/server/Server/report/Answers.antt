@@ -6,13 +6,13 @@ use Rattle.sg_play.specs.Representation.{RepresentsPlay}
 use Rattle.sg_report.specs.Outcome.{outcome_of}
 use Rattle.sg_serve.specs.declared.server.Server.{Server}
 use Rattle.sg_serve.specs.Serving.{graphs_with, last_of}
-use Rattle.sg_serve.proofs.Telling.{made_is, replied, session_is}
-use Rattle.sg_serve.proofs.server.Server.tell.Goals as goal
+use Rattle.sg_serve.proofs.Reporting.{made_is, replied, session_is}
+use Rattle.sg_serve.proofs.server.Server.report.Goals as goal
 
 pub returns-clause-replied : goal.returns-clause-replied
 returns-clause-replied c = λ s k h leaves.
     let sv = c.args.self.now in
-    let pl = c.tell_line.new.self.player in
+    let pl = c.report_line.new.self.player in
     let reported = outcome_of c.args.outcome.now in
     let graph = option_copied c.args.graph in
     let p = called s.play k in
