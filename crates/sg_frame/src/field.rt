@@ -14,7 +14,7 @@ pub fn bytes<'a>(input: &mut ByteIn<'a>, n: usize) -> Result<&'a [u8], FrameStop
     requires { 1 ≤ n }
     ensures reads { ReadsSeen (λ x. x.now) (any_bytes n) input.old input.new result }
     ensures length { IfOk result (λ x. length x.now ≡ n) }
-    ensures told { result ≢ Err FrameStop.OutOfMemory }
+    ensures early { result ≢ Err FrameStop.OutOfMemory }
 {
     let bytes = input.bytes(n)?;
     Ok(bytes)

@@ -61,7 +61,7 @@ fn read_frame(alloc: Global, input: &mut ByteIn) -> Result<Frame, FrameStop>
 fn read_version(input: &mut ByteIn) -> Result<u8, FrameStop>
     ensures reads { Reads read_version input.old input.new result }
     ensures version { IfOk result IsVersion }
-    ensures told { result ≢ Err FrameStop.OutOfMemory }
+    ensures early { result ≢ Err FrameStop.OutOfMemory }
 {
     let at = input.at();
     let magic = field::bytes(input, 4)?;

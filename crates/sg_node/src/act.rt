@@ -40,7 +40,7 @@ impl<'p> Node<'p> {
             → notes.new ≡ with_notes notes.old (noted_of real (node_of past) (Act sid label (values_of values.now) confounders.now)) }
         ensures back { OnErr result ((self.new ≡ self.old) × (notes.new ≡ notes.old)) }
         // `OutOfMemory` is never inside another fault, and never takes the place of a refusal: memory runs out only for a step that would be sent.
-        ensures told { result ≢ Err (ActFault.Send SendFault.OutOfMemory) }
+        ensures early { result ≢ Err (ActFault.Send SendFault.OutOfMemory) }
         ensures memory { (past : Past) → RepresentsPast self.old past → result ≡ Err ActFault.OutOfMemory
             → is_sending (answer real (node_of past) (Act sid label (values_of values.now) confounders.now)) ≡ true }
     {
@@ -87,7 +87,7 @@ fn keep<'p>(sessions: &mut Sessions<'p>, index: usize, sent: Sent<'p>) -> (Event
 // The fault of an act whose step is not sent.
 fn not_sent(fault: SendFault) -> ActFault
     ensures fault { result ≡ of_send fault }
-    ensures told { result ≢ ActFault.Send SendFault.OutOfMemory }
+    ensures early { result ≢ ActFault.Send SendFault.OutOfMemory }
 {
     match fault {
         SendFault::OutOfMemory => ActFault::OutOfMemory,

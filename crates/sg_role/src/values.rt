@@ -28,7 +28,7 @@ pub(crate) fn check_step(
     values: &[(Var, Value)],
 ) -> Result<(), SendFault>
     ensures right { IfOk result (λ u. first_some (send_rows (state_of kept.now).program (state_of kept.now).held label (values_of values.now)) ≡ None) }
-    ensures told { result ≢ Err SendFault.OutOfMemory }
+    ensures early { result ≢ Err SendFault.OutOfMemory }
     ensures wrong { IfErr result (RefusesToSend (first_some (send_rows (state_of kept.now).program (state_of kept.now).held label (values_of values.now)))) }
 {
     if !leaves(kept, label) {

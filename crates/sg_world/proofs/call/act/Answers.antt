@@ -31,7 +31,7 @@ returns-in-Ok-clause-comes c = λ past represents.
 pub returns-else-lacks-clause-comes : goal.returns-else-lacks-clause-comes
 returns-else-lacks-clause-comes c = λ past represents.
     let ne = λ (e : c.in-Err.fault ≡ acting.OutOfMemory). clash c.is_act_memory-lacks.result (c.is_act_memory-lacks.ensures.1 e) c.if-lacks.false in
-    let unsent = λ (e : c.in-Err.fault ≡ acting.Send sending.OutOfMemory). c.act.ensures.told (c.in-Err.is ∙ ap Err e) in
+    let unsent = λ (e : c.in-Err.fault ≡ acting.Send sending.OutOfMemory). c.act.ensures.early (c.in-Err.is ∙ ap Err e) in
     let other = λ (e : c.act.result ≡ Err acting.OutOfMemory). ne (err_same c.act.result c.in-Err.fault acting.OutOfMemory c.in-Err.is e) in
     let call = Act c.args.sid c.args.label (values_of c.args.values.now) c.args.confounders.now in
     comes_quiet c.args.frame c.args.node.now c.act.new.self past call (option_map NotActed (act_fault c.in-Err.fault)) (option_copied c.graph_of-step_result-inside.result) c.act.new.notes _ _ (c.step_result.view_is ∙ c.requires.blank) c.set_outcome-in-Err.ensures

@@ -28,7 +28,7 @@ returns-in-Err-clause-refused c = λ s represents.
     (subst (λ (z : RoleState). RefusesToSend (first_some (send_rows z.program z.held c.args.label vs)) c.in-Err.fault) (ap state_of c.as_ref-kept.ensures ∙ c.self.view_is) c.in-Err.ensures.wrong)
 
 pub returns-in-Err-clause-memory : goal.returns-in-Err-clause-memory
-returns-in-Err-clause-memory c = λ s represents lacks. absurd (c.in-Err.ensures.told (ap Err lacks))
+returns-in-Err-clause-memory c = λ s represents lacks. absurd (c.in-Err.ensures.early (ap Err lacks))
 
 pub returns-clause-memory : goal.returns-clause-memory
 returns-clause-memory c = λ s represents lacks.
