@@ -29,7 +29,7 @@ use sg_crypt::{Cast, Notes, session_id};
 use sg_frame::{DecodeFault, Frame, decode};
 use sg_keys::Keyring;
 use sg_program::{Program, Programs};
-use sg_role::{Accepted, Before, Taken, examine};
+use sg_role::{Accepted, Before, TurnOrDone, examine};
 use sg_walk::Event;
 
 impl<'p> Node<'p> {
@@ -275,11 +275,11 @@ fn take<'p>(
         Some(Live::Waiting(wait)) => {
             let (event, taken) = wait.accept_unchecked(accepted);
             match taken {
-                Taken::Turn(turn) => {
+                TurnOrDone::Turn(turn) => {
                     sessions.put(index, Live::AtTurn(turn));
                     Ok(event)
                 }
-                Taken::Done(_done) => Ok(event),
+                TurnOrDone::Done(_done) => Ok(event),
             }
         }
         _ => Err(Refusal::NotWaiting),

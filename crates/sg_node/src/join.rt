@@ -16,7 +16,7 @@ use crate::sessions::{Live, Sessions};
 use sg_base::{OutOfMemory, Role, Sid};
 use sg_cache::{Cache, Ticket};
 use sg_crypt::{Cast, Hashed, Notes, session_text};
-use sg_role::{Accepted, Await, Before, Taken, Turn};
+use sg_role::{Accepted, Await, Before, Turn, TurnOrDone};
 use sg_walk::Event;
 use std::alloc::Global;
 
@@ -140,7 +140,7 @@ pub(crate) fn join_session<'p>(
     let Some((event, taken)) = first_receipt(ticket, before, accepted) else {
         return Err(Refusal::OutOfMemory);
     };
-    if let Taken::Turn(turn) = taken {
+    if let TurnOrDone::Turn(turn) = taken {
         sessions.push(sid, role, Live::AtTurn(turn));
     }
     Ok(event)
@@ -168,7 +168,7 @@ fn first_receipt<'p>(
     ticket: Ticket,
     before: Before<'p>,
     accepted: Accepted<'p>,
-) -> Option<(Event, Taken<'p>)>
+) -> Option<(Event, TurnOrDone<'p>)>
     requires ticket { ticket ≡ (before.held.sid, before.held.role) }
     requires waits { role_at (shape before.program.graph) 0 ≢ before.held.role }
     requires origin { before.held.kept.origin ≡ None }

@@ -11,8 +11,8 @@ use Rattle.sg_walk.specs.Model.{event_of}
 use Rattle.sg_role.specs.Model.{RoleState}
 use Rattle.sg_role.specs.declared.sent.Sent.{Sent}
 use Rattle.sg_role.specs.declared.sent.Sent.TheVariants.{Waiting, Ended}
-use Rattle.sg_role.specs.declared.taken.Taken.{Taken}
-use Rattle.sg_role.specs.declared.taken.Taken.TheVariants.{Turn, Done}
+use Rattle.sg_role.specs.declared.turn_or_done.TurnOrDone.{TurnOrDone}
+use Rattle.sg_role.specs.declared.turn_or_done.TurnOrDone.TheVariants.{Turn, Done}
 
 -- what was noted before, and more
 abbrev pub with_notes : Notes → Notes → Notes
@@ -38,6 +38,6 @@ WaitsOrEnds returns state (Waiting a e f) = (returns ≡ true) × (a ≡ state)
 WaitsOrEnds returns state (Ended d e f) = returns ≡ false
 
 -- the role is at its turn with this state if the place leads on, and otherwise has ended
-abbrev pub TurnsOrEnds : Bool → RoleState → Taken → Type 0
+abbrev pub TurnsOrEnds : Bool → RoleState → TurnOrDone → Type 0
 TurnsOrEnds leads_on state (Turn t) = (leads_on ≡ true) × (t ≡ state)
 TurnsOrEnds leads_on state (Done d) = leads_on ≡ false

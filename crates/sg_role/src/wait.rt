@@ -10,7 +10,7 @@ ghost use Rattle.sg_role.specs.Sending.{TurnsOrEnds};
 
 use crate::before::fits;
 use crate::same::same;
-use crate::{Accepted, Before, Done, Taken, Turn};
+use crate::{Accepted, Before, Done, Turn, TurnOrDone};
 use sg_cache::Ticket;
 use sg_walk::Event;
 use std::marker::Model;
@@ -63,7 +63,7 @@ impl<'p> Await<'p> {
     pub fn accept(
         self,
         accepted: Accepted<'p>,
-    ) -> Result<(Event, Taken<'p>), (Await<'p>, Accepted<'p>)>
+    ) -> Result<(Event, TurnOrDone<'p>), (Await<'p>, Accepted<'p>)>
         ensures fits { IsErr result ↔ (accepted.entry.before ≢ self.entry.held) }
         ensures event { IfOk result (λ r. event_of r.0 ≡ accepted.entry.event) }
         ensures taken { IfOk result (λ r. TurnsOrEnds (goes_on accepted.entry.program.graph accepted.entry.after.kept.place) (state_after accepted.entry) r.1) }
@@ -77,16 +77,16 @@ impl<'p> Await<'p> {
     }
 
     /// Takes a frame that was accepted if the role held what it holds. It takes no memory.
-    pub fn accept_unchecked(self, accepted: Accepted<'p>) -> (Event, Taken<'p>)
+    pub fn accept_unchecked(self, accepted: Accepted<'p>) -> (Event, TurnOrDone<'p>)
         requires fits { accepted.before ≡ self.held }
         ensures event { event_of result.0 ≡ accepted.entry.event }
         ensures taken { TurnsOrEnds (goes_on accepted.entry.program.graph accepted.entry.after.kept.place) (state_after accepted.entry) result.1 }
     {
         let Accepted { after, event, .. } = accepted;
         if after.goes_on() {
-            (event, Taken::Turn(Turn { kept: after }))
+            (event, TurnOrDone::Turn(Turn { kept: after }))
         } else {
-            (event, Taken::Done(Done(())))
+            (event, TurnOrDone::Done(Done(())))
         }
     }
 

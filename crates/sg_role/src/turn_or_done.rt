@@ -7,7 +7,7 @@ pub struct Done(pub(crate) ());
 
 /// What becomes of a role that waits and accepts a frame.
 #[derive(Drop)]
-pub enum Taken<'p> {
+pub enum TurnOrDone<'p> {
     /// It is its turn.
     Turn(Turn<'p>),
     /// No edge leaves the node, so the session has ended.
