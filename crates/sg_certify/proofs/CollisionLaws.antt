@@ -51,15 +51,15 @@ met t (a ∷ ts) free = on (met t ts (λ x y i j s. free x y (Contains-append_ri
         ∙ sym (ap (λ b. if b then None else Some a) d)
 
 met_kept : (texts : List (List ℕ)) (table : List (List ℕ × List ℕ)) → Keeps texts table → (t : List ℕ) → find (λ a. collide real a t) texts ≡ other_text (text_under (real t) table) t
-met_kept texts table k t = met t texts ((collision_is_first real texts).0.0 k.free) ∙ ap (λ o. other_text o t) (sym (k.told (real t)))
+met_kept texts table k t = met t texts ((collision_is_first real texts).0.0 k.free) ∙ ap (λ o. other_text o t) (sym (k.found (real t)))
 
 pub keeps_none : Keeps [] []
-keeps_none = record { told = λ h. refl; free = refl }
+keeps_none = record { found = λ h. refl; free = refl }
 
 -- a text more, of which nothing else is known
 pub keeps_more : (texts : List (List ℕ)) (old new : List (List ℕ × List ℕ)) (t : List ℕ) → Keeps texts old → other_text (text_under (real t) old) t ≡ None → ((h : List ℕ) → text_under h new ≡ option_or (text_under h old) (text_if h t)) → Keeps (texts ++ t ∷ []) new
 keeps_more texts old new t k none more = record {
-  told = λ h. more h ∙ ap (λ o. option_or o (text_if h t)) (k.told h) ∙ sym (find-append (λ a. bytes_eq (real a) h) texts (t ∷ []));
+  found = λ h. more h ∙ ap (λ o. option_or o (text_if h t)) (k.found h) ∙ sym (find-append (λ a. bytes_eq (real a) h) texts (t ∷ []));
   free = after-append [] texts (t ∷ []) ∙ ap (λ o. option_or o (collision_after real texts (t ∷ []))) k.free ∙ ap (λ o. option_or (option_map (λ a. (a, t)) o) None) (met_kept texts old k t ∙ none);
 }
 

@@ -19,5 +19,5 @@ text_if h t = if bytes_eq (real t) h then Some t else None
 
 -- under each digest is the first of these texts that has it, and no two of them collide
 pub record Keeps (texts : List (List ℕ)) (table : List (List ℕ × List ℕ)) : Type 0 where
-  pub told : (h : List ℕ) → text_under h table ≡ find (λ a. bytes_eq (real a) h) texts
+  pub found : (h : List ℕ) → text_under h table ≡ find (λ a. bytes_eq (real a) h) texts
   pub free : first_collision real texts ≡ None

@@ -67,7 +67,7 @@ impl<'t> Firsts<'t> {
         digest: &[u8; 32],
     ) -> Result<Option<&'t [u8]>, OutOfMemory>
         requires { digest.now ≡ real text.now }
-        ensures told { IfOk result (λ o. option_copied o ≡ other_text (text_under (real text.now) self.old) text.now) }
+        ensures other { IfOk result (λ o. option_copied o ≡ other_text (text_under (real text.now) self.old) text.now) }
         ensures kept { OnOk result ((h : List ℕ) → text_under h self.new ≡ option_or (text_under h self.old) (text_if h text.now)) }
     {
         let under = Under(*digest);

@@ -19,7 +19,7 @@ told_none size l =
     ]
 
 pub empty_holds : HoldsLabels [] (replicate 512 false)
-empty_holds = record { once = refl; size = length-replicate 512 false; told = λ l. told_none 512 l }
+empty_holds = record { once = refl; size = length-replicate 512 false; entries = λ l. told_none 512 l }
 
 -- a label that isn't there is different from the others
 once_more : (xs : List ℕ) (l : ℕ) → are_once xs ≡ true → is_in l xs ≡ false → are_once (xs ++ l ∷ []) ≡ true
@@ -39,7 +39,7 @@ pub more_holds : (labels : List ℕ) (table : List Bool) (l : ℕ) → HoldsLabe
 more_holds labels table l h n b = record {
   once = once_more labels l h.once n;
   size = length-set table l true ∙ h.size;
-  told = λ k. elim (same_or_not k l) [
+  entries = λ k. elim (same_or_not k l) [
     | inl same ↦
         (let room : l < length table = omega (arith, h.size) in
         let yes : is_in k (labels ++ l ∷ []) ≡ true = is_in-more k l labels ∙ ap (λ z. is_in k labels || z) (eq-eqb l k (sym same)) ∙ or_true (is_in k labels) in
@@ -47,13 +47,13 @@ more_holds labels table l h n b = record {
     | inr other ↦
         (let none : (l == k) ≡ false = grind (arith, nat_tests, other) in
         let same : is_in k (labels ++ l ∷ []) ≡ is_in k labels = is_in-more k l labels ∙ ap (λ z. is_in k labels || z) none ∙ or_false (is_in k labels) in
-        get_or-set_other table l k true false other ∙ h.told k ∙ sym same)
+        get_or-set_other table l k true false other ∙ h.entries k ∙ sym same)
   ];
 }
 
 -- a label past the table isn't there
 pub none_past : (labels : List ℕ) (table : List Bool) (l : ℕ) → HoldsLabels labels table → 512 ≤ l → is_in l labels ≡ false
-none_past labels table l h p = sym (h.told l) ∙ get_or_past table l false (omega (arith, h.size))
+none_past labels table l h p = sym (h.entries l) ∙ get_or_past table l false (omega (arith, h.size))
 
 is_in-get_or : (xs : List ℕ) (k d : ℕ) → k < length xs → is_in (get_or xs k d) xs ≡ true
 is_in-get_or [] k d l = absurd (omega arith)

@@ -7,4 +7,4 @@ use Rattle.sg_claims.specs.Labels.{are_once}
 pub record HoldsLabels (labels : List ℕ) (table : List Bool) : Type 0 where
   pub once : IsTrue (are_once labels)
   pub size : length table ≡ 512
-  pub told : (l : ℕ) → get_or table l false ≡ is_in l labels
+  pub entries : (l : ℕ) → get_or table l false ≡ is_in l labels

@@ -100,7 +100,7 @@ pub trait Disk {
     ghost read_is_image: { (disk : Self) (file : List ℕ) → seen disk ≡ Some file → may_leave disk file };
 
     /// If an image is known, so are the bytes as read.
-    ghost told: { (disk : Self) (image : List ℕ) → may_leave disk image → (file : List ℕ) × (seen disk ≡ Some file) };
+    ghost is_seen: { (disk : Self) (image : List ℕ) → may_leave disk image → (file : List ℕ) × (seen disk ≡ Some file) };
 
     /// This moment is one of those since an earlier one.
     ghost counts_now: { (disk : Self) (t : ℕ) (image : List ℕ) → t ≤ moment disk → may_leave disk image → left_since disk t image };

@@ -102,7 +102,7 @@ impl<R: rt::Files<File = File> + Drop> Disk for FileDisk<R> {
 
     ghost read_is_image = { λ _ file is. never_seen file is };
 
-    ghost told = { λ _ _ left. absurd left };
+    ghost is_seen = { λ _ _ left. absurd left };
 
     ghost counts_now = { λ _ _ _ _ left. left };
 

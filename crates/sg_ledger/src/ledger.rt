@@ -245,7 +245,7 @@ fn read_file<D: Disk>(alloc: Global, disk: &mut D) -> Result<Vec<u8>, OpenFault>
     ensures kept_bound { D.bound disk.new ≡ D.bound disk.old }
     ensures failed { result ≡ Err OpenFault.Failed → HasRisen (D.faults disk.old) (D.faults disk.new) }
     ensures length { IfOk result (λ file. length file.items ≡ 2228232) }
-    ensures told { IfOk result (λ file. IfSeen (D.seen disk.old) (λ seen. file.items ≡ seen)) }
+    ensures seen { IfOk result (λ file. IfSeen (D.seen disk.old) (λ seen. file.items ≡ seen)) }
     ensures refused { IfErr result (λ e. IfSeen (D.seen disk.old) (λ seen. Refuses seen e)) }
     ensures images { IfOk result (λ file. (image : List ℕ) → D.may_leave disk.new image → image ≡ file.items) }
     ensures kept { D.seen disk.new ≡ D.seen disk.old }

@@ -132,7 +132,7 @@ impl Disk for MemDisk {
 
     ghost read_is_image = { λ d file is. seen_is_image d.medium file is };
 
-    ghost told = { λ d image left. ((platter d.medium).seen, refl) };
+    ghost is_seen = { λ d image left. ((platter d.medium).seen, refl) };
 
     ghost counts_now = { λ d t image le left. now_counts d.medium t image le left };
 

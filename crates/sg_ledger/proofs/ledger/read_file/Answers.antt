@@ -7,8 +7,8 @@ use Rattle.sg_ledger.proofs.ledger.read_file.Goals as goal
 whole : (file : List ℕ) (count : ℕ) → count ≡ length file → take count file ≡ file
 whole file count is = take_all count file (omega (arith, is))
 
-pub returns-in-Ok-read-clause-told : goal.returns-in-Ok-read-clause-told
-returns-in-Ok-read-clause-told g c = λ file is.
+pub returns-in-Ok-read-clause-seen : goal.returns-in-Ok-read-clause-seen
+returns-in-Ok-read-clause-seen g c = λ file is.
     let size = c.in-Ok-size.ensures.length file (c.sync.ensures.kept ∙ is) in
     let bytes = c.in-Ok-read.ensures.bytes file (c.size.ensures.kept ∙ c.sync.ensures.kept ∙ is) in
     bytes ∙ whole file _ (sym c.if-size-eq-FILE.true ∙ size)
@@ -17,7 +17,7 @@ pub returns-in-Ok-read-clause-images : goal.returns-in-Ok-read-clause-images
 returns-in-Ok-read-clause-images g c = λ image left.
     let then_left = c.size.ensures.images image (c.read.ensures.images image left) in
     let seen = c.in-Ok.ensures.durable image then_left in
-    sym {A = List ℕ} (returns-in-Ok-read-clause-told g c image (sym c.sync.ensures.kept ∙ seen))
+    sym {A = List ℕ} (returns-in-Ok-read-clause-seen g c image (sym c.sync.ensures.kept ∙ seen))
 
 pub returns-in-Ok-read-clause-any_moment : goal.returns-in-Ok-read-clause-any_moment
 returns-in-Ok-read-clause-any_moment g c =

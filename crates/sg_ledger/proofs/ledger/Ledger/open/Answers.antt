@@ -11,13 +11,13 @@ returns-in-Err-clause-represents g c = λ joins file is represents. (tt, no_refu
 pub returns-in-Ok-read_slots-clause-represents : goal.returns-in-Ok-read_slots-clause-represents
 returns-in-Ok-read_slots-clause-represents g c = λ joins file is represents.
     let read : SlotsRepresent c.in-Ok.file.items 65536 c.in-Ok-read_slots.joins.keys = subst (λ (f : List ℕ). SlotsRepresent f 65536 c.in-Ok-read_slots.joins.keys) c.deref-2.ensures.value c.in-Ok-read_slots.ensures.joins in
-    (only_joins file 65536 c.in-Ok-read_slots.joins.keys joins (subst (λ (f : List ℕ). SlotsRepresent f 65536 c.in-Ok-read_slots.joins.keys) (c.in-Ok.ensures.told file is) read) represents.slots, tt)
+    (only_joins file 65536 c.in-Ok-read_slots.joins.keys joins (subst (λ (f : List ℕ). SlotsRepresent f 65536 c.in-Ok-read_slots.joins.keys) (c.in-Ok.ensures.seen file is) read) represents.slots, tt)
 
 pub returns-clause-refused : goal.returns-clause-refused
 returns-clause-refused g c = λ file is.
     let head : take 8 c.in-Ok.file.items ≡ magic = subst (λ (f : List ℕ). take 8 f ≡ magic) c.deref.ensures.value (c.has_head.ensures.0 (let found = c.if-not-has_head.false in search rules)) in
     let ledger : IsLedger c.in-Ok.file.items = (c.in-Ok.ensures.length, head) in
-    subst (λ (f : List ℕ). Refuses f c.in-Err-read_slots.fault) (c.in-Ok.ensures.told file is)
+    subst (λ (f : List ℕ). Refuses f c.in-Err-read_slots.fault) (c.in-Ok.ensures.seen file is)
     (slots_refused c.in-Ok.file.items c.in-Err-read_slots.fault ledger
     (subst (λ (f : List ℕ). RefusesSlots f c.in-Err-read_slots.fault) c.deref-2.ensures.value c.in-Err-read_slots.ensures.bad))
 
