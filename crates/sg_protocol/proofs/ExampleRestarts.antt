@@ -83,8 +83,8 @@ path : OnePath pair (λ r. true) (events_of sid world.log) (record { label = 0; 
 path = record {
   taken = true;
   walk = record { walk = (lit< tt, refl, tt); values = ((refl, refl), tt) };
-  held = refl;
+  ends_honest = refl;
   explained = refl;
-  awaited = λ e. cc;
+  may_come = λ e. cc;
   hidden = refl;
 }

@@ -82,9 +82,9 @@ honest_path = record {
     walk = (lit< tt, refl, (lit< tt, refl, (lit< tt, refl, (lit< tt, refl, (lit< tt, refl, (lit< tt, refl, (lit< tt, refl, (lit< tt, refl, tt))))))));
     values = ((refl, refl), ((refl, refl), ((refl, refl), ((refl, refl), ((refl, refl), ((refl, refl), ((refl, refl), ((refl, refl), tt))))))));
   };
-  held = refl;
+  ends_honest = refl;
   explained = refl;
-  awaited = λ e. cc;
+  may_come = λ e. cc;
   hidden = refl;
 }
 

@@ -265,9 +265,9 @@ one_path g honest commit moves events is f same typed = record {
     walk = subst (Walk (shape g) 0) (sym (labels_same f.steps ∙ ap (λ l. map (λ (t : TimedLabel). t.label) l) f.same)) f.plain.walk;
     values = typed_steps g honest (writes_rise g is) f.early nothing_stored f.steps f.names (subst (AllByRecursion (TypedDeed g honest)) (sym f.done) typed) f.exact;
   };
-  held = subst (λ o. IfSome o (λ s. IsTrue (honest (sender (shape g) s.label) || honest (receiver (shape g) s.label)))) (sym (last_steps f.steps)) (held_of (last f.steps) f.ends);
+  ends_honest = subst (λ o. IfSome o (λ s. IsTrue (honest (sender (shape g) s.label) || honest (receiver (shape g) s.label)))) (sym (last_steps f.steps)) (held_of (last f.steps) f.ends);
   explained = same ∙ ap (flat_map (acts_of g)) (sym f.done) ∙ acts_same g honest f.early nothing_stored [] (λ x. refl) f.steps;
-  awaited = λ e. subst (λ o. IfSome o (λ s. IsTrue (honest (sender (shape g) s.label) && honest (receiver (shape g) s.label)))) (sym (last_steps f.steps)) (awaited_of (last f.steps) (f.to_come (not-false f.early e)));
+  may_come = λ e. subst (λ o. IfSome o (λ s. IsTrue (honest (sender (shape g) s.label) && honest (receiver (shape g) s.label)))) (sym (last_steps f.steps)) (awaited_of (last f.steps) (f.to_come (not-false f.early e)));
   hidden = hidden_steps g honest (writes_rise g is) f.early f.steps f.names f.exact;
 }
   where

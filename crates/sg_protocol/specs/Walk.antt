@@ -95,8 +95,8 @@ pub record OnePath (g : Graph) (honest : ℕ → Bool) (events : List Event) (st
   pub taken : Bool
   pub walk : IsStoredWalk g steps
   -- an honest role sent or received the last step
-  pub held : IfSome (last steps) (λ s. IsTrue (honest (sender (shape g) s.label) || honest (receiver (shape g) s.label)))
+  pub ends_honest : IfSome (last steps) (λ s. IsTrue (honest (sender (shape g) s.label) || honest (receiver (shape g) s.label)))
   pub explained : flat_map acts_of_event events ≡ honest_acts g honest taken [] steps
   -- only a receipt by an honest role from an honest role may be still to come
-  pub awaited : taken ≡ false → IfSome (last steps) (λ s. IsTrue (honest (sender (shape g) s.label) && honest (receiver (shape g) s.label)))
+  pub may_come : taken ≡ false → IfSome (last steps) (λ s. IsTrue (honest (sender (shape g) s.label) && honest (receiver (shape g) s.label)))
   pub hidden : IsTrue (are_hidden g honest taken steps)

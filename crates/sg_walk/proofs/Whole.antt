@@ -49,7 +49,7 @@ path_none g honest events steps sent received ends n s o =
   where
     case : (o.taken ≡ true) ⊎ (o.taken ≡ false) → (IsTrue (sent && received) ↔ IfSome (last steps) (λ s. IsTrue (honest (sender (shape g) s.label) && honest (receiver (shape g) s.label)))) → ⊥
     case (inl t) both = n (subst (λ t. flat_map acts_of_event events ≡ honest_acts g honest t [] steps) t o.explained, subst (λ t. IsTrue (are_hidden g honest t steps)) t o.hidden)
-    case (inr f) both = let z : true ≡ false = sym (both.1 (o.awaited f)) ∙ s in absurd (cc)
+    case (inr f) both = let z : true ≡ false = sym (both.1 (o.may_come f)) ∙ s in absurd (cc)
 
 -- neither is both if one is missing
 pub and_left : (a b : Bool) → a ≡ false → (a && b) ≡ false
