@@ -21,8 +21,8 @@ use Rattle.sg_apart.specs.Lives.{IsLaterLife, IsOnePast, LivesAreOnePast, abando
 abbrev Ranged : AnsweredCall → Type 0
 Ranged c = IsCallInRange c.call
 
-abbrev told : List AnsweredCall → List Event
-told cs = flat_map (λ (c : AnsweredCall). events_of_answer c.answer) cs
+abbrev events_in : List AnsweredCall → List Event
+events_in cs = flat_map (λ (c : AnsweredCall). events_of_answer c.answer) cs
 
 -- ---- calls, one list after another
 
@@ -53,9 +53,9 @@ abandoned_ranged : (live : List Session) → AllByRecursion Ranged (abandoned li
 abandoned_ranged [] = tt
 abandoned_ranged (x ∷ xs) = (tt, abandoned_ranged xs)
 
-abandoned_told : (live : List Session) → told (abandoned live) ≡ []
-abandoned_told [] = refl
-abandoned_told (x ∷ xs) = abandoned_told xs
+abandoned_events : (live : List Session) → events_in (abandoned live) ≡ []
+abandoned_events [] = refl
+abandoned_events (x ∷ xs) = abandoned_events xs
 
 -- ---- one life more
 
@@ -76,10 +76,10 @@ module _ (sha : Hash) (p q : Past) (honest : IsHonest sha p) (later : IsLaterLif
   both_node : node_of both ≡ node_of q
   both_node = after-append (new_node p.keys p.programs p.first) p.calls (abandoned (node_of p).live ++ q.calls) ∙ after-append (node_of p) (abandoned (node_of p).live) q.calls ∙ ap (λ n. node_after_all n q.calls) begins
 
-  both_told : told both.calls ≡ told p.calls ++ told q.calls
-  both_told =
+  both_events : events_in both.calls ≡ events_in p.calls ++ events_in q.calls
+  both_events =
       flat_map-append (λ (c : AnsweredCall). events_of_answer c.answer) p.calls (abandoned (node_of p).live ++ q.calls)
-      ∙ ap (λ l. told p.calls ++ l) (flat_map-append (λ (c : AnsweredCall). events_of_answer c.answer) (abandoned (node_of p).live) q.calls ∙ ap (λ l. l ++ told q.calls) (abandoned_told (node_of p).live))
+      ∙ ap (λ l. events_in p.calls ++ l) (flat_map-append (λ (c : AnsweredCall). events_of_answer c.answer) (abandoned (node_of p).live) q.calls ∙ ap (λ l. l ++ events_in q.calls) (abandoned_events (node_of p).live))
 
   both_honest : IsHonest sha both
   both_honest = record {
@@ -94,7 +94,7 @@ all_later p p' k e [] a = tt
 all_later p p' k e (q ∷ qs) a = (record { keys = (a.0).keys ∙ sym k; programs = (a.0).programs ∙ sym e; calls = (a.0).calls }, all_later p p' k e qs a.1)
 
 all_lives : (sha : Hash) (p : Past) (qs : List Past) → IsHonest sha p → AllByRecursion (IsLaterLife p) qs → AreLives sha (node_of p).joins qs → IsOnePast sha (one_past p qs) (p ∷ qs)
-all_lives sha p [] honest later lives = record { honest = honest; events = sym (right_nil (told p.calls)) }
+all_lives sha p [] honest later lives = record { honest = honest; events = sym (right_nil (events_in p.calls)) }
   where
     right_nil : (xs : List Event) → xs ++ [] ≡ xs
     right_nil [] = refl
@@ -105,7 +105,7 @@ all_lives sha p (q ∷ qs) honest later lives =
     (subst (λ (n : Node). AreLives sha n.joins qs) (sym (both_node sha p q honest later.0 lives.0 lives.1)) lives.2) in
     record {
       honest = rest.honest;
-      events = rest.events ∙ ap (λ l. l ++ events_of_lives qs) (both_told sha p q honest later.0 lives.0 lives.1) ∙ append_assoc (told p.calls) (told q.calls) (events_of_lives qs);
+      events = rest.events ∙ ap (λ l. l ++ events_of_lives qs) (both_events sha p q honest later.0 lives.0 lives.1) ∙ append_assoc (events_in p.calls) (events_in q.calls) (events_of_lives qs);
     }
 
 pub lives_are_one_past : (sha : Hash) → LivesAreOnePast sha

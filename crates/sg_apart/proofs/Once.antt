@@ -23,7 +23,7 @@ use Rattle.sg_protocol.proofs.Joins.{nodes_join_once}
 use Rattle.sg_protocol.proofs.Whole.{found_in}
 use Rattle.sg_law.proofs.Members.{rec_in}
 use Rattle.sg_apart.specs.Apart.{Begins, CallAt, names_of, world_called, world_after_calls, run_apart}
-use Rattle.sg_apart.specs.Laws.{NoneJoinsTwiceApart, PastsRunApart, AnsweredAt, as_begun, asked, own_calls, told_of}
+use Rattle.sg_apart.specs.Laws.{NoneJoinsTwiceApart, PastsRunApart, AnsweredAt, as_begun, asked, own_calls, answered_of}
 
 -- ---- joins
 
@@ -92,8 +92,8 @@ abbrev finished : List AnsweredAt → Past → Past
 finished cs q = record q { calls = q.calls ++ own_calls q.keys.me cs }
 
 -- what is said of a call
-abbrev said : AnsweredAt → Option Name × Option Call × Outcome
-said a = (Some a.who, Some (a.answered).call, Answered (a.answered).answer)
+abbrev as_answered : AnsweredAt → Option Name × Option Call × Outcome
+as_answered a = (Some a.who, Some (a.answered).call, Answered (a.answered).answer)
 
 module _ (sha : Hash) where
   -- the principal's own ones of these calls are answered as its node answers
@@ -138,8 +138,8 @@ module _ (sha : Hash) where
   finished_none (q ∷ qs) = ap (λ l. record q { calls = l } ∷ qs) (sym (append-nil q.calls)) ∙ ap (λ l. finished [] q ∷ l) (finished_none qs)
 
   all_run : (w : World) (k : ℕ) (cs : List AnsweredAt) → AllByRecursion (λ (a : AnsweredAt). has_text a.who (names_of w.pasts) ≡ true) cs → AllByRecursion (Answers cs) w.pasts
-      → ((world_after_calls sha w k (map asked cs)).pasts ≡ map (finished cs) w.pasts) × (map told_of (world_after_calls sha w k (map asked cs)).log ≡ map told_of w.log ++ map said cs)
-  all_run w k [] whose h = (finished_none w.pasts, sym (append-nil (map told_of w.log)))
+      → ((world_after_calls sha w k (map asked cs)).pasts ≡ map (finished cs) w.pasts) × (map answered_of (world_after_calls sha w k (map asked cs)).log ≡ map answered_of w.log ++ map as_answered cs)
+  all_run w k [] whose h = (finished_none w.pasts, sym (append-nil (map answered_of w.log)))
   all_run w k (a ∷ cs) whose h =
       let t = there w.pasts a.who whose.0 in
       let is : world_called sha w k (asked a) ≡ called sha w k a.who (a.answered).call t.0 = ap (λ o. option_map_or (called sha w k a.who (a.answered).call) o w) t.1 in
@@ -148,7 +148,7 @@ module _ (sha : Hash) where
       let next_ = all_pasts a cs w.pasts h in
       let r = all_run (called sha w k a.who (a.answered).call t.0) (k + 1) cs (subst (λ ns. AllByRecursion (λ (a : AnsweredAt). has_text a.who ns ≡ true) cs) (sym (names_next sha a.who (a.answered).call w.pasts)) whose.1) next_.0 in (
         ap (λ z. (world_after_calls sha z (k + 1) (map asked cs)).pasts) is ∙ r.0 ∙ next_.1,
-        ap (λ z. map told_of (world_after_calls sha z (k + 1) (map asked cs)).log) is ∙ r.1 ∙ ap (λ l. l ++ map said cs) (map-append told_of w.log _ ∙ ap (λ z. map told_of w.log ++ (Some a.who, Some (a.answered).call, Answered z) ∷ []) (sym e)) ∙ append_assoc (map told_of w.log) (said a ∷ []) (map said cs),
+        ap (λ z. map answered_of (world_after_calls sha z (k + 1) (map asked cs)).log) is ∙ r.1 ∙ ap (λ l. l ++ map as_answered cs) (map-append answered_of w.log _ ∙ ap (λ z. map answered_of w.log ++ (Some a.who, Some (a.answered).call, Answered z) ∷ []) (sym e)) ∙ append_assoc (map answered_of w.log) (as_answered a ∷ []) (map as_answered cs),
       )
 
 pub pasts_run_apart : (sha : Hash) → PastsRunApart sha

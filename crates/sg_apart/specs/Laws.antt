@@ -57,14 +57,14 @@ pub record IsOrder (ps : List Past) (calls : List AnsweredAt) : Type 0 where
   pub own : All (λ p. own_calls p.keys.me calls ≡ p.calls) ps
 
 -- what a log says of a call
-abbrev pub told_of : Logged → Option Name × Option Call × Outcome
-told_of l = (l.who, l.call, l.outcome)
+abbrev pub answered_of : Logged → Option Name × Option Call × Outcome
+answered_of l = (l.who, l.call, l.outcome)
 
 -- Pasts whose answers are those of their nodes are those of the run of their calls, in whatever order these happened, with these answers
 abbrev pub PastsRunApart : Hash → Type 0
 PastsRunApart sha = (ps : List Past) (calls : List AnsweredAt) → IsOrder ps calls → All (λ p. AreAnswers sha (new_node p.keys p.programs p.first) p.calls) ps →
     let w = run_apart sha (map as_begun ps) (map asked calls) in
-    (w.pasts ≡ ps) × (map told_of w.log ≡ map (λ a. (Some a.who, Some (a.answered).call, Answered (a.answered).answer)) calls)
+    (w.pasts ≡ ps) × (map answered_of w.log ≡ map (λ a. (Some a.who, Some (a.answered).call, Answered (a.answered).answer)) calls)
 
 -- The past of an honest principal: its programs are programs, the joins that it began with differ, its calls were in range, and each was answered as its node answers
 pub record IsHonest (sha : Hash) (p : Past) : Type 0 where

@@ -9,7 +9,7 @@ use Rattle.sg_ledger.specs.Format.{Join, Represents, pair_of, pairs_of, slot_of}
 use Rattle.sg_protocol.proofs.ReadBack.{read-SpellsFrame}
 use Rattle.sg_protocol.specs.Frame.{Frame, tag_len}
 use Rattle.sg_protocol.specs.Spelling.{item_bytes, join_bytes, join_code, magic, opening_bytes, spelling, u8, u16}
-use Rattle.sg_keep.specs.Laws.{FramesTellTheirJoins}
+use Rattle.sg_keep.specs.Laws.{FramesShowTheirJoins}
 
 -- ---- the joins that a file represents
 
@@ -63,8 +63,8 @@ pair_at f long =
     let sender : get_or (drop 5 (spelling f)) 32 0 ≡ f.sender = ap (λ (bs : List ℕ). get_or bs 32 0) five ∙ ap (λ (n : ℕ). get_or inner n 0) (sym long) ∙ get_or-append_seam f.sid f.sender (behind f) 0 in
     λ i. (sid i, sender i)
 
-pub frames_tell : FramesTellTheirJoins
-frames_tell file bytes opened made f represents is all r =
+pub frames_show : FramesShowTheirJoins
+frames_show file bytes opened made f represents is all r =
     let g = is.0 in
     let found = read-SpellsFrame bytes f all r in
     let long = join_long file (opened ++ made) (g.sid, g.sender) represents (Contains-append_right opened made (g.sid, g.sender) is.2) in

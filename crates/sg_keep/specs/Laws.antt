@@ -14,5 +14,5 @@ abbrev pub JoinsOfNode : Type 0
 JoinsOfNode = (past : Past) → IsAnsweredPast past → (node_of past).joins ≡ past.first ++ joins_made past.calls
 
 -- If a file represents joins, and bytes are a frame of one of the later of these, what is read of the bytes has its session and its sender among them
-abbrev pub FramesTellTheirJoins : Type 0
-FramesTellTheirJoins = (file bytes : List ℕ) (opened made : List Join) (f : Frame) → Represents file (opened ++ made) → IsOfJoin made bytes → IsBytes bytes → read bytes ≡ Ok f → Contains made (f.sid, f.sender)
+abbrev pub FramesShowTheirJoins : Type 0
+FramesShowTheirJoins = (file bytes : List ℕ) (opened made : List Join) (f : Frame) → Represents file (opened ++ made) → IsOfJoin made bytes → IsBytes bytes → read bytes ≡ Ok f → Contains made (f.sid, f.sender)

@@ -21,5 +21,5 @@ mod run;
 
 pub use fault::KeepFault;
 pub use keeper::add_join;
-pub use laws::{frames_tell_their_joins, joins_of_a_node};
+pub use laws::{frames_show_their_joins, joins_of_a_node};
 pub use run::keep;

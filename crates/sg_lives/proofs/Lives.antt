@@ -12,7 +12,7 @@ use Rattle.sg_protocol.specs.NodeAfter.{node_after}
 use Rattle.sg_protocol.specs.Restarts.{AreLives, joined_by, reported_in_lives}
 use Rattle.sg_protocol.specs.Texts.{Hash, real}
 use Rattle.sg_protocol.proofs.ReportedLives.{reported_join_once}
-use Rattle.sg_lives.specs.LedgerRuns.{LedgerRun, AreRuns, reported_in_runs, RunsAreLives, RunsTellJoinsOnce}
+use Rattle.sg_lives.specs.LedgerRuns.{LedgerRun, AreRuns, reported_in_runs, RunsAreLives, RunsReportJoinsOnce}
 use Rattle.sg_lives.proofs.NodeJoins.{joins_after_all}
 
 take_within : {A : Type 0} (n : ℕ) (xs ys : List A) → n ≤ length xs → take n (xs ++ ys) ≡ take n xs
@@ -56,7 +56,7 @@ runs_are_lives opened (r ∷ rs) h =
           ∙ ap (λ es. flat_map (λ (c : AnsweredCall). events_of_answer c.answer) (take r.reported past.calls) ++ es) rest.2,
     )
 
-pub runs_tell_joins_once : RunsTellJoinsOnce
-runs_tell_joins_once opened runs h =
+pub runs_report_joins_once : RunsReportJoinsOnce
+runs_report_joins_once opened runs h =
     let l = runs_are_lives opened runs h in
     subst (λ (es : List Event). IsTrue (pairs_differ (joined_by es)) × All (λ (j : Join). has_joined opened j.0 j.1 ≡ false) (joined_by es)) l.2 (reported_join_once real opened l.0 l.1)

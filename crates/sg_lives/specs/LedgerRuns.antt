@@ -39,8 +39,8 @@ abbrev pub RunsAreLives : Type 0
 RunsAreLives = (opened : List Join) (runs : List LedgerRun) → AreRuns opened runs → (lives : List (ℕ × Past)) × AreLives real opened (map (λ (l : ℕ × Past). l.1) lives) × (reported_in_lives lives ≡ reported_in_runs runs)
 
 -- So what runs over one ledger reported has no two joins of one pair, and none of a pair that the ledger was first opened with
-abbrev pub RunsTellJoinsOnce : Type 0
-RunsTellJoinsOnce = (opened : List Join) (runs : List LedgerRun) → AreRuns opened runs →
+abbrev pub RunsReportJoinsOnce : Type 0
+RunsReportJoinsOnce = (opened : List Join) (runs : List LedgerRun) → AreRuns opened runs →
     IsTrue (pairs_differ (joined_by (reported_in_runs runs))) × All (λ (j : Join). has_joined opened j.0 j.1 ≡ false) (joined_by (reported_in_runs runs))
 
 -- However a run of `keep` ended, an image that a crash may then leave of the disk is left by such a run, of its play's past

@@ -4,14 +4,14 @@
 //! does nothing, and its contract is the statement.
 #![tactic(auto)]
 
-ghost use Rattle.sg_lives.specs.LedgerRuns.{KeptIsRun, RunsAreLives, RunsTellJoinsOnce};
+ghost use Rattle.sg_lives.specs.LedgerRuns.{KeptIsRun, RunsAreLives, RunsReportJoinsOnce};
 
 /// Runs over one ledger, each of which opens what the one before left, are lives of one principal, each of the first calls of its
 /// run: of all that the run reported, and maybe of more, whose lines a crash cut off. So what all of them reported has no two joins of one
 /// pair, and none that the ledger was first opened with.
 pub fn runs_are_lives()
     ensures lives { RunsAreLives }
-    ensures reported { RunsTellJoinsOnce }
+    ensures reported { RunsReportJoinsOnce }
 {}
 
 /// However a run of `keep` ended, what a crash may then leave of the disk is left by a run over the ledger: its node had joined
