@@ -40,7 +40,7 @@ pub disagrees : (g : Graph) (logs : List Log) (reported : Option (List StoredSte
     → (steps : List StoredStep) → IsAsked reported steps → Agree g logs steps → ⊥
 disagrees g logs None merged first is a m e unlike steps q w =
     let p = agree_path g logs merged steps m w in
-    let s : steps ≡ first = sends_alone g (λ r. is_in r (roles_of logs)) merged steps is (a.untold refl) p ∙ sym e in
+    let s : steps ≡ first = sends_alone g (λ r. is_in r (roles_of logs)) merged steps is (a.unknown refl) p ∙ sym e in
     unlike (subst (λ z. OnePath g (λ r. is_in r (roles_of logs)) merged z) s p)
 disagrees g logs (Some t) merged first is a m e unlike steps q w =
     let p = agree_path g logs merged steps m w in

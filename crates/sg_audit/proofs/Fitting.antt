@@ -93,15 +93,15 @@ prefix g (k ∷ ks) l h = let r = prefix g ks l h.1 in ((h.0, r.0), r.1)
 closed : (g : Graph) (d : SoFar) → Fine g d → is_whole g d ≡ true → AllByRecursion (Fit g) (all_sessions d)
 closed g d f w = by d.name refl d.walk refl
   where
-    told : (o : Option Name) → d.name ≡ o → d.walk ≡ None → is_none o ≡ false → AllHaveLogs g (all_logs d)
-    told o e n s r l =
+    named : (o : Option Name) → d.name ≡ o → d.walk ≡ None → is_none o ≡ false → AllHaveLogs g (all_logs d)
+    named o e n s r l =
         let w' : (is_none o || false || all_have_logs g d) ≡ true = subst (λ k. (is_none o || is_some k || all_have_logs g d) ≡ true) n (subst (λ m. (is_none m || is_some d.walk || all_have_logs g d) ≡ true) e w) in
         let h : all_have_logs g d ≡ true = rw s at w' in
         sym (f.roles r) ∙ range_all (λ r. is_in r d.roles) 0 (length g.roles) h r (omega arith) (omega arith)
 
     by : (o : Option Name) → d.name ≡ o → (k : Option (List StoredStep)) → d.walk ≡ k → AllByRecursion (Fit g) (all_sessions d)
     by None e k q = rw e f.done
-    by (Some n) e k q = rw e (all_append (Fit g) d.done (record { name = n; logs = all_logs d; walk = d.walk }) f.done (record { differ = f.differ; each = f.each; untold = λ z. told (Some n) e z refl }))
+    by (Some n) e k q = rw e (all_append (Fit g) d.done (record { name = n; logs = all_logs d; walk = d.walk }) f.done (record { differ = f.differ; each = f.each; unknown = λ z. named (Some n) e z refl }))
 
 -- ---- lines
 

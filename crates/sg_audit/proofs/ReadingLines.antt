@@ -10,7 +10,7 @@ use Rattle.sg_audit.specs.LineContents.{LogContent}
 use Rattle.sg_audit.specs.Reading.{form}
 use Rattle.sg_audit.specs.Sessions.{Logs, LogsSoFar, sessions_of, added}
 use Rattle.sg_audit.specs.Faults.{fault, is_whole as is_over}
-use Rattle.sg_audit.specs.Spells.{Tell, Nothing, Skip, Say, Fault, WrongLine}
+use Rattle.sg_audit.specs.Spells.{AreLogsOf, Nothing, Skip, Say, Fault, WrongLine}
 use Rattle.sg_audit.specs.SoFar.{SoFar, nothing, is_whole, add}
 use Rattle.sg_audit.specs.Read.{add_line, unless_wrong, read_sessions}
 use Rattle.sg_audit.specs.declared.fault.Mistake.{Mistake}
@@ -65,7 +65,7 @@ goes_on g ls l d e h a n rest =
     let number : n + length ls + 1 ≡ n + length (ls ++ l ∷ []) = omega (arith, long) in
     ap (read_sessions g n nothing) (append_assoc ls (l ∷ []) rest) ∙ h n (l ∷ rest) ∙ ap (λ r. unless_wrong (n + length ls) r (λ d'. read_sessions g (n + length ls + 1) d' rest)) a ∙ ap (λ m. read_sessions g m e rest) number
 
-pub reached : (g : Graph) (ls : List Line) (t : LogsSoFar) → IsGraph g → Tell g ls t → Reached g ls t
+pub reached : (g : Graph) (ls : List Line) (t : LogsSoFar) → IsGraph g → AreLogsOf g ls t → Reached g ls t
 reached g _ _ is Nothing = record {
   state = nothing;
   fine = nothing_fine g;
@@ -73,15 +73,15 @@ reached g _ _ is Nothing = record {
   so_far = refl;
   reads = λ n rest. ap (λ m. read_sessions g m nothing rest) (let z : n ≡ n + 0 = omega arith in z);
 }
-reached g _ _ is (Skip {ls = ls} {t = t} l tell s) = let r = reached g ls t is tell in record {
+reached g _ _ is (Skip {ls = ls} {t = t} l logs s) = let r = reached g ls t is logs in record {
   state = r.state;
   fine = r.fine;
   keeps = r.keeps;
   so_far = r.so_far;
   reads = goes_on g ls l r.state r.state r.reads (skip_line g r.state l s);
 }
-reached g _ _ is (Say {ls = ls} {t = t} l s tell n says right) =
-    let r = reached g ls t is tell in
+reached g _ _ is (Say {ls = ls} {t = t} l s logs n says right) =
+    let r = reached g ls t is logs in
     let said = form_ok g (words (content l)) s says in
     let none : fault g (so_far_by r.state) s ≡ None = ap (λ x. fault g x s) r.so_far ∙ right in
     record {
@@ -96,22 +96,22 @@ reached g _ _ is (Say {ls = ls} {t = t} l s tell n says right) =
 
 -- how the lines behind a block end, if the first has this number
 pub data Ends (g : Graph) (n : ℕ) (ls : List Line) : Result Logs Fault → Type 0 where
-  Well : (t : LogsSoFar) → Tell g ls t → is_over g t ≡ true → Ends g n ls (Ok (record { graph = g; sessions = sessions_of t }))
-  Few : (t : LogsSoFar) → Tell g ls t → is_over g t ≡ false → Ends g n ls (Err (WrongLine (n + length ls) Form))
-  Formless : (t : LogsSoFar) (right rest : List Line) (line : Line) → ls ≡ right ++ line ∷ rest → Tell g right t → is_skipped line ≡ false → form g (words (content line)) ≡ None → Ends g n ls (Err (WrongLine (n + length right) Form))
-  Faulty : (t : LogsSoFar) (right rest : List Line) (line : Line) (said : LogContent) {kind : Mistake} → ls ≡ right ++ line ∷ rest → Tell g right t → is_skipped line ≡ false → form g (words (content line)) ≡ Some said
+  Well : (t : LogsSoFar) → AreLogsOf g ls t → is_over g t ≡ true → Ends g n ls (Ok (record { graph = g; sessions = sessions_of t }))
+  Few : (t : LogsSoFar) → AreLogsOf g ls t → is_over g t ≡ false → Ends g n ls (Err (WrongLine (n + length ls) Form))
+  Formless : (t : LogsSoFar) (right rest : List Line) (line : Line) → ls ≡ right ++ line ∷ rest → AreLogsOf g right t → is_skipped line ≡ false → form g (words (content line)) ≡ None → Ends g n ls (Err (WrongLine (n + length right) Form))
+  Faulty : (t : LogsSoFar) (right rest : List Line) (line : Line) (said : LogContent) {kind : Mistake} → ls ≡ right ++ line ∷ rest → AreLogsOf g right t → is_skipped line ≡ false → form g (words (content line)) ≡ Some said
       → fault g t said ≡ Some kind → Ends g n ls (Err (WrongLine (n + length right) kind))
 
-pub ends : (g : Graph) (n : ℕ) (prefix : List Line) (d : SoFar) (ls : List Line) → IsGraph g → Fine g d → Kept d → Tell g prefix (so_far_by d) → Ends g n (prefix ++ ls) (read_sessions g (n + length prefix) d ls)
-ends g n prefix d [] is f k tell = elim (cases_Bool (is_whole g d)) [
+pub ends : (g : Graph) (n : ℕ) (prefix : List Line) (d : SoFar) (ls : List Line) → IsGraph g → Fine g d → Kept d → AreLogsOf g prefix (so_far_by d) → Ends g n (prefix ++ ls) (read_sessions g (n + length prefix) d ls)
+ends g n prefix d [] is f k logs = elim (cases_Bool (is_whole g d)) [
   | inl y ↦ subst (Ends g n (prefix ++ [])) (sym (rw (sessions_so_far d, y) refl)) (Well (so_far_by d) whole (same_whole g d f ∙ y))
   | inr z ↦ subst (Ends g n (prefix ++ [])) (sym (rw (append-nil prefix, z) refl)) (Few (so_far_by d) whole (same_whole g d f ∙ z))
 ]
   where
-    whole : Tell g (prefix ++ []) (so_far_by d)
-    whole = subst (λ ls. Tell g ls (so_far_by d)) (sym (append-nil prefix)) tell
-ends g n prefix d (l ∷ ls) is f k tell = elim (cases_Bool (is_skipped l)) [
-  | inl y ↦ on (λ e f' k' t. ends g n (prefix ++ l ∷ []) e ls is f' k' t) d f k (Skip l tell y) (skip_line g d l y)
+    whole : AreLogsOf g (prefix ++ []) (so_far_by d)
+    whole = subst (λ ls. AreLogsOf g ls (so_far_by d)) (sym (append-nil prefix)) logs
+ends g n prefix d (l ∷ ls) is f k logs = elim (cases_Bool (is_skipped l)) [
+  | inl y ↦ on (λ e f' k' t. ends g n (prefix ++ l ∷ []) e ls is f' k' t) d f k (Skip l logs y) (skip_line g d l y)
   | inr z ↦ by (λ e f' k' t. ends g n (prefix ++ l ∷ []) e ls is f' k' t) z (form g (words (content l))) refl
 ]
   where
@@ -120,10 +120,10 @@ ends g n prefix d (l ∷ ls) is f k tell = elim (cases_Bool (is_skipped l)) [
 
     -- how the lines behind this one end
     Rest : Type 0
-    Rest = (e : SoFar) → Fine g e → Kept e → Tell g (prefix ++ l ∷ []) (so_far_by e) → Ends g n ((prefix ++ l ∷ []) ++ ls) (read_sessions g (n + length (prefix ++ l ∷ [])) e ls)
+    Rest = (e : SoFar) → Fine g e → Kept e → AreLogsOf g (prefix ++ l ∷ []) (so_far_by e) → Ends g n ((prefix ++ l ∷ []) ++ ls) (read_sessions g (n + length (prefix ++ l ∷ [])) e ls)
 
     -- the line is taken
-    on : Rest → (e : SoFar) → Fine g e → Kept e → Tell g (prefix ++ l ∷ []) (so_far_by e) → add_line g d l ≡ Ok e → Goal
+    on : Rest → (e : SoFar) → Fine g e → Kept e → AreLogsOf g (prefix ++ l ∷ []) (so_far_by e) → add_line g d l ≡ Ok e → Goal
     on more e f' k' tell' a =
         let long = length-append prefix (l ∷ []) in
         let number : n + length (prefix ++ l ∷ []) ≡ n + length prefix + 1 = omega (arith, long) in
@@ -136,9 +136,9 @@ ends g n prefix d (l ∷ ls) is f k tell = elim (cases_Bool (is_skipped l)) [
     off kind e a = subst (Ends g n (prefix ++ l ∷ ls)) (sym (ap (λ r. unless_wrong (n + length prefix) r (λ d'. read_sessions g (n + length prefix + 1) d' ls)) a)) e
 
     of : Rest → (s : LogContent) → is_skipped l ≡ false → form g (words (content l)) ≡ Some s → (o : Option Mistake) → fault g (so_far_by d) s ≡ o → Goal
-    of more s z h None e = on more (next d s) (fine_next g d l s is f k h e) (kept g d s k e) (subst (Tell g (prefix ++ l ∷ [])) (sym (moved d s k)) (Say l s tell z (form_is g (words (content l)) s h) e)) (right_line g d l s f k z h e)
-    of more s z h (Some kind) e = off kind (Faulty (so_far_by d) prefix ls l s refl tell z h e) (wrong_line g d l s kind f k z h e)
+    of more s z h None e = on more (next d s) (fine_next g d l s is f k h e) (kept g d s k e) (subst (AreLogsOf g (prefix ++ l ∷ [])) (sym (moved d s k)) (Say l s logs z (form_is g (words (content l)) s h) e)) (right_line g d l s f k z h e)
+    of more s z h (Some kind) e = off kind (Faulty (so_far_by d) prefix ls l s refl logs z h e) (wrong_line g d l s kind f k z h e)
 
     by : Rest → is_skipped l ≡ false → (o : Option LogContent) → form g (words (content l)) ≡ o → Goal
-    by more z None h = off Form (Formless (so_far_by d) prefix ls l refl tell z h) (no_line g d l z h)
+    by more z None h = off Form (Formless (so_far_by d) prefix ls l refl logs z h) (no_line g d l z h)
     by more z (Some s) h = of more s z h (fault g (so_far_by d) s) refl

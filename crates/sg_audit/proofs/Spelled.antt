@@ -13,7 +13,7 @@ use Rattle.sg_audit.specs.LineContents.{LogContent}
 use Rattle.sg_audit.specs.Reading.{form}
 use Rattle.sg_audit.specs.Sessions.{Logs, LogsSoFar, sessions_of}
 use Rattle.sg_audit.specs.Faults.{fault, is_whole as is_over}
-use Rattle.sg_audit.specs.Spells.{IsBlock, TellAfter, Nothing, SpellsLogs, Fault, WrongLine, NoGraph, IsFirstFault, NoLine, NoBlock, NotClosed, OfGraph, OfNoForm, OfAForm, TooFew, IsFault, reported_as}
+use Rattle.sg_audit.specs.Spells.{IsBlock, AreLogsAfterBlock, Nothing, SpellsLogs, Fault, WrongLine, NoGraph, IsFirstFault, NoLine, NoBlock, NotClosed, OfGraph, OfNoForm, OfAForm, TooFew, IsFault, reported_as}
 use Rattle.sg_audit.specs.SoFar.{nothing, is_whole, all_sessions}
 use Rattle.sg_audit.specs.Read.{unless_wrong, read, read_lines, read_sessions, with_graph}
 use Rattle.sg_audit.specs.TakingLines.{Refuses, logs_held}
@@ -38,30 +38,30 @@ Outcome bytes r = MatchResult r (SpellsLogs bytes) (IsFirstFault (lines bytes))
 
 -- after the block of a graph
 behind : (bytes : List ℕ) (g : Graph) (block rest : List Line) (text : List ℕ) (r : Result Logs Fault) → lines bytes ≡ block ++ rest → IsBlock block text → SpellsGraph text g → Ends g (1 + length block) rest r → Outcome bytes r
-behind bytes g block rest text _ all b s (Well t tell whole) = record {
+behind bytes g block rest text _ all b s (Well t logs whole) = record {
   so_far = t;
-  tell = record { block = block; text = text; behind = rest; all = all; is_block = b; spelled = s; tell = tell };
+  logs = record { block = block; text = text; behind = rest; all = all; is_block = b; spelled = s; logs = logs };
   whole = whole;
   sessions = refl;
 }
-behind bytes g block rest text _ all b s (Few t tell few) =
+behind bytes g block rest text _ all b s (Few t logs few) =
     let long = ap length all in
     let split = length-append block rest in
     let number : length (lines bytes) + 1 ≡ 1 + length block + length rest = omega (arith, long, split) in
     subst (λ n. IsFirstFault (lines bytes) (WrongLine n FormKind)) number
-    (TooFew g t (record { block = block; text = text; behind = rest; all = all; is_block = b; spelled = s; tell = tell }) few)
-behind bytes g block rest text _ all b s (Formless t right more l at tell n none) =
+    (TooFew g t (record { block = block; text = text; behind = rest; all = all; is_block = b; spelled = s; logs = logs }) few)
+behind bytes g block rest text _ all b s (Formless t right more l at logs n none) =
     let split = length-append block right in
     let number : length (block ++ right) + 1 ≡ 1 + length block + length right = omega (arith, split) in
     let laid : lines bytes ≡ (block ++ right) ++ l ∷ more = all ∙ ap (λ xs. block ++ xs) at ∙ sym (append_assoc block right (l ∷ more)) in
     subst (λ n. IsFirstFault (lines bytes) (WrongLine n FormKind)) number
-    (OfNoForm g t (block ++ right) more l laid (record { block = block; text = text; behind = right; all = refl; is_block = b; spelled = s; tell = tell }) n (λ said q. none_some (sym none ∙ form_ok g (words (content l)) said q)))
-behind bytes g block rest text _ all b s (Faulty t right more l said {kind = kind} at tell n says wrong) =
+    (OfNoForm g t (block ++ right) more l laid (record { block = block; text = text; behind = right; all = refl; is_block = b; spelled = s; logs = logs }) n (λ said q. none_some (sym none ∙ form_ok g (words (content l)) said q)))
+behind bytes g block rest text _ all b s (Faulty t right more l said {kind = kind} at logs n says wrong) =
     let split = length-append block right in
     let number : length (block ++ right) + 1 ≡ 1 + length block + length right = omega (arith, split) in
     let laid : lines bytes ≡ (block ++ right) ++ l ∷ more = all ∙ ap (λ xs. block ++ xs) at ∙ sym (append_assoc block right (l ∷ more)) in
     subst (λ n. IsFirstFault (lines bytes) (WrongLine n kind)) number
-    (OfAForm g t (block ++ right) more l said laid (record { block = block; text = text; behind = right; all = refl; is_block = b; spelled = s; tell = tell }) n (form_is g (words (content l)) said says) wrong)
+    (OfAForm g t (block ++ right) more l said laid (record { block = block; text = text; behind = right; all = refl; is_block = b; spelled = s; logs = logs }) n (form_is g (words (content l)) said says) wrong)
 
 begun : (bytes : List ℕ) (r : Result Logs Fault) → Begins (lines bytes) r → Outcome bytes r
 begun bytes _ (BlankAll h) = NoLine h
@@ -89,11 +89,11 @@ fault_first bytes f h = subst (Outcome bytes) h (outcome bytes)
 -- ---- what is spelled is read
 
 -- what the reader keeps of lines that say this
-state_of : (g : Graph) (ls : List Line) (t : LogsSoFar) (a : TellAfter g ls t) → Reached g a.behind t
-state_of g ls t a = let s = a.spelled in reached g a.behind t s.is_graph a.tell
+state_of : (g : Graph) (ls : List Line) (t : LogsSoFar) (a : AreLogsAfterBlock g ls t) → Reached g a.behind t
+state_of g ls t a = let s = a.spelled in reached g a.behind t s.is_graph a.logs
 
 -- after lines that say this, the others are read on
-after_so_far : (g : Graph) (ls : List Line) (t : LogsSoFar) (a : TellAfter g ls t) (rest : List Line) → let r = state_of g ls t a in read_lines 1 (ls ++ rest) ≡ read_sessions g (1 + length ls) r.state rest
+after_so_far : (g : Graph) (ls : List Line) (t : LogsSoFar) (a : AreLogsAfterBlock g ls t) (rest : List Line) → let r = state_of g ls t a in read_lines 1 (ls ++ rest) ≡ read_sessions g (1 + length ls) r.state rest
 after_so_far g ls t a rest =
     let r = state_of g ls t a in
     let laid : ls ++ rest ≡ a.block ++ (a.behind ++ rest) = ap (λ xs. xs ++ rest) a.all ∙ append_assoc a.block a.behind rest in
@@ -107,11 +107,11 @@ after_so_far g ls t a rest =
 pub spelled_read : (bytes : List ℕ) (l : Logs) → SpellsLogs bytes l → read bytes ≡ Ok l
 unfolding read
 spelled_read bytes l p =
-    let r = state_of l.graph (lines bytes) p.so_far p.tell in
+    let r = state_of l.graph (lines bytes) p.so_far p.logs in
     let whole : is_whole l.graph r.state ≡ true = sym (same_whole l.graph r.state r.fine) ∙ ap (is_over l.graph) r.so_far ∙ p.whole in
     let last : read_sessions l.graph (1 + length (lines bytes)) r.state [] ≡ Ok (record { graph = l.graph; sessions = all_sessions r.state }) = rw whole refl in
     let all : all_sessions r.state ≡ l.sessions = sym (sessions_so_far r.state) ∙ ap sessions_of r.so_far ∙ sym p.sessions in
-    ap (read_lines 1) (sym (append-nil (lines bytes))) ∙ after_so_far l.graph (lines bytes) p.so_far p.tell [] ∙ last ∙ (λ i. Ok (record { graph = l.graph; sessions = all i }))
+    ap (read_lines 1) (sym (append-nil (lines bytes))) ∙ after_so_far l.graph (lines bytes) p.so_far p.logs [] ∙ last ∙ (λ i. Ok (record { graph = l.graph; sessions = all i }))
 
 -- the first fault of lines is found
 first_found : (ls : List Line) (f : Fault) → IsFirstFault ls f → read_lines 1 ls ≡ Err f

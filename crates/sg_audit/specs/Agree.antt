@@ -42,4 +42,4 @@ AllHaveLogs g logs = (r : ℕ) → r < length g.roles → IsTrue (is_in r (roles
 pub record AreLogs (g : Graph) (logs : List Log) (walk : Option (List StoredStep)) : Type 0 where
   pub differ : roles_differ logs
   pub each : AllByRecursion (IsLog g) logs
-  pub untold : walk ≡ None → AllHaveLogs g logs
+  pub unknown : walk ≡ None → AllHaveLogs g logs

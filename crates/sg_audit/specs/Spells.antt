@@ -45,25 +45,25 @@ abbrev pub SaysLine : AGraph → Line → LogContent → Type 0
 SaysLine g line said = Says g (words (content line)) said
 
 -- the lines after the block, from the first one on, say this, and none of them is wrong
-pub data Tell (g : AGraph) : List Line → LogsSoFar → Type 0 where
-  Nothing : Tell g [] (record { over = []; last = None })
-  Skip : {ls : List Line} {t : LogsSoFar} (line : Line) → Tell g ls t → IsTrue (is_skipped line) → Tell g (ls ++ line ∷ []) t
-  Say : {ls : List Line} {t : LogsSoFar} (line : Line) (said : LogContent) → Tell g ls t → IsFalse (is_skipped line) → SaysLine g line said → fault g t said ≡ None → Tell g (ls ++ line ∷ []) (added t said)
+pub data AreLogsOf (g : AGraph) : List Line → LogsSoFar → Type 0 where
+  Nothing : AreLogsOf g [] (record { over = []; last = None })
+  Skip : {ls : List Line} {t : LogsSoFar} (line : Line) → AreLogsOf g ls t → IsTrue (is_skipped line) → AreLogsOf g (ls ++ line ∷ []) t
+  Say : {ls : List Line} {t : LogsSoFar} (line : Line) (said : LogContent) → AreLogsOf g ls t → IsFalse (is_skipped line) → SaysLine g line said → fault g t said ≡ None → AreLogsOf g (ls ++ line ∷ []) (added t said)
 
 -- after the block of a graph, these lines say this
-pub record TellAfter (g : AGraph) (ls : List Line) (t : LogsSoFar) : Type 0 where
+pub record AreLogsAfterBlock (g : AGraph) (ls : List Line) (t : LogsSoFar) : Type 0 where
   pub block : List Line
   pub text : List ℕ
   pub behind : List Line
   pub all : ls ≡ block ++ behind
   pub is_block : IsBlock block text
   pub spelled : SpellsGraph text g
-  pub tell : Tell g behind t
+  pub logs : AreLogsOf g behind t
 
 -- the bytes are the logs: they give the sessions, and the last one may end
 pub record SpellsLogs (bytes : List ℕ) (l : Logs) : Type 0 where
   pub so_far : LogsSoFar
-  pub tell : TellAfter l.graph (lines bytes) so_far
+  pub logs : AreLogsAfterBlock l.graph (lines bytes) so_far
   pub whole : IsTrue (is_whole l.graph so_far)
   pub sessions : l.sessions ≡ sessions_of so_far
 
@@ -81,11 +81,11 @@ pub data IsFirstFault (ls : List Line) : Fault → Type 0 where
       → (words (content line) ≡ codes "graph" ∷ codes "{" ∷ [] → ⊥) → IsFirstFault ls (WrongLine (length before + 1) Form)
   NotClosed : (inner : List Line) → IsOpened ls inner → IsFirstFault ls (WrongLine (length ls) Form)
   OfGraph : (block rest : List Line) (text : List ℕ) {e : ParseFault} → ls ≡ block ++ rest → IsBlock block text → read text ≡ Err e → IsFirstFault ls (NoGraph e)
-  OfNoForm : (g : AGraph) (t : LogsSoFar) (right rest : List Line) (line : Line) → ls ≡ right ++ line ∷ rest → TellAfter g right t → IsFalse (is_skipped line)
+  OfNoForm : (g : AGraph) (t : LogsSoFar) (right rest : List Line) (line : Line) → ls ≡ right ++ line ∷ rest → AreLogsAfterBlock g right t → IsFalse (is_skipped line)
       → ((said : LogContent) → SaysLine g line said → ⊥) → IsFirstFault ls (WrongLine (length right + 1) Form)
-  OfAForm : (g : AGraph) (t : LogsSoFar) (right rest : List Line) (line : Line) (said : LogContent) {kind : Mistake} → ls ≡ right ++ line ∷ rest → TellAfter g right t → IsFalse (is_skipped line)
+  OfAForm : (g : AGraph) (t : LogsSoFar) (right rest : List Line) (line : Line) (said : LogContent) {kind : Mistake} → ls ≡ right ++ line ∷ rest → AreLogsAfterBlock g right t → IsFalse (is_skipped line)
       → SaysLine g line said → fault g t said ≡ Some kind → IsFirstFault ls (WrongLine (length right + 1) kind)
-  TooFew : (g : AGraph) (t : LogsSoFar) → TellAfter g ls t → IsFalse (is_whole g t) → IsFirstFault ls (WrongLine (length ls + 1) Form)
+  TooFew : (g : AGraph) (t : LogsSoFar) → AreLogsAfterBlock g ls t → IsFalse (is_whole g t) → IsFirstFault ls (WrongLine (length ls + 1) Form)
 
 -- a fault as the program reports it: the event 100,001 without its line
 abbrev pub reported_as : Fault → LogFault
