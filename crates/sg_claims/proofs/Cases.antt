@@ -21,8 +21,8 @@ other_bit false true d = refl
 other_bit false false d = absurd (d refl)
 
 -- a bit that a test distinguishes from another one is its opposite
-pub told_apart : (a b : Bool) → beq a b ≡ false → a ≡ not b
-told_apart true true h = absurd (cc)
-told_apart true false h = refl
-told_apart false true h = refl
-told_apart false false h = absurd (cc)
+pub separated : (a b : Bool) → beq a b ≡ false → a ≡ not b
+separated true true h = absurd (cc)
+separated true false h = refl
+separated false true h = refl
+separated false false h = absurd (cc)

@@ -11,15 +11,15 @@ use Rattle.sg_claims.specs.Invariant.{HoldsLabels}
 use Rattle.sg_claims.proofs.Cases.{less_or}
 
 -- a table of false has no label
-pub told_none : (size l : ℕ) → get_or (replicate size false) l false ≡ false
-told_none size l =
+pub listed_none : (size l : ℕ) → get_or (replicate size false) l false ≡ false
+listed_none size l =
     elim (less_or l size) [
       | inl y ↦ get_or-replicate size l false false y
       | inr n ↦ get_or_past (replicate size false) l false (omega (arith, length-replicate size false))
     ]
 
 pub empty_holds : HoldsLabels [] (replicate 512 false)
-empty_holds = record { once = refl; size = length-replicate 512 false; entries = λ l. told_none 512 l }
+empty_holds = record { once = refl; size = length-replicate 512 false; entries = λ l. listed_none 512 l }
 
 -- a label that isn't there is different from the others
 once_more : (xs : List ℕ) (l : ℕ) → are_once xs ≡ true → is_in l xs ≡ false → are_once (xs ++ l ∷ []) ≡ true

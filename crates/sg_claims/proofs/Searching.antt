@@ -10,7 +10,7 @@ use Rattle.sg_model.proofs.Small.{clash, same_or_not, length-more, upto}
 use Rattle.sg_claims.specs.Index.{index_of}
 use Rattle.sg_claims.specs.Search.{Any, IsSound, entry_at, IsLed, IsEntered, IsSearch}
 use Rattle.sg_claims.specs.declared.search.Entry.{Entry}
-use Rattle.sg_claims.proofs.Labelled.{told_none}
+use Rattle.sg_claims.proofs.Labelled.{listed_none}
 
 -- ---- how many are seen
 
@@ -24,7 +24,7 @@ count-set xs i l n =
     omega arith
 
 count-false : (size : ℕ) → count_by (λ b. b) (replicate size false) ≡ 0
-count-false size = of (replicate size false) (told_none size)
+count-false size = of (replicate size false) (listed_none size)
   where
     of : (xs : List Bool) → ((i : ℕ) → get_or xs i false ≡ false) → count_by (λ b. b) xs ≡ 0
     of [] h = refl
@@ -60,7 +60,7 @@ entry_new entries x i e = get_or_push entries x (record { node = 0; bit = false;
 pub search_begins : (g : Shape) (c : Claim) (first : Entry) → first.node ≡ 0 → first.bit ≡ false → IsSearch g c 0 Any (first ∷ []) (set (replicate 512 false) 0 true)
 search_begins g c first node bit = record {
   size = length-set (replicate 512 false) 0 true ∙ length-replicate 512 false;
-  counted = sym (count-set (replicate 512 false) 0 room (told_none 512 0) ∙ ap (λ n. n + 1) (count-false 512));
+  counted = sym (count-set (replicate 512 false) 0 room (listed_none 512 0) ∙ ap (λ n. n + 1) (count-false 512));
   begun = omega arith;
   start = (node, bit);
   table = λ n b h. (let e = at_start n b h in (0, omega arith, node ∙ e.0, bit ∙ e.1));
@@ -80,7 +80,7 @@ search_begins g c first node bit = record {
     at_start n b h =
         elim (same_or_not (index_of n b) 0) [
           | inl same ↦ one_index 0 n false b (sym same)
-          | inr other ↦ clash (get_or (set (replicate 512 false) 0 true) (index_of n b) false) h (get_or-set_other (replicate 512 false) 0 (index_of n b) true false other ∙ told_none 512 (index_of n b))
+          | inr other ↦ clash (get_or (set (replicate 512 false) 0 true) (index_of n b) false) h (get_or-set_other (replicate 512 false) 0 (index_of n b) true false other ∙ listed_none 512 (index_of n b))
         ]
 
 -- what was left is done or still left

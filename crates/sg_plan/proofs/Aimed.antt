@@ -71,15 +71,15 @@ pub differ : (a b : ℕ) (test : Bool) → test ≡ eqb a b → test ≡ false �
 differ a b test is fails e = (let yes : eqb a b ≡ true = eq-eqb a b e in let wrong : false ≡ true = sym fails ∙ is ∙ yes in cc)
 
 -- what the code finds in the closure says whether the role is a target
-pub told_target : (g : Graph) (e t s to : ℕ) (set : List ℕ) (k : Closure) (o : Option ℕ) (r : Bool) → s ≡ sender (shape g) e → to ≡ target (shape g) e → set ≡ pair t s
+pub target_listed : (g : Graph) (e t s to : ℕ) (set : List ℕ) (k : Closure) (o : Option ℕ) (r : Bool) → s ≡ sender (shape g) e → to ≡ target (shape g) e → set ≡ pair t s
     → k ≡ record { graph = g; from = to; past = set } → t < 16 → s < 16 → t ≢ s → t ≢ receiver (shape g) e → IsFirstOf k t o → r ≡ is_some o → IsTrue r ↔ IsTarget (shape g) e t
-told_target g e t s to set k o r sends leads sets closes ht hs not_sender not_receiver first tells =
+target_listed g e t s to set k o r sends leads sets closes ht hs not_sender not_receiver first listed =
     let set' : set ≡ pair t (sender (shape g) e) = sets ∙ ap (pair t) sends in
     let k' : k ≡ record { graph = g; from = target (shape g) e; past = pair t (sender (shape g) e) } = closes ∙ (λ i. record { graph = g; from = leads i; past = set' i }) in
     let at_sender : t ≢ sender (shape g) e = λ q. not_sender (q ∙ sym sends) in
     let small : sender (shape g) e < 16 = subst (λ x. x < 16) sends hs in
     let found = found_target g e t o ht small at_sender not_receiver (subst (λ (x : Closure). IsFirstOf x t o) k' first) in
-    ((λ h. found.0 (sym tells ∙ h)), (λ y. tells ∙ found.1 y))
+    ((λ h. found.0 (sym listed ∙ h)), (λ y. listed ∙ found.1 y))
 
 -- the sets of the edges below n are those of their targets
 pub record AreSetsBelow (g : Graph) (n : ℕ) (sets : List (List ℕ)) : Type 0 where

@@ -16,15 +16,15 @@ use Rattle.sg_sched.specs.Format.Forms.{is_short, is_wide, is_frame}
 use Rattle.sg_sched.proofs.FormLaws.{none_some}
 use Rattle.sg_sched.proofs.FormatWords.{both}
 
-tells : IsDigitsTest (λ ds. list_all is_digit ds ≡ true)
-tells = record {
+decides_digits : IsDigitsTest (λ ds. list_all is_digit ds ≡ true)
+decides_digits = record {
   empty = refl;
   parts = λ c cs e. let k = and_left (is_digit c) (list_all is_digit cs) e in ((leb-true 48 c (and_left (nat_le 48 c) (nat_le c 57) k), leb-true c 57 (and_right (nat_le 48 c) (nat_le c 57) k)), and_right (is_digit c) (list_all is_digit cs) e);
   more = λ c cs k e. both (both (le-leb 48 c k.0) (le-leb c 57 k.1)) e;
 }
 
 own : IsNumeralModel (λ ds. list_all is_digit ds ≡ true) value
-own = numerals_by_fold (λ ds. list_all is_digit ds ≡ true) tells (λ n ds. fold (λ m c. m * 10 + (c - 48)) n ds) (record { empty = λ n. refl; more = λ n c cs k. refl })
+own = numerals_by_fold (λ ds. list_all is_digit ds ≡ true) decides_digits (λ n ds. fold (λ m c. m * 10 + (c - 48)) n ds) (record { empty = λ n. refl; more = λ n c cs k. refl })
 
 pub record NumberIs (most : ℕ) (w : Word) (n : ℕ) : Type 0 where
   pub same : w ≡ decimal n

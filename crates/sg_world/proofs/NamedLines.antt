@@ -112,15 +112,15 @@ among n x (y ∷ ys) a h = by (cases_Bool (y == x)) (among n x ys a.1)
     by (inr e) rest = rest (subst (λ b. (b || is_in x ys) ≡ true) e h)
 
 -- an answer has its names in the graph of its call, or a refused variable in one that has it
-can_tell : (gs : List Graph) (g : Graph) (n : ℕ) (node : Node) (c : Call) (a : Answer) → answer real node c ≡ a → GivesFor gs c → HasNamed g c a → CanBeReported (graph_reported gs (Some g) (reported_answer n a)) (reported_answer n a)
-can_tell gs g n node c (Happened e) q given h = h
-can_tell gs g n node c (Sends e to f) q given h = h
-can_tell gs g n node (Act sid label values confounders) (NotActed (ActFault.Send (SendFault.BadValues x))) q given (inl there) = by_first gs (Some g) x g (inl refl) there
-can_tell gs g n node (Act sid label values confounders) (NotActed (ActFault.Send (SendFault.BadValues x))) q given (inr given_x) =
+has_names : (gs : List Graph) (g : Graph) (n : ℕ) (node : Node) (c : Call) (a : Answer) → answer real node c ≡ a → GivesFor gs c → HasNamed g c a → CanBeReported (graph_reported gs (Some g) (reported_answer n a)) (reported_answer n a)
+has_names gs g n node c (Happened e) q given h = h
+has_names gs g n node c (Sends e to f) q given h = h
+has_names gs g n node (Act sid label values confounders) (NotActed (ActFault.Send (SendFault.BadValues x))) q given (inl there) = by_first gs (Some g) x g (inl refl) there
+has_names gs g n node (Act sid label values confounders) (NotActed (ActFault.Send (SendFault.BadValues x))) q given (inr given_x) =
     by_first gs (Some g) x given.0 (inr given.1) (among (length (given.0).variables) x (keys_of values) given.2 given_x)
-can_tell gs g n node c (NotActed (ActFault.Send (SendFault.BadValues x))) q given h = absurd (refused_act node c (ActFault.Send (SendFault.BadValues x)) q)
-can_tell gs g n node c (NotDelivered (Refusal.BadOpening x)) q given h = h
-can_tell gs g n node c other q given h = tt
+has_names gs g n node c (NotActed (ActFault.Send (SendFault.BadValues x))) q given h = absurd (refused_act node c (ActFault.Send (SendFault.BadValues x)) q)
+has_names gs g n node c (NotDelivered (Refusal.BadOpening x)) q given h = h
+has_names gs g n node c other q given h = tt
 
 -- ---- the lines of a run
 
@@ -162,7 +162,7 @@ module _ (r : Replay) (compiled : AreCompiled real r.schedule.graphs r.programs)
     answered_reported c e a true q =
         let t : IsNamed real (node_of a.past) c (answer real (node_of a.past) c) = entries_are_named real real_hash r.programs r.schedule compiled schedule l c there e a q in
         subst (λ (g : Option Graph). CanBeReported (graph_reported r.schedule.graphs g (reported_answer n (answer real (node_of a.past) c))) (reported_answer n (answer real (node_of a.past) c))) (sym (graph_is c e a t))
-        (can_tell r.schedule.graphs t.program.graph n (node_of a.past) c (answer real (node_of a.past) c) refl (given_for of.world of.number x c named (sym of.call ∙ e)) t.named)
+        (has_names r.schedule.graphs t.program.graph n (node_of a.past) c (answer real (node_of a.past) c) refl (given_for of.world of.number x c named (sym of.call ∙ e)) t.named)
 
     line_reported : CanBeReported (graph_reported r.schedule.graphs (graph_of_entry r.programs r.schedule l) (reported_outcome n l.outcome)) (reported_outcome n l.outcome)
     line_reported = by l.call refl

@@ -5,7 +5,7 @@ use Rattle.sg_model.specs.Shape.{source}
 use Rattle.sg_model.specs.Claims.{Claim, right_bit}
 use Rattle.sg_model.proofs.Small.{clash}
 use Rattle.sg_protocol.specs.Graph.{shape}
-use Rattle.sg_claims.proofs.Cases.{less_or, told_apart}
+use Rattle.sg_claims.proofs.Cases.{less_or, separated}
 use Rattle.sg_claims.proofs.Following.{at_index}
 use Rattle.sg_claims.proofs.Rising.{leaving_rise, left_at_first, left_at_least}
 use Rattle.sg_claims.proofs.decision.least_wrong.Goals as goal
@@ -25,7 +25,7 @@ returns-then-is_later-clause-some c =
       is_edge = rw length-map here.0.0;
       leaves = here.0.1;
       is_later = sym c.is_later.ensures ∙ c.if-is_later.true;
-      wrong = told_apart c.args.bit c.right_bit.result c.if-bit-right_bit.false ∙ ap not (c.right_bit.ensures ∙ ap right_bit (ap (λ (k : Claim). k.kind) c.claim.view_is));
+      wrong = separated c.args.bit c.right_bit.result c.if-bit-right_bit.false ∙ ap not (c.right_bit.ensures ∙ ap right_bit (ap (λ (k : Claim). k.kind) c.claim.view_is));
       least = λ e d s i.
           (let k = left_at_first labels e (c.edges_from-label-items.ensures.all e (rw length-map at d) s) in
           elim (less_or k.0 at) [
