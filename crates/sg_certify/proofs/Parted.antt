@@ -149,17 +149,17 @@ sessions_are_explained sha hash programs s sid cast g part compiled sched premis
     )
 
 -- where a step of the session stands among all
-abbrev StandsIn : List ℕ → List Logged → List Logged → Logged → Type 0
-StandsIn sid log before l = (prefix : List Logged) × (back : List Logged) × (log ≡ prefix ++ l ∷ back) × (events_of sid prefix ≡ events_of sid before)
+abbrev OccursIn : List ℕ → List Logged → List Logged → Logged → Type 0
+OccursIn sid log before l = (prefix : List Logged) × (back : List Logged) × (log ≡ prefix ++ l ∷ back) × (events_of sid prefix ≡ events_of sid before)
 
-further : (sid : List ℕ) (x y : Logged) (xs before : List Logged) (l : Logged) → x ≡ y → StandsIn sid xs before l → StandsIn sid (x ∷ xs) (y ∷ before) l
+further : (sid : List ℕ) (x y : Logged) (xs before : List Logged) (l : Logged) → x ≡ y → OccursIn sid xs before l → OccursIn sid (x ∷ xs) (y ∷ before) l
 further sid x y xs before l same r =
     (x ∷ r.0, r.1, ap (λ ls. x ∷ ls) r.2, events_of-append sid (x ∷ []) r.0 ∙ (λ i. events_of sid (same i ∷ []) ++ r.3 i) ∙ sym (events_of-append sid (y ∷ []) before))
 
-past : (sid : List ℕ) (x : Logged) (xs before : List Logged) (l : Logged) → is_of_session sid x ≡ false → StandsIn sid xs before l → StandsIn sid (x ∷ xs) before l
+past : (sid : List ℕ) (x : Logged) (xs before : List Logged) (l : Logged) → is_of_session sid x ≡ false → OccursIn sid xs before l → OccursIn sid (x ∷ xs) before l
 past sid x xs before l n r = (x ∷ r.0, r.1, ap (λ ls. x ∷ ls) r.2, events_of-append sid (x ∷ []) r.0 ∙ ap (λ es. es ++ events_of sid r.0) (no_event sid x n) ∙ r.3)
 
-parted : (sid : List ℕ) (log before : List Logged) (l : Logged) (after : List Logged) → steps_of_session sid log ≡ before ++ l ∷ after → StandsIn sid log before l
+parted : (sid : List ℕ) (log before : List Logged) (l : Logged) (after : List Logged) → steps_of_session sid log ≡ before ++ l ∷ after → OccursIn sid log before l
 parted sid [] [] l after e = absurd (cc)
 parted sid [] (b ∷ bs) l after e = absurd (cc)
 parted sid (x ∷ xs) [] l after e = elim (cases_Bool (is_of_session sid x)) [

@@ -16,7 +16,7 @@ use Rattle.sg_model.specs.Names.{Name, is_name, reserved}
 use Rattle.sg_parse.specs.Grammar.{named}
 use Rattle.sg_parse.specs.declared.token.Token.{Token}
 use Rattle.sg_parse.specs.declared.token.Token.TheVariants.{Word, Colon, Semicolon, End}
-use Rattle.sg_parse.proofs.Lexing.{Lexes, StandsApart, lex-end, lex-space, lex-line, lex-colon, lex-semicolon, lex-word}
+use Rattle.sg_parse.proofs.Lexing.{Lexes, IsSeparate, lex-end, lex-space, lex-line, lex-colon, lex-semicolon, lex-word}
 use Rattle.sg_protocol.specs.Graph.{Graph, IsGraph, Edge, AreNames}
 
 -- lists that are equal have the same tokens
@@ -39,7 +39,7 @@ is-name ns r are l = name-is ns r l (and_parts (list_all (λ n. is_name n && not
 
 -- the bytes have these tokens, and don't go on with a word before them
 abbrev Apart : List ℕ → List Token → Type 0
-Apart bs ts = Lexes bs ts × StandsApart bs
+Apart bs ts = Lexes bs ts × IsSeparate bs
 
 module _ (g : Graph) (is : IsGraph g) where
   -- the name of a label

@@ -11,7 +11,7 @@ use Rattle.sg_protocol.specs.Graph.{Graph, Edge, shape}
 use Rattle.sg_graph.specs.Parts.{edge_at}
 use Rattle.sg_graph.proofs.Growth.{All-map, All-one}
 use Rattle.sg_parse.specs.Parts.{Use}
-use Rattle.sg_compose.specs.Expansion.{end_of, inside, stands, new_edge, new_nodes, new_edges, with_use}
+use Rattle.sg_compose.specs.Expansion.{end_of, inside, replaced, new_edge, new_nodes, new_edges, with_use}
 use Rattle.sg_compose.specs.Walks.{Inset}
 use Rattle.sg_compose.proofs.Split.{arrow_of, or_zero, finish, spot, Sits, Joins}
 use Rattle.sg_compose.proofs.Ends.{EndsAt, ends-at, source_at, target_at, inside_length}
@@ -28,15 +28,15 @@ ranged-at g r e l =
 -- ---- numbers of nodes
 
 -- a node that is added stands behind those that are there
-pub stands-inside : (count from to m x : ℕ) → x ≢ 0 → x ≢ m → (stands count from to m x ≡ count + (if nat_lt x m then x - 1 else x - 2)) × (count ≤ stands count from to m x)
-stands-inside count from to m x start end =
+pub replaced-inside : (count from to m x : ℕ) → x ≢ 0 → x ≢ m → (replaced count from to m x ≡ count + (if nat_lt x m then x - 1 else x - 2)) × (count ≤ replaced count from to m x)
+replaced-inside count from to m x start end =
     let a : (x == 0) ≡ false = grind (arith, nat_tests, start) in
     let b : (x == m) ≡ false = grind (arith, nat_tests, end) in
     rw (a, b) (refl, omega arith)
 
-pub stands-below : (count from to m x n : ℕ) → m ≢ 0 → m < n → x < n → from < count → to < count → stands count from to m x < count + (n - 2)
-    ⊎ (stands count from to m x < count)
-stands-below count from to m x n late mn xn f t = elim (cases_Bool (x == 0)) [
+pub replaced-below : (count from to m x n : ℕ) → m ≢ 0 → m < n → x < n → from < count → to < count → replaced count from to m x < count + (n - 2)
+    ⊎ (replaced count from to m x < count)
+replaced-below count from to m x n late mn xn f t = elim (cases_Bool (x == 0)) [
   | inl y ↦ rw y (inr f)
   | inr a ↦ (elim (cases_Bool (x == m)) [
     | inl y ↦ rw (a, y) (inr t)
@@ -51,9 +51,9 @@ stands-below count from to m x n late mn xn f t = elim (cases_Bool (x == 0)) [
 abbrev unrank : ℕ → ℕ → ℕ
 unrank m r = if nat_lt (r + 1) m then r + 1 else r + 2
 
-unrank-rank : (count from to m x : ℕ) → x ≢ 0 → x ≢ m → m ≢ 0 → unrank m (stands count from to m x - count) ≡ x
+unrank-rank : (count from to m x : ℕ) → x ≢ 0 → x ≢ m → m ≢ 0 → unrank m (replaced count from to m x - count) ≡ x
 unrank-rank count from to m x start end late =
-    rw ((stands-inside count from to m x start end).0) (elim (cases_Bool (nat_lt x m)) [
+    rw ((replaced-inside count from to m x start end).0) (elim (cases_Bool (nat_lt x m)) [
       | inl c ↦
           (let less : x < m = grind (arith, nat_tests, c) in
           let r : (count + (x - 1)) - count + 1 ≡ x = omega (arith, start) in
@@ -78,16 +78,16 @@ module _ (h inner : Graph) (u : Use) (m : ℕ) where
       ap (λ es. get_or es e (record { source = 0; target = 0; writes = []; reads = [] })) edges-as ∙ get_or_append_left (map arrow_of h.edges) (map arrow_of (new_edges h inner u m)) _ e few
 
   pub added-edge : (e : ℕ) → e < length inner.edges
-      → (source (shape (with_use h inner u m)) (length h.edges + e) ≡ stands (length h.nodes) u.from u.to m (source (shape inner) e))
-      × (target (shape (with_use h inner u m)) (length h.edges + e) ≡ stands (length h.nodes) u.from u.to m (target (shape inner) e))
+      → (source (shape (with_use h inner u m)) (length h.edges + e) ≡ replaced (length h.nodes) u.from u.to m (source (shape inner) e))
+      × (target (shape (with_use h inner u m)) (length h.edges + e) ≡ replaced (length h.nodes) u.from u.to m (target (shape inner) e))
   added-edge e l =
       let k : Graph = with_use h inner u m in
       let count : length (new_edges h inner u m) ≡ length inner.edges = length-map inner.edges _ in
       let few : length h.edges + e < length k.edges = omega (arith, length-append h.edges (new_edges h inner u m), count, l) in
       let at : edge_at k (length h.edges + e) ≡ edge_at (record h { edges = new_edges h inner u m }) e = get_or-append-add h.edges (new_edges h inner u m) e _ in
       let same = get_or-map (new_edge (length h.variables) (length h.nodes) u m) inner.edges e (record { name = []; source = 0; target = 0; writes = []; reads = [] }) (record { name = []; source = 0; target = 0; writes = []; reads = [] }) l in (
-        source_at k (length h.edges + e) few ∙ ap (λ (e : Edge). e.source) (at ∙ same) ∙ ap (stands (length h.nodes) u.from u.to m) (sym (source_at inner e l)),
-        target_at k (length h.edges + e) few ∙ ap (λ (e : Edge). e.target) (at ∙ same) ∙ ap (stands (length h.nodes) u.from u.to m) (sym (target_at inner e l)),
+        source_at k (length h.edges + e) few ∙ ap (λ (e : Edge). e.source) (at ∙ same) ∙ ap (replaced (length h.nodes) u.from u.to m) (sym (source_at inner e l)),
+        target_at k (length h.edges + e) few ∙ ap (λ (e : Edge). e.target) (at ∙ same) ∙ ap (replaced (length h.nodes) u.from u.to m) (sym (target_at inner e l)),
       )
 
   pub edge-count : length (with_use h inner u m).edges ≡ length h.edges + length inner.edges
@@ -184,11 +184,11 @@ module _ (h g inner : Graph) (u : Use) (m : ℕ) (is : List Inset) (j : Joined h
     ranged = ranged-at inner inner_ranged;
     edge = λ e l.
         let o = added-edge h inner u m e l in
-        (omega (arith, l, all-edges), o.0 ∙ ap (λ n. stands (length h.nodes) u.from u.to n (source (shape inner) e)) (sym is-finish), o.1 ∙ ap (λ n. stands (length h.nodes) u.from u.to n (target (shape inner) e)) (sym is-finish));
-    inside = λ x l a b. subst (λ n. x ≢ n → (length g.nodes ≤ stands (length h.nodes) u.from u.to n x) × (owner (stands (length h.nodes) u.from u.to n x) ≡ (i, x))) (sym is-finish)
+        (omega (arith, l, all-edges), o.0 ∙ ap (λ n. replaced (length h.nodes) u.from u.to n (source (shape inner) e)) (sym is-finish), o.1 ∙ ap (λ n. replaced (length h.nodes) u.from u.to n (target (shape inner) e)) (sym is-finish));
+    inside = λ x l a b. subst (λ n. x ≢ n → (length g.nodes ≤ replaced (length h.nodes) u.from u.to n x) × (owner (replaced (length h.nodes) u.from u.to n x) ≡ (i, x))) (sym is-finish)
         (λ b.
-        let s = stands-inside (length h.nodes) u.from u.to m x a b in
-        let high : nat_lt (stands (length h.nodes) u.from u.to m x) (length h.nodes) ≡ false = (let big = s.1 in grind (arith, nat_tests, big)) in
+        let s = replaced-inside (length h.nodes) u.from u.to m x a b in
+        let high : nat_lt (replaced (length h.nodes) u.from u.to m x) (length h.nodes) ≡ false = (let big = s.1 in grind (arith, nat_tests, big)) in
         (omega (arith, j.more, s.1), rw high (ap (λ n. (i, n)) (unrank-rank (length h.nodes) u.from u.to m x a b at-end.late)))) b;
   }
 
@@ -218,8 +218,8 @@ module _ (h g inner : Graph) (u : Use) (m : ℕ) (is : List Inset) (j : Joined h
   ranged-new : Ranged k
   ranged-new = All-append (λ (e : Edge). (e.source < length k.nodes) × (e.target < length k.nodes)) h.edges (new_edges h inner u m) (All-map (λ (e : Edge). (e.source < length h.nodes) × (e.target < length h.nodes)) (λ (e : Edge). (e.source < length k.nodes) × (e.target < length k.nodes)) h.edges (λ e p. (omega (arith, more-nodes, p.0), omega (arith, more-nodes, p.1))) j.ranged) new
     where
-      low : (x : ℕ) → x < length inner.nodes → stands (length h.nodes) u.from u.to m x < length k.nodes
-      low x l = elim (stands-below (length h.nodes) u.from u.to m x (length inner.nodes) at-end.late at-end.there l (omega (arith, from, j.more)) (omega (arith, to, j.more))) [
+      low : (x : ℕ) → x < length inner.nodes → replaced (length h.nodes) u.from u.to m x < length k.nodes
+      low x l = elim (replaced-below (length h.nodes) u.from u.to m x (length inner.nodes) at-end.late at-end.there l (omega (arith, from, j.more)) (omega (arith, to, j.more))) [
         | inl a ↦ omega (arith, a, more-nodes)
         | inr b ↦ omega (arith, b, more-nodes)
       ]
@@ -243,7 +243,7 @@ module _ (h g inner : Graph) (u : Use) (m : ℕ) (is : List Inset) (j : Joined h
     more = omega (arith, more-nodes, j.more);
     within = All-append (λ (q : Inset). (x : ℕ) → x < length q.inner.nodes → spot q x < length k.nodes) is (i ∷ [])
         (λ n d l x lx. (let o = j.within n d l x lx in omega (arith, o, more-nodes)))
-        (All-one (λ (q : Inset). (x : ℕ) → x < length q.inner.nodes → spot q x < length k.nodes) i (λ x lx. (elim (stands-below (length h.nodes) u.from u.to (finish i) x (length inner.nodes) (subst (λ n. n ≢ 0) (sym is-finish) at-end.late) (subst (λ n. n < length inner.nodes) (sym is-finish) at-end.there) lx (omega (arith, from, j.more)) (omega (arith, to, j.more))) [
+        (All-one (λ (q : Inset). (x : ℕ) → x < length q.inner.nodes → spot q x < length k.nodes) i (λ x lx. (elim (replaced-below (length h.nodes) u.from u.to (finish i) x (length inner.nodes) (subst (λ n. n ≢ 0) (sym is-finish) at-end.late) (subst (λ n. n < length inner.nodes) (sym is-finish) at-end.there) lx (omega (arith, from, j.more)) (omega (arith, to, j.more))) [
           | inl a ↦ omega (arith, a, more-nodes)
           | inr b ↦ omega (arith, b, more-nodes)
         ])));

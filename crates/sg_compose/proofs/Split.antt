@@ -8,7 +8,7 @@ use Rattle.sg_model.specs.Shape.{Shape, Walk, source, target}
 use Rattle.sg_model.specs.Shape as Shapes
 use Rattle.sg_model.proofs.Small.{same_or_not}
 use Rattle.sg_protocol.specs.Graph.{Edge, shape}
-use Rattle.sg_compose.specs.Expansion.{end_of, stands}
+use Rattle.sg_compose.specs.Expansion.{end_of, replaced}
 use Rattle.sg_compose.specs.Walks.{Inset, renamed, IsComplete, Pending, Filled, Here, Along, Through}
 
 -- the node at which the graph that is put in ends
@@ -21,7 +21,7 @@ finish i = or_zero (end_of i.inner)
 
 -- the node for a node of the graph that is put in
 abbrev pub spot : Inset → ℕ → ℕ
-spot i x = stands i.nodes i.from i.to (finish i) x
+spot i x = replaced i.nodes i.from i.to (finish i) x
 
 -- an edge without its name
 abbrev pub arrow_of : Edge → Shapes.Arrow
@@ -57,7 +57,7 @@ Splits g is m w = ((n : ℕ) × Filled g is m w n) ⊎ Pending g is m w
 pub spot-end : (i : Inset) → finish i ≢ 0 → spot i (finish i) ≡ i.to
 spot-end i late = go (finish i) late
   where
-    go : (m : ℕ) → m ≢ 0 → stands i.nodes i.from i.to m m ≡ i.to
+    go : (m : ℕ) → m ≢ 0 → replaced i.nodes i.from i.to m m ≡ i.to
     go m late =
         let no : (m == 0) ≡ false = grind (arith, nat_tests, late) in
         let yes : (m == m) ≡ true = grind (arith, nat_tests) in

@@ -54,8 +54,8 @@ abbrev pub inside : Graph → ℕ → List ℕ
 inside inner m = filter (is_inside m) (below (length inner.nodes))
 
 -- the node for a node x of the graph that is used, if count nodes are there before: start and end stand at the nodes of the use, and the others follow one another
-abbrev pub stands : (count from to m x : ℕ) → ℕ
-stands count from to m x = if x == 0 then from else if x == m then to else count + (if nat_lt x m then x - 1 else x - 2)
+abbrev pub replaced : (count from to m x : ℕ) → ℕ
+replaced count from to m x = if x == 0 then from else if x == m then to else count + (if nat_lt x m then x - 1 else x - 2)
 
 -- the roles that play these roles
 abbrev pub players : Use → List ℕ → List ℕ
@@ -77,8 +77,8 @@ shifted variables xs = set_of 32 (map (λ x. variables + x) xs)
 abbrev pub new_edge : (variables nodes : ℕ) → Use → ℕ → Edge → Edge
 new_edge variables nodes u m e = record {
   name = inner_name u e.name;
-  source = stands nodes u.from u.to m e.source;
-  target = stands nodes u.from u.to m e.target;
+  source = replaced nodes u.from u.to m e.source;
+  target = replaced nodes u.from u.to m e.target;
   writes = shifted variables e.writes;
   reads = shifted variables e.reads;
 }

@@ -5,7 +5,7 @@ ghost use Rattle.sg_graph.specs.Parts.{variable_at, edge_at};
 ghost use Rattle.sg_compose.specs.Expansion.{inside, new_edge, new_edges, new_node, new_nodes, new_variable, new_variables, player, with_use};
 
 use crate::fault::ComposeFault;
-use crate::rename::{inner_name, is_inside, player, players, shifted, stands};
+use crate::rename::{inner_name, is_inside, player, players, replaced, shifted};
 use sg_base::{Label, NodeId, Var};
 use sg_graph::Graph;
 use sg_parse::Use;
@@ -157,8 +157,8 @@ fn add_edge(
     let _nodes = graph.nodes();
     let _others = inner.nodes();
     let edge = inner.edge(label);
-    let source = stands(nodes, used, end, edge.source);
-    let target = stands(nodes, used, end, edge.target);
+    let source = replaced(nodes, used, end, edge.source);
+    let target = replaced(nodes, used, end, edge.target);
     let writes = shifted(vars, edge.writes);
     let reads = shifted(vars, edge.reads);
     match graph.add_edge(name, source, target, writes, reads) {

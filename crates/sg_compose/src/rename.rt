@@ -3,7 +3,7 @@ ghost use Rattle.std.specs.Prelude.{◌≡◌, ℕ, ◌+◌, ◌-◌, ◌<◌, �
 ghost use Rattle.sg_model.specs.Lists.{has_text};
 ghost use Rattle.sg_model.specs.Names.{reserved};
 ghost use Rattle.sg_protocol.specs.Graph.{AreNumbers};
-ghost use Rattle.sg_compose.specs.Expansion.{inner_name, is_inside, is_long, player, players, shifted, stands};
+ghost use Rattle.sg_compose.specs.Expansion.{inner_name, is_inside, is_long, player, players, shifted, replaced};
 
 use crate::fault::ComposeFault;
 use sg_base::{ByteOut, Name, NodeId, Role, RoleSet, Var, VarSet};
@@ -91,11 +91,11 @@ pub fn shifted(count: u8, vars: VarSet) -> VarSet
 }
 
 // The index of a node, if `count` nodes are there before.
-pub fn stands(count: u16, used: &Use, end: NodeId, node: NodeId) -> NodeId
+pub fn replaced(count: u16, used: &Use, end: NodeId, node: NodeId) -> NodeId
     requires count { count ≤ 256 }
     requires end { 0 < end }
     requires node { node < 256 }
-    ensures { result ≡ stands count used.now.from used.now.to end node }
+    ensures { result ≡ replaced count used.now.from used.now.to end node }
 {
     if node.0 == 0 {
         used.from

@@ -5,7 +5,7 @@ use Rattle.std.proofs.Common.{◌∙◌, ◌⊎◌, sym, ap, subst, inl, inr}
 use Rattle.std.proofs.lemmas.Bool.{cases_Bool, and_parts, or_parts}
 use Rattle.sg_model.specs.Lists.{is_in}
 use Rattle.sg_model.specs.Shape.{Shape, Walk, source, target, end_of}
-use Rattle.sg_model.specs.Claims.{ClaimKind, Needs, Bars, Claim, StandsSince, IsRight, HoldsOn, HoldsOnWalks, bit_after, bit_after_all, right_bit, IsBroken, Confined}
+use Rattle.sg_model.specs.Claims.{ClaimKind, Needs, Bars, Claim, OccursSince, IsRight, HoldsOn, HoldsOnWalks, bit_after, bit_after_all, right_bit, IsBroken, Confined}
 use Rattle.sg_model.proofs.Small.{clash}
 use Rattle.sg_model.proofs.Walks.{walk-append, walk_join}
 
@@ -26,13 +26,13 @@ module _ (c : Claim) where
   bit-append bit (x ∷ xs) ys = bit-append (bit_after c bit x) xs ys
 
   -- a label of `earlier` with none of `since` after it sets the bit
-  pub bit_from : (bit : Bool) (ls : List ℕ) → StandsSince c.earlier c.since ls → bit_after_all c bit ls ≡ true
+  pub bit_from : (bit : Bool) (ls : List ℕ) → OccursSince c.earlier c.since ls → bit_after_all c bit ls ≡ true
   bit_from bit ls s =
       ap (bit_after_all c bit) s.there ∙ bit-append bit s.prefix (s.label ∷ s.rest)
       ∙ ap (λ (b : Bool). bit_after_all c (b || (bit_after_all c bit s.prefix && not (is_in s.label c.since))) s.rest) s.is_earlier ∙ bit_stays s.rest s.none_since
 
   -- the bit is set by such a label, or was set before
-  bit_or : (bit : Bool) (ls : List ℕ) → bit_after_all c bit ls ≡ true → StandsSince c.earlier c.since ls ⊎ ((bit ≡ true) × (list_any (λ l. is_in l c.since) ls ≡ false))
+  bit_or : (bit : Bool) (ls : List ℕ) → bit_after_all c bit ls ≡ true → OccursSince c.earlier c.since ls ⊎ ((bit ≡ true) × (list_any (λ l. is_in l c.since) ls ≡ false))
   bit_or bit [] e = inr (e, refl)
   bit_or bit (l ∷ ls) e = elim (bit_or (bit_after c bit l) ls e) [
     | inl s ↦ inl record { prefix = l ∷ s.prefix; label = s.label; rest = s.rest; there = ap (λ z. l ∷ z) s.there; is_earlier = s.is_earlier; none_since = s.none_since }
@@ -46,7 +46,7 @@ module _ (c : Claim) where
       none true b f g = absurd (cc)
       none false b f g = g
 
-  pub stands_from : (ls : List ℕ) → bit_after_all c false ls ≡ true → StandsSince c.earlier c.since ls
+  pub stands_from : (ls : List ℕ) → bit_after_all c false ls ≡ true → OccursSince c.earlier c.since ls
   stands_from ls e = elim (bit_or false ls e) [ inl s ↦ s | inr p ↦ absurd (let z : false ≡ true = p.0 in cc) ]
 
 -- what is right is what the bit says
@@ -108,9 +108,9 @@ module _ (g : Shape) (c : Claim) where
       right_from c.kind c.later c.earlier c.since before (k.right l (bit_after_all c false before) s.0 s.1 i)
 
 -- since a label of `since` there is a label of `earlier` before each of `later`
-pub has_its_own : (c : Claim) (before : List ℕ) (k : ℕ) (between : List ℕ) (l : ℕ) (after : List ℕ) → c.kind ≡ Needs → HoldsOn c (before ++ k ∷ between ++ l ∷ after) → IsTrue (is_in k c.since) → IsTrue (is_in l c.later) → StandsSince c.earlier c.since (k ∷ between)
+pub has_its_own : (c : Claim) (before : List ℕ) (k : ℕ) (between : List ℕ) (l : ℕ) (after : List ℕ) → c.kind ≡ Needs → HoldsOn c (before ++ k ∷ between ++ l ∷ after) → IsTrue (is_in k c.since) → IsTrue (is_in l c.later) → OccursSince c.earlier c.since (k ∷ between)
 has_its_own c before k between l after kind h is i =
-    let right : StandsSince c.earlier c.since (before ++ k ∷ between) = subst (λ z. IsRight z c.earlier c.since (before ++ k ∷ between)) kind (h (before ++ k ∷ between) l after refl i) in
+    let right : OccursSince c.earlier c.since (before ++ k ∷ between) = subst (λ z. IsRight z c.earlier c.since (before ++ k ∷ between)) kind (h (before ++ k ∷ between) l after refl i) in
     let e = sym (bit-append c false before (k ∷ between)) ∙ bit_from c false (before ++ k ∷ between) right in
     stands_from c (k ∷ between) (ap (λ b. bit_after_all c b between) (forgets false (bit_after_all c false before) (is_in k c.earlier) (is_in k c.since) is) ∙ e)
   where

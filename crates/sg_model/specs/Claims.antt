@@ -17,7 +17,7 @@ pub record Claim : Type 0 where
   pub since : List ℕ
 
 -- among the labels stands one of `earlier`, and none of `since` after it
-pub record StandsSince (earlier since labels : List ℕ) : Type 0 where
+pub record OccursSince (earlier since labels : List ℕ) : Type 0 where
   pub prefix : List ℕ
   pub label : ℕ
   pub rest : List ℕ
@@ -27,8 +27,8 @@ pub record StandsSince (earlier since labels : List ℕ) : Type 0 where
 
 -- what a claim of this kind says of the labels before one of `later`
 abbrev pub IsRight : ClaimKind → (earlier since before : List ℕ) → Type 0
-IsRight Needs earlier since before = StandsSince earlier since before
-IsRight Bars earlier since before = StandsSince earlier since before → ⊥
+IsRight Needs earlier since before = OccursSince earlier since before
+IsRight Bars earlier since before = OccursSince earlier since before → ⊥
 
 -- wherever a label of `later` stands among the labels, those before it are right
 abbrev pub HoldsOn : Claim → List ℕ → Type 0
@@ -87,4 +87,4 @@ BitsDecideClaims = (g : Shape) (c : Claim) → HoldsOnWalks g c ↔ (IsBroken g 
 
 -- If a claim that needs holds of labels, between one of `since` and a later one of `later` stands one of `earlier`, or the one of `since` is one. So if `later` is part of `since`, each label of `later` has one of `earlier` of its own
 abbrev pub EachHasItsOwn : Type 0
-EachHasItsOwn = (c : Claim) (before : List ℕ) (k : ℕ) (between : List ℕ) (l : ℕ) (after : List ℕ) → c.kind ≡ Needs → HoldsOn c (before ++ k ∷ between ++ l ∷ after) → IsTrue (is_in k c.since) → IsTrue (is_in l c.later) → StandsSince c.earlier c.since (k ∷ between)
+EachHasItsOwn = (c : Claim) (before : List ℕ) (k : ℕ) (between : List ℕ) (l : ℕ) (after : List ℕ) → c.kind ≡ Needs → HoldsOn c (before ++ k ∷ between ++ l ∷ after) → IsTrue (is_in k c.since) → IsTrue (is_in l c.later) → OccursSince c.earlier c.since (k ∷ between)

@@ -16,7 +16,7 @@ use Rattle.sg_parse.specs.declared.token.Token.TheVariants.{Word, Colon, Semicol
 use Rattle.sg_parse.proofs.TookStatements.{SpellsRole, SpellsNode}
 use Rattle.sg_parse.proofs.TookGraph.{in_turn-flat}
 use Rattle.sg_parse.proofs.Sets.{rising-differ}
-use Rattle.sg_parse.proofs.Lexing.{Lexes, StandsApart, lex-end, lex-space, lex-line, lex-colon, lex-semicolon, lex-arrow, lex-word}
+use Rattle.sg_parse.proofs.Lexing.{Lexes, IsSeparate, lex-end, lex-space, lex-line, lex-colon, lex-semicolon, lex-arrow, lex-word}
 
 -- lists that are equal have the same tokens
 lexes-as : (cs bs : List ℕ) (ts : List Token) → cs ≡ bs → Lexes bs ts → Lexes cs ts
@@ -42,8 +42,8 @@ lex-ended rest ts h = lex-semicolon (10 ∷ rest) ts (lex-line rest ts h)
 
 -- names after spaces
 lex-spaced : (name_at : ℕ → Name) (names : List Name) (indices : List ℕ) (rest : List ℕ) (ts : List Token)
-    → ((x : ℕ) → is_in x indices ≡ true → (name_at x ≡ get_or names x []) × (is_name (name_at x) ≡ true)) → StandsApart rest → Lexes rest ts
-    → Lexes (spaced (map name_at indices) ++ rest) (named names indices ++ ts) × StandsApart (spaced (map name_at indices) ++ rest)
+    → ((x : ℕ) → is_in x indices ≡ true → (name_at x ≡ get_or names x []) × (is_name (name_at x) ≡ true)) → IsSeparate rest → Lexes rest ts
+    → Lexes (spaced (map name_at indices) ++ rest) (named names indices ++ ts) × IsSeparate (spaced (map name_at indices) ++ rest)
 lex-spaced name_at names [] rest ts is a h = (h, a)
 lex-spaced name_at names (x ∷ xs) rest ts is a h =
     let e : (x == x) ≡ true = eq-eqb x x refl in
@@ -92,8 +92,8 @@ lex-node g n rest ts is role h =
     lexes-as _ (codes "node" ++ 32 ∷ (n.name ++ 58 ∷ 32 ∷ (role_name g n.role ++ 59 ∷ 10 ∷ rest))) _ (simp append_assoc) (lex-word (codes "node") _ _ refl refl (lex-space _ _ name))
 
 -- the variables of an edge after a word
-lex-clause : (g : Graph) (first : List ℕ) (set : List ℕ) (rest : List ℕ) (ts : List Token) → IsGraph g → is_name first ≡ true → AreNumbers (length g.variables) set → StandsApart rest → Lexes rest ts
-    → (us : List Token) × SpellsClause first (variable_names g) set us × Lexes (clause (32 ∷ first) (map (variable_name g) set) ++ rest) (us ++ ts) × StandsApart (clause (32 ∷ first) (map (variable_name g) set) ++ rest)
+lex-clause : (g : Graph) (first : List ℕ) (set : List ℕ) (rest : List ℕ) (ts : List Token) → IsGraph g → is_name first ≡ true → AreNumbers (length g.variables) set → IsSeparate rest → Lexes rest ts
+    → (us : List Token) × SpellsClause first (variable_names g) set us × Lexes (clause (32 ∷ first) (map (variable_name g) set) ++ rest) (us ++ ts) × IsSeparate (clause (32 ∷ first) (map (variable_name g) set) ++ rest)
 lex-clause g first [] rest ts is n w a h = ([], Without, h, a)
 lex-clause g first (x ∷ xs) rest ts is n w a h =
     let at : (y : ℕ) → is_in y (x ∷ xs) ≡ true → (variable_name g y ≡ get_or (variable_names g) y []) × (is_name (variable_name g y) ≡ true) = λ y i.

@@ -43,11 +43,11 @@ lex-arrow bs ts h = record { go = λ at. ap (λ l. Arrow ∷ l) (h.go (suc (suc 
 -- ---- words
 
 -- the bytes don't go on with a word
-abbrev pub StandsApart : List ℕ → Type 0
-StandsApart [] = Unit {0}
-StandsApart (b ∷ bs) = is_name_byte b ≡ false
+abbrev pub IsSeparate : List ℕ → Type 0
+IsSeparate [] = Unit {0}
+IsSeparate (b ∷ bs) = is_name_byte b ≡ false
 
-word_length : (cs rest : List ℕ) → list_all is_name_byte cs ≡ true → StandsApart rest → prefix_len is_name_byte (cs ++ rest) ≡ length cs
+word_length : (cs rest : List ℕ) → list_all is_name_byte cs ≡ true → IsSeparate rest → prefix_len is_name_byte (cs ++ rest) ≡ length cs
 word_length [] [] h a = refl
 word_length [] (b ∷ bs) h a = rw a refl
 word_length (c ∷ cs) rest h a =
@@ -73,7 +73,7 @@ letter_apart c h =
     range c h = pick c (nat_lt c 97) refl h
 
 -- a name, before bytes that stand apart
-pub lex-word : (w rest : List ℕ) (ts : List Token) → is_name w ≡ true → StandsApart rest → Lexes rest ts → Lexes (w ++ rest) (Word w ∷ ts)
+pub lex-word : (w rest : List ℕ) (ts : List Token) → is_name w ≡ true → IsSeparate rest → Lexes rest ts → Lexes (w ++ rest) (Word w ∷ ts)
 lex-word [] rest ts n a h = absurd (cc)
 lex-word (c ∷ cs) rest ts n a h =
     let all = and_parts (is_letter c && list_all is_name_byte cs) (nat_le (length cs) 31) n in

@@ -24,7 +24,7 @@ joins width names set ps qs n at r h has index new =
     onward name (λ (n : Name × ℕ). known (joined width names set n)) ps (record { value = (n, at); rest = qs }) h ∙ rw (has, index, new) refl
 
 -- a name that stands in the set already
-pub stands_twice : (width : ℕ) (names : List Name) (set : List ℕ) (ps qs : List TokenAt) (n : Name) (at r : ℕ) → name ps ≡ Ok (record { value = (n, at); rest = qs })
+pub occurs_twice : (width : ℕ) (names : List Name) (set : List ℕ) (ps qs : List TokenAt) (n : Name) (at r : ℕ) → name ps ≡ Ok (record { value = (n, at); rest = qs })
     → has_text n names ≡ true → index_of n names ≡ r → is_in r set ≡ true → one_more width names set ps ≡ Err (Twice at)
-stands_twice width names set ps qs n at r h has index old =
+occurs_twice width names set ps qs n at r h has index old =
     onward name (λ (n : Name × ℕ). known (joined width names set n)) ps (record { value = (n, at); rest = qs }) h ∙ rw (has, index, old) refl

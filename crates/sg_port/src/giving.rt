@@ -80,7 +80,7 @@ fn attempt<R: Net + Clock>(
         return Err(Failed);
     }
     for _ in 0..u64::MAX {
-        if stands(&stream)? {
+        if is_connected(&stream)? {
             return Ok(Some(stream));
         }
         let most = left(rt, begun, within);
@@ -111,7 +111,7 @@ fn begin<R: Net>(
 }
 
 // Whether a connection stands by now. It fails if the peer refused it.
-fn stands(stream: &TcpStream) -> Result<bool, Failed> {
+fn is_connected(stream: &TcpStream) -> Result<bool, Failed> {
     match stream.take_error() {
         Ok(None) => Ok(stream.peer_addr().is_ok()),
         _ => Err(Failed),

@@ -8,14 +8,14 @@ use Rattle.sg_model.specs.Last.{Map, merge}
 use Rattle.sg_model.specs.Lists.{is_in}
 use Rattle.sg_model.specs.Shape.{sender, receiver}
 use Rattle.sg_model.specs.Values.{Value}
-use Rattle.sg_model.specs.Claims.{Claim, Needs, Bars, StandsSince, IsRight, HoldsOn, HoldsOnWalks}
+use Rattle.sg_model.specs.Claims.{Claim, Needs, Bars, OccursSince, IsRight, HoldsOn, HoldsOnWalks}
 use Rattle.sg_model.proofs.Small.{and_left}
 use Rattle.sg_model.proofs.OneBit.{has_its_own}
 use Rattle.sg_protocol.specs.Graph.{Graph, shape, reads}
 use Rattle.sg_protocol.specs.Texts.{Hash, IsHash}
 use Rattle.sg_protocol.specs.Calls.{Event, role_of, Started, Sent, Received}
 use Rattle.sg_protocol.specs.Walk.{StoredStep, Act, Sends, Receives, labels, stored, shown, act_if, counts, honest_acts, acts_of_event, OnePath}
-use Rattle.sg_protocol.specs.Claims.{label_of, does_send, store_after, IsOfStep, acts_before, IsAtStep, HasSent, HasReceived, HasCause, AreOfOneStep, AreOfTwoSteps, HaveCause, HaveSince, IsClaimKept, ClaimsAreKept, EventsStandOnce}
+use Rattle.sg_protocol.specs.Claims.{label_of, does_send, store_after, IsOfStep, acts_before, IsAtStep, HasSent, HasReceived, HasCause, AreOfOneStep, AreOfTwoSteps, HaveCause, HaveSince, IsClaimKept, ClaimsAreKept, EventsOccurOnce}
 use Rattle.sg_protocol.specs.Schedule.{honest_role}
 use Rattle.sg_protocol.specs.Run.{run, events_of}
 use Rattle.sg_protocol.proofs.Paths.{flat_map-append}
@@ -327,15 +327,15 @@ module _ (g : Graph) (h : ℕ → Bool) where
   -- two events stand for one step or for two
   module _ (taken : Bool) (steps : List StoredStep) (events : List Event) (explained : flat_map acts_of_event events ≡ honest_acts g h taken [] steps) where
     -- where an event of the list stands
-    stands : (before : List Event) (e : Event) (after : List Event) (l : ℕ) → events ≡ before ++ e ∷ after → label_of e ≡ Some l → Position taken steps (flat_map acts_of_event before) e (flat_map acts_of_event after)
-    stands before e after l q n =
+    occurs : (before : List Event) (e : Event) (after : List Event) (l : ℕ) → events ≡ before ++ e ∷ after → label_of e ≡ Some l → Position taken steps (flat_map acts_of_event before) e (flat_map acts_of_event after)
+    occurs before e after l q n =
         let a = one_act_of e l n in
         position taken steps (flat_map acts_of_event before) a.0 (flat_map acts_of_event after) e
         (sym explained ∙ ap (flat_map acts_of_event) q ∙ flat_map-append acts_of_event before (e ∷ after) ∙ ap (λ z. flat_map acts_of_event before ++ (z ++ flat_map acts_of_event after)) a.1) a.1
 
     two_events : (before : List Event) (d : Event) (between : List Event) (e : Event) (after : List Event) (k l : ℕ) → events ≡ before ++ d ∷ between ++ e ∷ after → label_of d ≡ Some k → label_of e ≡ Some l
         → AreOfOneStep g h steps before d between e ⊎ AreOfTwoSteps g h steps before d between e
-    two_events before d between e after k l q m n = from (stands (before ++ d ∷ between) e after l q n)
+    two_events before d between e after k l q m n = from (occurs (before ++ d ∷ between) e after l q n)
       where
         ad : Act
         ad = (one_act_of d k m).0
@@ -419,12 +419,12 @@ module _ (g : Graph) (h : ℕ → Bool) where
       label s = s.label
 
       caused : c.kind ≡ Needs → (before : List Event) (e : Event) (after : List Event) (l : ℕ) → events ≡ before ++ e ∷ after → label_of e ≡ Some l → IsTrue (is_in l c.later) → HasCause g h c steps before e
-      caused kind before e after l q n i = from (stands before e after l q n)
+      caused kind before e after l q n i = from (occurs before e after l q n)
         where
           from : Position taken steps (flat_map acts_of_event before) e (flat_map acts_of_event after) → HasCause g h c steps before e
           from p = made (split_map (λ (s : StoredStep). s.label) p.prefix right.prefix right.label right.rest right.there)
             where
-              right : StandsSince c.earlier c.since (labels p.prefix)
+              right : OccursSince c.earlier c.since (labels p.prefix)
               right = subst (λ z. IsRight z c.earlier c.since (labels p.prefix)) kind
                   (on (labels p.prefix) p.step.label (labels p.rest) (ap labels p.there ∙ map-append (λ (s : StoredStep). s.label) p.prefix (p.step ∷ p.rest)) (subst (λ z. IsTrue (is_in z c.later)) (its_label p.prefix p.step e l p.is_of n) i))
 
@@ -457,7 +457,7 @@ module _ (g : Graph) (h : ℕ → Bool) where
         its_own : c.kind ≡ Needs → IsTrue (is_in t.first.label c.since) → IsTrue (is_in t.second.label c.later) → HaveCause c (t.first ∷ t.between)
         its_own kind i j = made (split_map (λ (s : StoredStep). s.label) (t.first ∷ t.between) right.prefix right.label right.rest right.there)
           where
-            right : StandsSince c.earlier c.since (labels (t.first ∷ t.between))
+            right : OccursSince c.earlier c.since (labels (t.first ∷ t.between))
             right = has_its_own c (labels t.prefix) t.first.label (labels t.between) t.second.label (labels t.rest) kind (subst (HoldsOn c) (their ∙ ap (λ z. z ++ t.second.label ∷ labels t.rest) first_two) on) i j
 
             made : (u : List StoredStep) × (x : StoredStep) × (v : List StoredStep) × (t.first ∷ t.between ≡ u ++ x ∷ v) × (labels u ≡ right.prefix) × (x.label ≡ right.label) × (labels v ≡ right.rest) → HaveCause c (t.first ∷ t.between)
@@ -469,7 +469,7 @@ module _ (g : Graph) (h : ℕ → Bool) where
           | inr n ↦ absurd (bars record { prefix = labels t.prefix; label = t.first.label; rest = labels t.between; there = first_two; is_earlier = i; none_since = n })
         ]
           where
-            bars : StandsSince c.earlier c.since (labels (t.prefix ++ t.first ∷ t.between)) → ⊥
+            bars : OccursSince c.earlier c.since (labels (t.prefix ++ t.first ∷ t.between)) → ⊥
             bars = subst (λ z. IsRight z c.earlier c.since (labels (t.prefix ++ t.first ∷ t.between))) kind (on (labels (t.prefix ++ t.first ∷ t.between)) t.second.label (labels t.rest) their j)
 
       kept : IsClaimKept g h events steps c
@@ -542,8 +542,8 @@ module _ (g : Graph) (h : ℕ → Bool) (f : List StoredStep) (s : StoredStep) (
           omega (arith, n, m, long, l, k)
 
 -- an event stands at one step
-pub stand_once : EventsStandOnce
-stand_once g h f s r f' s' r' before e q a b = elim (split_two f (s ∷ r) f' s' r' q) [
+pub occur_once : EventsOccurOnce
+occur_once g h f s r f' s' r' before e q a b = elim (split_two f (s ∷ r) f' s' r' q) [
   | inl z ↦ absurd (not_later g h f' s' z.0 s before e b (subst (λ l. IsAtStep g h l s before e) z.1 a))
   | inr z ↦ equal z.0 z.1 z.2
 ]

@@ -53,8 +53,8 @@ pub record IsAtStep (g : Graph) (honest : ℕ → Bool) (steps : List StoredStep
   pub earlier : flat_map acts_of_event before ≡ acts_before g honest steps s (does_send e)
 
 -- An event stands at no more than one step of a walk
-abbrev pub EventsStandOnce : Type 0
-EventsStandOnce = (g : Graph) (honest : ℕ → Bool) (prefix : List StoredStep) (s : StoredStep) (rest prefix' : List StoredStep) (s' : StoredStep) (rest' : List StoredStep) (before : List Event) (e : Event) →
+abbrev pub EventsOccurOnce : Type 0
+EventsOccurOnce = (g : Graph) (honest : ℕ → Bool) (prefix : List StoredStep) (s : StoredStep) (rest prefix' : List StoredStep) (s' : StoredStep) (rest' : List StoredStep) (before : List Event) (e : Event) →
     prefix ++ s ∷ rest ≡ prefix' ++ s' ∷ rest' → IsAtStep g honest prefix s before e → IsAtStep g honest prefix' s' before e → prefix ≡ prefix'
 
 -- among the events, which come after those of the past, is the sending of the step

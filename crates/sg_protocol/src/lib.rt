@@ -41,7 +41,7 @@ ghost use Rattle.sg_protocol.specs.GoesOn.{SessionsGoOn};
 ghost use Rattle.sg_protocol.specs.Turn.{TurnIsOfSession};
 ghost use Rattle.sg_protocol.specs.Restarts.{RestartsAbandon, NoRestartsNoChange, LivesJoinOnce, ReportedJoinOnce, RestartsAreAbandonments, HeadlineOverRestarts, ReceiptsHaveSendsOverRestarts, SessionsHaveOneCastOverRestarts, NoneTakesTwoRolesOverRestarts, FramesShowLastStepsOverRestarts};
 ghost use Rattle.sg_protocol.specs.Named.{StepsAreNamed};
-ghost use Rattle.sg_protocol.specs.Claims.{ClaimsAreKept, EventsStandOnce};
+ghost use Rattle.sg_protocol.specs.Claims.{ClaimsAreKept, EventsOccurOnce};
 
 /// What is read from the spelling of a frame is this frame, so no two frames have one spelling.
 pub fn frames_read()
@@ -304,7 +304,7 @@ pub fn never_stuck()
 /// was taken between. An event stands at no more than one step of a walk.
 pub fn claims_are_kept()
     ensures kept { (sha : List ℕ → List ℕ) → IsHash sha → ClaimsAreKept sha }
-    ensures once { EventsStandOnce }
+    ensures once { EventsOccurOnce }
 {}
 
 /// A principal that is stopped and begun anew over its joins is as one that has abandoned each of its live sessions, in their

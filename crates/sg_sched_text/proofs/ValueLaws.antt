@@ -100,9 +100,9 @@ other_number n x h = by (n == x) refl
     by false e = refl
     by true e = absurd (h (eqb-true n x e))
 
-pub stands : (ns : List ℕ) (vs : List Assignment) (x i n : ℕ) → i < length ns → length ns ≡ length vs → n ≡ get_or ns i n
+pub is_indexed : (ns : List ℕ) (vs : List Assignment) (x i n : ℕ) → i < length ns → length ns ≡ length vs → n ≡ get_or ns i n
     → value_at (numbered (drop i ns) (drop i vs)) x ≡ (if n == x then option_map (λ v. value_of v.value) (slice_get vs i) else value_at (numbered (drop (i + 1) ns) (drop (i + 1) vs)) x)
-stands ns vs x i n h same e =
+is_indexed ns vs x i n h same e =
     let w : i < length vs = omega (arith, h, same) in
     let v : Assignment = get_or vs i (record { variable = []; value = [] }) in
     let s : slice_get vs i ≡ Some v = slice_get-get_or vs i (record { variable = []; value = [] }) w in

@@ -11,7 +11,7 @@ use Rattle.std.proofs.lemmas.Bool.{cases_Bool}
 use Rattle.std.proofs.lemmas.Bool.Decides.{nat_tests}
 use Rattle.sg_model.proofs.Small.{same_at, upto}
 use Rattle.sg_protocol.specs.Evidence.{Seen, View, mask, same_origin, origin_before, items_before, view_before, are_ordered, are_ordered_after}
-use Rattle.sg_vis.specs.Order.{StandsAt, origin_number, seen_compared, items_compared, compared}
+use Rattle.sg_vis.specs.Order.{BelongsAt, origin_number, seen_compared, items_compared, compared}
 use Rattle.sg_vis.specs.Table.{ShownView, views_of}
 
 seen_total : IsTotalOrder seen_compared
@@ -162,7 +162,7 @@ view_at table m s v l e f =
     slice_get-get_or (views_of table) m v l' ∙ ap Some (get_or-map (λ (x : ShownView). x.view) table m s v l ∙ ap (λ (x : ShownView). x.view) (sym e) ∙ f)
 
 -- no view of a table is one that would stand between its views
-pub absent : (table : List ShownView) (v : View) (i : ℕ) → StandsAt table v i → ¬ Contains (views_of table) v
+pub absent : (table : List ShownView) (v : View) (i : ℕ) → BelongsAt table v i → ¬ Contains (views_of table) v
 absent table v i s h =
     let d : ShownView = record { view = v; walk = [] } in
     let l : h.0 < length table = subst (λ n. h.0 < n) (length-map table (λ (x : ShownView). x.view)) h.1 in

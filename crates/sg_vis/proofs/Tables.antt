@@ -20,7 +20,7 @@ use Rattle.sg_vis.specs.declared.states.State.{State}
 use Rattle.sg_vis.specs.declared.fault.ViewFault.{ViewFault}
 use Rattle.sg_vis.specs.declared.fault.ViewFault.TheVariants.{TooManyOpen, TooManyViews, OutOfMemory}
 use Rattle.sg_vis.specs.Limits.{Explains, FewOpen, ManyViews, IsFull}
-use Rattle.sg_vis.specs.Order.{compared, HoldsTable, StandsAt}
+use Rattle.sg_vis.specs.Order.{compared, HoldsTable, BelongsAt}
 use Rattle.sg_vis.specs.Search.{AreRows, Keeps, ShowsNext, ShownBelow}
 use Rattle.sg_vis.specs.Steps.{next_view}
 use Rattle.sg_vis.specs.Table.{ShownView, Shows, views_of}
@@ -45,7 +45,7 @@ spot n p k l m =
     ]
 
 -- a table stays in its order if a row is put where it stands
-pub holds-insert : (table : List ShownView) (p : ℕ) (row : ShownView) → HoldsTable table → length table ≢ 4096 → StandsAt table row.view p → HoldsTable (insert table p row)
+pub holds-insert : (table : List ShownView) (p : ℕ) (row : ShownView) → HoldsTable table → length table ≢ 4096 → BelongsAt table row.view p → HoldsTable (insert table p row)
 holds-insert table p row h few s = record {
   ordered = λ i j d l m. pairs i j d l (spot (length table) p i (omega (arith, long, l, m)) s.within) (spot (length table) p j (omega (arith, long, m)) s.within);
   few = omega (arith, long, h.few, few);
@@ -118,7 +118,7 @@ pub rows-insert : (g : Graph) (r : ℕ) (table : List ShownView) (p : ℕ) (row 
 rows-insert g r table p row h w s holds = record { holds = holds; shows = All-insert (λ (s : ShownView). Shows g r s.walk s.view) table p row w h.shows s }
 
 -- a full table and one view more, if open views are few, show that there are too many views
-pub explains_full : (g : Graph) (r : ℕ) (table : List ShownView) (v : View) (p : ℕ) (walk : List ℕ) (fault : ViewFault) → FewOpen g r → AreRows g r table → Shows g r walk v → StandsAt table v p → IsFull table v fault → Explains g r fault
+pub explains_full : (g : Graph) (r : ℕ) (table : List ShownView) (v : View) (p : ℕ) (walk : List ℕ) (fault : ViewFault) → FewOpen g r → AreRows g r table → Shows g r walk v → BelongsAt table v p → IsFull table v fault → Explains g r fault
 explains_full g r table v p walk (TooManyOpen list) few rows s at full = absurd full
 explains_full g r table v p walk OutOfMemory few rows s at full = tt
 explains_full g r table v p walk (TooManyViews list) few rows s at full = (

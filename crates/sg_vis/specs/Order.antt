@@ -31,7 +31,7 @@ pub record HoldsTable (table : List ShownView) : Type 0 where
   pub few : length table ≤ most_views
 
 -- the view would stand at index i: each view before it comes before the view, and each from there on comes after it
-pub record StandsAt (table : List ShownView) (v : View) (i : ℕ) : Type 0 where
+pub record BelongsAt (table : List ShownView) (v : View) (i : ℕ) : Type 0 where
   pub within : i ≤ length table
   pub before : (k : ℕ) (d : ShownView) → k < i → k < length table → compared (get_or table k d).view v ≡ Less
   pub after : (k : ℕ) (d : ShownView) → i ≤ k → k < length table → compared (get_or table k d).view v ≡ Greater

@@ -5,7 +5,7 @@ ghost use Rattle.sg_model.specs.Shape.{source, receiver};
 ghost use Rattle.sg_protocol.specs.Evidence.{IsViewTable};
 ghost use Rattle.sg_protocol.specs.Graph.{Graph, shape};
 ghost use Rattle.sg_vis.specs.Limits.{Explains, FewOpen, IsFull, MatchViews};
-ghost use Rattle.sg_vis.specs.Order.{HoldsTable, StandsAt};
+ghost use Rattle.sg_vis.specs.Order.{HoldsTable, BelongsAt};
 ghost use Rattle.sg_vis.specs.Search.{AreRows, FollowedBelow, Keeps, LeadBack, Searched, ShowsNext, ShownBelow, open_states};
 ghost use Rattle.sg_vis.specs.Steps.{next_view};
 ghost use Rattle.sg_vis.specs.Table.{Shows, views_of};
@@ -142,7 +142,7 @@ fn walk_on(
 // Puts a row at its index, if there aren't as many as there may be.
 fn put_row(alloc: Global, rows: &mut Vec<Row>, index: usize, row: Row) -> Result<(), ViewFault>
     requires table { HoldsTable rows.old.items }
-    requires index { StandsAt rows.old.items row.view index }
+    requires index { BelongsAt rows.old.items row.view index }
     ensures table { OnOk result (HoldsTable rows.new.items) }
     ensures put { OnOk result (rows.new.items ≡ insert rows.old.items index row) }
     ensures full { IfErr result (IsFull rows.old.items row.view) }

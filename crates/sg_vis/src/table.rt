@@ -2,7 +2,7 @@
 ghost use Rattle.std.specs.Prelude.{◌≡◌, ◌<◌, ◌≤◌, Some, length, slice_get, AllPairs, Contains, IfErr, IfOk, MatchOption};
 ghost use Rattle.std.specs.declared.cmp.Ordering.TheVariants.{Less};
 ghost use Rattle.sg_model.specs.Limits.{most_views};
-ghost use Rattle.sg_vis.specs.Order.{StandsAt, compared};
+ghost use Rattle.sg_vis.specs.Order.{BelongsAt, compared};
 ghost use Rattle.sg_vis.specs.Model.{origin_of};
 ghost use Rattle.sg_vis.specs.Table.{view_from, views_of, walks_of};
 
@@ -101,7 +101,7 @@ impl ViewTable {
 pub(crate) fn index_of(rows: &[Row], from: Origin, items: &[Seen]) -> Result<usize, usize>
     requires { AllPairs (λ a b. compared a.view b.view ≡ Less) rows.now }
     ensures found { IfOk result (λ i. slice_get (views_of rows.now) i ≡ Some (view_from (origin_of from) items.now)) }
-    ensures between { IfErr result (StandsAt rows.now (view_from (origin_of from) items.now)) }
+    ensures between { IfErr result (BelongsAt rows.now (view_from (origin_of from) items.now)) }
 {
     let mut low = 0;
     let mut high = rows.len();

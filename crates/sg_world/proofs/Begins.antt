@@ -52,7 +52,7 @@ module _ (d : Setting) (honest : List Name) (size : ℕ) where
     taken = refl;
     few = omega arith;
     run = record {
-      stand = subst (λ (ms : List Name). RepresentPasts (map (new_named d.keys d.programs) honest) (map (past_of_new d.keys d.programs) ms)) (sym (names_new d.keys d.programs honest)) (represent_new d.keys d.programs honest);
+      represent = subst (λ (ms : List Name). RepresentPasts (map (new_named d.keys d.programs) honest) (map (past_of_new d.keys d.programs) ms)) (sym (names_new d.keys d.programs honest)) (represent_new d.keys d.programs honest);
       reported = refl;
       graphs = refl;
       notes = refl;

@@ -82,7 +82,7 @@ entered programs s ps w nodes l r k x c b h reported graph frame notes = record 
 
 held : (programs : List Program) (s : Schedule) (ps : List Past) (w : World) (nodes : List Named) (l : Logged) (r : Recorded) (x : Step) (c : StepResult) → RepresentPasts nodes ps → Entered programs s ps w l r x c
     → HoldsRun programs (with_step s x) (record { pasts = ps; log = w.log ++ l ∷ [] }) nodes (with_result r x c)
-held programs s ps w nodes l r x c stand e = record { stand = stand; reported = e.reported; graphs = e.graphs; notes = e.notes; frames = e.frames; size = e.size }
+held programs s ps w nodes l r x c represent e = record { represent = represent; reported = e.reported; graphs = e.graphs; notes = e.notes; frames = e.frames; size = e.size }
 
 -- the value at an index put there again
 pub same_value : (ns : List Named) (i : ℕ) (who : Name) (old : NodeState) → slice_get ns i ≡ Some (who, old) → set_value_at ns i old ≡ ns
@@ -104,19 +104,19 @@ call_held : (programs : List Program) (s : Schedule) (w : World) (nodes : List N
 call_held programs s w nodes r k x c who i old new None f b h d at come =
     let performed = come f.past f.represents in
     held programs s w.pasts w (set_value_at nodes i new) _ r x c
-    (subst (λ (z : List Named). RepresentPasts z w.pasts) (sym (ap (λ z. set_value_at nodes i z) performed.1 ∙ same_value nodes i who old at)) h.stand)
+    (subst (λ (z : List Named). RepresentPasts z w.pasts) (sym (ap (λ z. set_value_at nodes i z) performed.1 ∙ same_value nodes i who old at)) h.represent)
     (entered programs s w.pasts w nodes _ r k x c b h (ap (λ (z : StepResult). z.reported) performed.0) (ap (λ (z : StepResult). z.graph) performed.0) (ap (λ (z : StepResult). z.frame) performed.0) (ap (λ (z : StepResult). z.notes) performed.0))
 call_held programs s w nodes r k x c who i old new (Some call) f b h d at come =
     let performed = come f.past f.represents in
     held programs s _ w (set_value_at nodes i new) _ r x c
-    (after nodes w.pasts i who old new call h.stand d at (represents_after (length r.frames + 1) who old new call c come))
+    (after nodes w.pasts i who old new call h.represent d at (represents_after (length r.frames + 1) who old new call c come))
     (entered programs s _ w nodes _ r k x c b h performed.reported (performed.graph ∙ sym (graph_of_called programs s w k x who call f.past b f.is_past)) performed.frame performed.notes)
 
 who_held : (programs : List Program) (s : Schedule) (w : World) (nodes : List Named) (r : Recorded) (k : ℕ) (x : Step) (c : StepResult) (who me : Name) (i : ℕ) (old new : NodeState) (o : Option Call) → me ≡ who
     → IsBefore programs s w k x → HoldsRun programs s w nodes r → all_differ (names nodes) ≡ true → slice_get nodes i ≡ Some (who, old) → ((past : Past) → RepresentsPast old past → IsResult (length r.frames + 1) old new past o c)
     → HoldsRun programs (with_step s x) (option_map_or (called_if real w k me o) (past_of w me) w) (set_value_at nodes i new) (with_result r x c)
 who_held programs s w nodes r k x c who me i old new o e b h d at come =
-    let f = found nodes w.pasts i who old h.stand d at in
+    let f = found nodes w.pasts i who old h.represent d at in
     subst (λ (z : Name). HoldsRun programs (with_step s x) (option_map_or (called_if real w k z o) (past_of w z) w) (set_value_at nodes i new) (with_result r x c)) (sym e)
     (subst (λ (z : Option Past). HoldsRun programs (with_step s x) (option_map_or (called_if real w k who o) z w) (set_value_at nodes i new) (with_result r x c)) (sym f.is_past)
     (call_held programs s w nodes r k x c who i old new o f b h d at come))
@@ -135,4 +135,4 @@ step_held programs s w nodes r k (DeliverStep me what) c who i old new e b h d a
 pub craft_held : (programs : List Program) (s : Schedule) (w : World) (nodes : List Named) (r : Recorded) (k : ℕ) (x : Craft) (c : StepResult) → IsBefore programs s w k (CraftStep x) → HoldsRun programs s w nodes r
     → c.reported ≡ Some (Crafted (length r.frames + 1)) → c.graph ≡ None → c.frame ≡ option_map spelling (crafted real s w x) → c.notes ≡ no_notes
     → HoldsRun programs (with_step s (CraftStep x)) (world_after real s w k (CraftStep x)) nodes (with_result r (CraftStep x) c)
-craft_held programs s w nodes r k x c b h reported graph frame notes = held programs s w.pasts w nodes _ r (CraftStep x) c h.stand (entered programs s w.pasts w nodes _ r k (CraftStep x) c b h reported graph frame notes)
+craft_held programs s w nodes r k x c b h reported graph frame notes = held programs s w.pasts w nodes _ r (CraftStep x) c h.represent (entered programs s w.pasts w nodes _ r k (CraftStep x) c b h reported graph frame notes)

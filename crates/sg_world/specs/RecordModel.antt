@@ -55,7 +55,7 @@ with_result r x c = record {
 
 -- the nodes and the record are those of a run of these programs
 pub record HoldsRun (programs : List Program) (s : Schedule) (w : World) (nodes : List (Name × NodeState)) (r : Recorded) : Type 0 where
-  pub stand : RepresentPasts nodes w.pasts
+  pub represent : RepresentPasts nodes w.pasts
   pub reported : map (λ e. e.reported) r.entries ≡ map Some (reported_log w.log)
   pub graphs : map (λ e. e.graph) r.entries ≡ map (graph_of_entry programs s) w.log
   pub notes : r.notes ≡ map (λ l. l.notes) w.log

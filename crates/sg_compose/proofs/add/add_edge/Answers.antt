@@ -2,7 +2,7 @@ use Rattle.std.proofs.Common.{◌≡◌, ◌≢◌, ◌≤◌, ◌+◌, ◌-◌,
 use Rattle.sg_graph.proofs.Sets.{numbers_within}
 use Rattle.sg_compose.specs.Expansion.{inside}
 use Rattle.sg_compose.proofs.Ends.{inside_length}
-use Rattle.sg_compose.proofs.Joining.{stands-below}
+use Rattle.sg_compose.proofs.Joining.{replaced-below}
 use Rattle.sg_compose.proofs.Renaming.{number-below, set_of-numbers}
 use Rattle.sg_compose.proofs.add.add_edge.Goals as goal
 
@@ -20,8 +20,8 @@ pub add_edge-requires-clause-source : goal.add_edge-requires-clause-source
 add_edge-requires-clause-source c =
     let late : c.args.end ≢ 0 = λ e. (absurd (omega (arith, e, c.requires.late))) in
     let all : length (inside c.args.inner.now c.args.end) ≡ length c.args.inner.now.nodes - 2 = inside_length c.args.inner.now c.args.end late c.requires.there in
-    let there = stands-below c.args.nodes c.args.used.now.from c.args.used.now.to c.args.end c.edge-edge.result.now.source (length c.args.inner.now.nodes) late c.requires.there c.edge-edge.ensures.ends.0 c.requires.from c.requires.to in
-    rw c.stands-source.ensures (elim there [
+    let there = replaced-below c.args.nodes c.args.used.now.from c.args.used.now.to c.args.end c.edge-edge.result.now.source (length c.args.inner.now.nodes) late c.requires.there c.edge-edge.ensures.ends.0 c.requires.from c.requires.to in
+    rw c.replaced-source.ensures (elim there [
       | inl a ↦ omega (arith, a, all, c.requires.nodes)
       | inr b ↦ omega (arith, b, c.requires.nodes)
     ])
@@ -30,8 +30,8 @@ pub add_edge-requires-clause-target : goal.add_edge-requires-clause-target
 add_edge-requires-clause-target c =
     let late : c.args.end ≢ 0 = λ e. (absurd (omega (arith, e, c.requires.late))) in
     let all : length (inside c.args.inner.now c.args.end) ≡ length c.args.inner.now.nodes - 2 = inside_length c.args.inner.now c.args.end late c.requires.there in
-    let there = stands-below c.args.nodes c.args.used.now.from c.args.used.now.to c.args.end c.edge-edge.result.now.target (length c.args.inner.now.nodes) late c.requires.there c.edge-edge.ensures.ends.1 c.requires.from c.requires.to in
-    rw c.stands-target.ensures (elim there [
+    let there = replaced-below c.args.nodes c.args.used.now.from c.args.used.now.to c.args.end c.edge-edge.result.now.target (length c.args.inner.now.nodes) late c.requires.there c.edge-edge.ensures.ends.1 c.requires.from c.requires.to in
+    rw c.replaced-target.ensures (elim there [
       | inl a ↦ omega (arith, a, all, c.requires.nodes)
       | inr b ↦ omega (arith, b, c.requires.nodes)
     ])

@@ -1,14 +1,14 @@
 use Rattle.std.proofs.Common.{refl, sym, ◌∙◌, ◌<◌, arith}
 use Rattle.sg_graph.proofs.Sets.{AreNumbers-with_member, with_member-some}
 use Rattle.sg_parse.proofs.Names.{role_index}
-use Rattle.sg_parse.proofs.Readings.{joins, stands_twice}
+use Rattle.sg_parse.proofs.Readings.{joins, occurs_twice}
 use Rattle.sg_parse.proofs.name.one_more_role.Goals as goal
 
 pub returns-then-has-clause-reads : goal.returns-then-has-clause-reads
 returns-then-has-clause-reads c =
     let g = c.args.graph.now in
     let index = role_index g c.in_ok-name.name c.in-Some.role c.roles-count.ensures.graph c.in-Some.ensures.index.0 c.in-Some.ensures.index.1 in
-    stands_twice 16 g.roles c.args.roles c.args.scanner.now c.name.new.self c.in_ok-name.name c.in_ok-name.at c.in-Some.role
+    occurs_twice 16 g.roles c.args.roles c.args.scanner.now c.name.new.self c.in_ok-name.name c.in_ok-name.at c.in-Some.role
     c.in_ok-name.ensures.reads (c.in-Some.ensures.found.0 refl) index (sym c.has.ensures ∙ c.if-has.true)
 
 pub returns-clause-reads : goal.returns-clause-reads

@@ -3,7 +3,7 @@ use Rattle.std.specs.Option.{IfSome}
 use Rattle.std.specs.List.{slice_get}
 use Rattle.sg_protocol.specs.Evidence.{View}
 use Rattle.sg_vis.specs.Limits.{Explains, IsFull}
-use Rattle.sg_vis.specs.Order.{HoldsTable, StandsAt}
+use Rattle.sg_vis.specs.Order.{HoldsTable, BelongsAt}
 use Rattle.sg_vis.specs.Model.{origin_of}
 use Rattle.sg_vis.specs.Search.{AreRows, Keeps}
 use Rattle.sg_vis.specs.Steps.{next_view}
@@ -41,15 +41,15 @@ returns-clause-refused c =
     let g = c.args.graph.now in
     let r = c.args.role in
     let view : view_from (origin_of c.view.inside.from) c.as_slice-2.result.now ≡ c.in-Ok.view = ap (view_from (origin_of c.view.inside.from)) c.as_slice-2.ensures ∙ c.view.view_is in
-    let stands : StandsAt old c.in-Ok.view c.in-Err-index_of.index =
-    subst (λ v. StandsAt old v c.in-Err-index_of.index) view
-    (subst (λ rows. StandsAt rows (view_from (origin_of c.view.inside.from) c.as_slice-2.result.now) c.in-Err-index_of.index) c.as_slice.ensures.value c.in-Err-index_of.ensures.between) in
+    let belongs : BelongsAt old c.in-Ok.view c.in-Err-index_of.index =
+    subst (λ v. BelongsAt old v c.in-Err-index_of.index) view
+    (subst (λ rows. BelongsAt rows (view_from (origin_of c.view.inside.from) c.as_slice-2.result.now) c.in-Err-index_of.index) c.as_slice.ensures.value c.in-Err-index_of.ensures.between) in
     let shows : Shows g r c.in-Ok-walk_on.walk (next_view g r c.get.result.now.view c.args.label) =
     subst (λ o. IfSome o (λ p. Shows g r c.in-Ok-walk_on.walk (next_view g r p.view c.args.label))) c.get.ensures (c.in-Ok-walk_on.ensures g r c.requires.searched c.requires.label c.requires.receiver c.requires.source) in
     if_err c.put_row.result (IsFull old c.in-Ok.view) (Explains g r) c.put_row.ensures.full
     (λ fault full. explains_full g r old c.in-Ok.view c.in-Err-index_of.index c.in-Ok-walk_on.walk fault
     (few_open g r c.args.states.now c.requires.searched c.requires.followed c.requires.few) c.requires.rows
-    (subst (Shows g r c.in-Ok-walk_on.walk) (sym c.in-Ok.ensures) shows) stands full)
+    (subst (Shows g r c.in-Ok-walk_on.walk) (sym c.in-Ok.ensures) shows) belongs full)
 
 pub returns-clause-rows : goal.returns-clause-rows
 returns-clause-rows c =
