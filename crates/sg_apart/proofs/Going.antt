@@ -46,7 +46,7 @@ use Rattle.sg_protocol.proofs.AfterCalls.{nothing, node_kept}
 use Rattle.sg_protocol.proofs.AbandonCall.{abandon_out}
 use Rattle.sg_protocol.proofs.ActCall.{act_out}
 use Rattle.sg_protocol.proofs.Calls.{NodeOk, Out}
-use Rattle.sg_protocol.proofs.Course.{Suffix, suffix_refl, suffix_one, suffix_trans, in_before, in_after, node_more, next_past, past_called, moved-append, may-append, small_values}
+use Rattle.sg_protocol.proofs.Progressing.{Suffix, suffix_refl, suffix_one, suffix_trans, in_before, in_after, node_more, next_past, past_called, moved-append, may-append, small_values}
 use Rattle.sg_protocol.proofs.DeliverCall.{deliver_out}
 use Rattle.sg_protocol.proofs.Finding.{find_passes, find_all}
 use Rattle.sg_protocol.proofs.Gives.{keys_are}

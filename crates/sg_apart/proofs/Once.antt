@@ -17,7 +17,7 @@ use Rattle.sg_protocol.specs.Acting.{answer}
 use Rattle.sg_protocol.specs.Past.{AnsweredCall, Past, JoinedOnce, AreAnswers, new_node, node_of, node_after_all, past_after, pairs_differ}
 use Rattle.sg_protocol.specs.World.{World, Outcome, Answered, past_of}
 use Rattle.sg_protocol.specs.Run.{called}
-use Rattle.sg_protocol.proofs.Course.{node_more, next_past}
+use Rattle.sg_protocol.proofs.Progressing.{node_more, next_past}
 use Rattle.sg_protocol.proofs.Finding.{find_passes}
 use Rattle.sg_protocol.proofs.Joins.{nodes_join_once}
 use Rattle.sg_protocol.proofs.Whole.{found_in}

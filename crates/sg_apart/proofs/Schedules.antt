@@ -29,7 +29,7 @@ use Rattle.sg_protocol.specs.Run.{called, called_if, uncalled, world_after, worl
 use Rattle.sg_protocol.specs.Premises.{MadeBefore, Premises, hashed}
 use Rattle.sg_protocol.specs.IsSchedule.{AreCompiled, IsDeclared, IsSchedule, IsStep}
 use Rattle.sg_protocol.specs.Ranges.{AreValues, IsCallInRange, IsCast}
-use Rattle.sg_protocol.proofs.Course.{confounder_length, past_called}
+use Rattle.sg_protocol.proofs.Progressing.{confounder_length, past_called}
 use Rattle.sg_protocol.proofs.Fits.{Fit, declared_in, fit_bytes, fit_new, fit_next}
 use Rattle.sg_protocol.proofs.Spelled.{bytes-append, to_bytes, u64_bytes}
 use Rattle.sg_protocol.proofs.Whole.{first_past, new_past, program_graph}

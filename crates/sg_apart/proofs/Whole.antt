@@ -36,7 +36,7 @@ use Rattle.sg_protocol.specs.Headline.{IsExplained}
 use Rattle.sg_protocol.specs.Ranges.{IsCallInRange}
 use Rattle.sg_protocol.specs.IsSchedule.{IsProgram}
 use Rattle.sg_protocol.specs.Bounds.{IsSession}
-use Rattle.sg_protocol.proofs.Course.{Suffix, node_more, next_past, past_called}
+use Rattle.sg_protocol.proofs.Progressing.{Suffix, node_more, next_past, past_called}
 use Rattle.sg_protocol.proofs.Calls.{NodeOk}
 use Rattle.sg_protocol.proofs.Finding.{find_passes, find_all}
 use Rattle.sg_protocol.proofs.First.{programs_after}

@@ -28,7 +28,7 @@ use Rattle.sg_protocol.specs.Ranges.{IsCallInRange}
 use Rattle.sg_protocol.specs.Bounds.{IsSession}
 use Rattle.sg_protocol.specs.Named.{GivesVariables, HasNamed, names_numbers}
 use Rattle.sg_protocol.proofs.AfterCalls.{cast_parts}
-use Rattle.sg_protocol.proofs.Course.{small_values}
+use Rattle.sg_protocol.proofs.Progressing.{small_values}
 use Rattle.sg_protocol.proofs.Moves.{row_none}
 use Rattle.sg_protocol.proofs.ReadBack.{read-SpellsFrame}
 use Rattle.sg_protocol.proofs.Sendings.{took}

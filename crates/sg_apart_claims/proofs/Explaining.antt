@@ -45,7 +45,7 @@ use Rattle.sg_protocol.proofs.Paths.{steps_of}
 use Rattle.sg_protocol.proofs.Entries.{entries, sight, sight-since, view_ends}
 use Rattle.sg_protocol.proofs.Moves.{writes_below}
 use Rattle.sg_protocol.proofs.Splits.{split_at_end}
-use Rattle.sg_protocol.proofs.Course.{Suffix}
+use Rattle.sg_protocol.proofs.Progressing.{Suffix}
 use Rattle.sg_protocol.proofs.Explaining.{shown_split, walk_after_steps-last}
 use Rattle.sg_protocol.proofs.Calls.{Quiet, TookFrame}
 use Rattle.sg_apart.proofs.Going.{SessionApart, Progress, Outs, progress_called, progress_moves}

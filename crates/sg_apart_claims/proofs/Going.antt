@@ -14,7 +14,7 @@ use Rattle.sg_protocol.specs.Schedule.{Schedule}
 use Rattle.sg_protocol.specs.World.{World, past_of}
 use Rattle.sg_protocol.specs.Run.{called}
 use Rattle.sg_protocol.specs.Ranges.{IsCallInRange}
-use Rattle.sg_protocol.proofs.Course.{Suffix}
+use Rattle.sg_protocol.proofs.Progressing.{Suffix}
 use Rattle.sg_apart.specs.Apart.{CallAt, world_after_calls, world_called}
 use Rattle.sg_apart.proofs.Going.{SessionApart, Progress, Outs, out_of, progress_called, suffix_calls}
 

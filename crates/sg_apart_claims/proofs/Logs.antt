@@ -21,7 +21,7 @@ use Rattle.sg_protocol.specs.World.{World, Logged, Answered, past_of}
 use Rattle.sg_protocol.specs.Run.{called, frame_in}
 use Rattle.sg_protocol.specs.Ranges.{IsCallInRange}
 use Rattle.sg_protocol.proofs.Acts as C
-use Rattle.sg_protocol.proofs.Course.{Suffix, in_after, next_past, node_more, past_called}
+use Rattle.sg_protocol.proofs.Progressing.{Suffix, in_after, next_past, node_more, past_called}
 use Rattle.sg_protocol.proofs.Finding.{find_passes}
 use Rattle.sg_protocol.proofs.Whole.{found_in}
 use Rattle.sg_apart.specs.Apart.{Begins, CallAt, AreCallsInRange, honest_are, run_apart, world_called, world_after_calls}

@@ -13,7 +13,7 @@ use Rattle.sg_protocol.specs.Schedule.{Schedule}
 use Rattle.sg_protocol.specs.World.{World, Logged, past_of}
 use Rattle.sg_protocol.specs.Run.{called}
 use Rattle.sg_protocol.specs.Premises.{MadeBefore, hashed, Premises}
-use Rattle.sg_protocol.proofs.Course.{Suffix, suffix_refl, in_before, in_after}
+use Rattle.sg_protocol.proofs.Progressing.{Suffix, suffix_refl, in_before, in_after}
 use Rattle.sg_apart.specs.Apart.{CallAt, world_called, world_after_calls, run_apart}
 use Rattle.sg_apart.proofs.Going.{suffix_calls}
 

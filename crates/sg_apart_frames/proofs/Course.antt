@@ -22,7 +22,7 @@ use Rattle.sg_protocol.specs.Run.{called, frame_in}
 use Rattle.sg_protocol.specs.LastSteps.{exchanges_of, exchanges_in, is_of, honest_items, sent_item}
 use Rattle.sg_protocol.specs.Ranges.{IsCallInRange}
 use Rattle.sg_protocol.proofs.Calls.{Out}
-use Rattle.sg_protocol.proofs.Course.{Suffix, next_past, past_called, moved-append}
+use Rattle.sg_protocol.proofs.Progressing.{Suffix, next_past, past_called, moved-append}
 use Rattle.sg_protocol.proofs.Entries.{entry, entries, Roles}
 use Rattle.sg_protocol.proofs.Moves.{step, roles-append}
 use Rattle.sg_protocol.proofs.Paths.{flat_map-append}

@@ -58,7 +58,7 @@ use Rattle.std.proofs.lemmas.List.Elements.{filter-append, filter_map-append}
 use Rattle.sg_protocol.proofs.Finding.{one_index, find_passes}
 use Rattle.sg_protocol.proofs.Calls.{Unmoved, WasLeft, HasStarted, HasTaken, HasGiven, TakesFrame}
 use Rattle.sg_protocol.proofs.KnownSession.{SessionOfCast}
-use Rattle.sg_protocol.proofs.Course.{Suffix, past_called, next_past, node_more, in_after, in_before, suffix_trans, suffix_one}
+use Rattle.sg_protocol.proofs.Progressing.{Suffix, past_called, next_past, node_more, in_after, in_before, suffix_trans, suffix_one}
 use Rattle.sg_protocol.proofs.Whole.{found_in, find_some}
 use Rattle.sg_apart.specs.Apart.{CallAt, world_after_calls}
 use Rattle.sg_apart.proofs.Going.{SessionApart, Progress, Left}

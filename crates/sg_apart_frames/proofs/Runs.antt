@@ -13,7 +13,7 @@ use Rattle.sg_protocol.specs.Past.{Past, past_after}
 use Rattle.sg_protocol.specs.World.{World, past_of}
 use Rattle.sg_protocol.specs.Run.{called}
 use Rattle.sg_protocol.specs.Ranges.{IsCallInRange}
-use Rattle.sg_protocol.proofs.Course.{Suffix, next_past, past_called}
+use Rattle.sg_protocol.proofs.Progressing.{Suffix, next_past, past_called}
 use Rattle.sg_protocol.proofs.Finding.{find_passes}
 use Rattle.sg_apart.specs.Apart.{CallAt, world_called, world_after_calls}
 use Rattle.sg_apart.proofs.Going.{suffix_calls}

@@ -42,7 +42,7 @@ use Rattle.sg_protocol.specs.Ranges.{IsCallInRange}
 use Rattle.sg_protocol.specs.LastSteps.{ShowsLastSteps, HeldBySender, bare, exchanges_of, honest_items}
 use Rattle.sg_protocol.proofs.Bridge.{up_to_last-after}
 use Rattle.sg_protocol.proofs.Calls.{NodeOk, Status, TakesFrame}
-use Rattle.sg_protocol.proofs.Course.{Suffix, may-append, moved-append}
+use Rattle.sg_protocol.proofs.Progressing.{Suffix, may-append, moved-append}
 use Rattle.sg_protocol.proofs.Entries.{entry, entries, by, Roles, has-entries, up_to-entries}
 use Rattle.sg_protocol.proofs.Finding.{one_index}
 use Rattle.sg_protocol.proofs.Keys.{all-mid, all-up_to_last, has-mid}

@@ -1,3 +1,3 @@
 pub mod Driven
 pub mod Args
-mod Taken
+mod AfterDashes

@@ -85,8 +85,8 @@ and_swap false true = refl
 and_swap false false = refl
 
 -- one in front of the others
-pub in_front : {A : Type 0} (names : List Name) (value : Word → A) (p : Pair) (ps : List Pair) → both_assigned (one_assigned names p.variable (value p.value)) (assigned_in names value ps) ≡ assigned_in names value (p ∷ ps)
-in_front {A} names value p ps = by (has_text p.variable names) refl
+pub in_prefix : {A : Type 0} (names : List Name) (value : Word → A) (p : Pair) (ps : List Pair) → both_assigned (one_assigned names p.variable (value p.value)) (assigned_in names value ps) ≡ assigned_in names value (p ∷ ps)
+in_prefix {A} names value p ps = by (has_text p.variable names) refl
   where
     rest : Assignments A
     rest = assigned_in names value ps
@@ -115,7 +115,7 @@ pairs_are {A} names read ok value r (w ∷ ws) v h = first (assigned names read 
           list = a.pair ∷ b.list;
           spelled = λ i. a.spelled i ∷ b.spelled i;
           form = both a.form b.form;
-          gives = sym (some_same h) ∙ (λ i. both_assigned (a.gives i) (b.gives i)) ∙ in_front names value a.pair b.list;
+          gives = sym (some_same h) ∙ (λ i. both_assigned (a.gives i) (b.gives i)) ∙ in_prefix names value a.pair b.list;
         }
 
     first : (o : Option (Assignments A)) → assigned names read w ≡ o → ((u : Assignments A) → all_assigned names read ws ≡ Some u → AllPairs names ok value ws u) → option_and_then (λ v. option_map (both_assigned v) (all_assigned names read ws)) o ≡ Some v → AllPairs names ok value (w ∷ ws) v
@@ -128,4 +128,4 @@ pairs_ok names read ok value r [] h = refl
 pairs_ok names read ok value r (p ∷ ps) h =
     let a = pair_ok names read ok value r p (and_left (is_name p.variable && ok p.value) (list_all (λ p. is_name p.variable && ok p.value) ps) h) in
     let b = pairs_ok names read ok value r ps (and_right (is_name p.variable && ok p.value) (list_all (λ p. is_name p.variable && ok p.value) ps) h) in
-    (λ i. option_and_then (λ v. option_map (both_assigned v) (b i)) (a i)) ∙ ap Some (in_front names value p ps)
+    (λ i. option_and_then (λ v. option_map (both_assigned v) (b i)) (a i)) ∙ ap Some (in_prefix names value p ps)

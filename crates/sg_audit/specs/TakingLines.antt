@@ -8,7 +8,7 @@ use Rattle.sg_audit.specs.LineContents.{Assignments, StepContent, LogContent, Se
 use Rattle.sg_audit.specs.SoFar.{SoFar, Added}
 use Rattle.sg_audit.specs.Sessions.{Session, Logs}
 use Rattle.sg_audit.specs.Spells.{Fault, WrongLine, NoGraph}
-use Rattle.sg_audit.specs.declared.assignments.Assignments.{Assignments as Taken}
+use Rattle.sg_audit.specs.declared.assignments.Assignments.{Assignments as TakenAssignments}
 use Rattle.sg_audit.specs.declared.line.LogLine.{LogLine}
 use Rattle.sg_audit.specs.declared.line.LogLine.TheVariants.{Session as ALine, Log, Event, Walk}
 use Rattle.sg_audit.specs.declared.step.LogStep.{LogStep}
@@ -21,11 +21,11 @@ use Rattle.sg_audit.specs.declared.fault.LogFault.{LogFault}
 use Rattle.sg_audit.specs.declared.fault.LogFault.TheVariants.{Form, Unknown, Twice, Graph, TooManyEvents, OutOfMemory}
 
 -- the values that are held
-abbrev pub assigned_values : Taken Held → Assignments Value
+abbrev pub assigned_values : TakenAssignments Held → Assignments Value
 assigned_values v = record { pairs = values_of v.pairs; known = v.known }
 
 -- the values that are held, some hidden
-abbrev pub assigned_writes : Taken (Option Held) → Assignments (Option Value)
+abbrev pub assigned_writes : TakenAssignments (Option Held) → Assignments (Option Value)
 assigned_writes v = record { pairs = writes_of v.pairs; known = v.known }
 
 -- a step that is held

@@ -17,6 +17,6 @@ pub mod Entries
 pub mod Going
 pub mod Stepping
 pub mod Explained
-pub mod Found
+pub mod BySid
 pub mod HonestSets
 pub mod Taking

@@ -98,26 +98,26 @@ module _ (programs : List Program) (s : Schedule) (before : List Logged) (l : Lo
   -- ---- a receipt
 
   module _ (e : Event) (f : Frame) (bs : List ℕ) (es now : List Entry) (call : l.call ≡ Some (Deliver bs)) (reads : read bs ≡ Ok f) (one : events_of_outcome l.outcome ≡ e ∷ []) where
-    abbrev Taken : Event → Trace → Trace → Type 0
-    Taken x old new = Takes programs old new x f
+    abbrev TakesFrame : Event → Trace → Trace → Type 0
+    TakesFrame x old new = Takes programs old new x f
 
-    step_taken : (u : IsUnbroken programs s) (n : IsNext programs s before l) (x : Event) → receipt f ≡ x → events_of_outcome l.outcome ≡ receipt f ∷ [] → (old new : Trace) → Taken (receipt f) old new → IsTraceOf s log before f.sid old → IsTraceOf s log (before ++ l ∷ []) f.sid new
+    step_taken : (u : IsUnbroken programs s) (n : IsNext programs s before l) (x : Event) → receipt f ≡ x → events_of_outcome l.outcome ≡ receipt f ∷ [] → (old new : Trace) → TakesFrame (receipt f) old new → IsTraceOf s log before f.sid old → IsTraceOf s log (before ++ l ∷ []) f.sid new
     step_taken u n x is one' old new t h =
         takes programs s u before l n.after bs f old new n.parts call reads one' (delivery_is programs s u l bs f (receipt f) (in_log n) call reads one').0 (entry programs s u l (Deliver bs) (receipt f) (in_log n) call one') t h
 
-    pub received_at : (index : ℕ) (c : Trace) → slice_get es index ≡ Some (f.sid, c) → GoesAt (Taken e) es now index → GoOn s before l (with_table programs es) (with_table programs now)
+    pub received_at : (index : ℕ) (c : Trace) → slice_get es index ≡ Some (f.sid, c) → GoesAt (TakesFrame e) es now index → GoOn s before l (with_table programs es) (with_table programs now)
     received_at index c at g u n are =
         let is : receipt f ≡ e = (delivery_is programs s u l bs f e (in_log n) call reads one).1 in
         let one' : events_of_outcome l.outcome ≡ receipt f ∷ [] = one ∙ ap (λ x. x ∷ []) (sym is) in
-        at_index (Taken (receipt f)) (receipt f) one' (step_taken u n e is one') es now index c at (subst (λ x. GoesAt (Taken x) es now index) (sym is) g) are
+        at_index (TakesFrame (receipt f)) (receipt f) one' (step_taken u n e is one') es now index c at (subst (λ x. GoesAt (TakesFrame x) es now index) (sym is) g) are
 
-    pub received_new : (names : List Name) → s.honest ≡ names → has_text f.sid (keys es) ≡ false → ((cast : Cast) → f.join ≡ Some cast → Begun (Taken e) programs names cast f.receiver f.sid es now) → GoOn s before l (with_table programs es) (with_table programs now)
+    pub received_new : (names : List Name) → s.honest ≡ names → has_text f.sid (keys es) ≡ false → ((cast : Cast) → f.join ≡ Some cast → Begun (TakesFrame e) programs names cast f.receiver f.sid es now) → GoOn s before l (with_table programs es) (with_table programs now)
     received_new names honest none begun u n are =
         let is : receipt f ≡ e = (delivery_is programs s u l bs f e (in_log n) call reads one).1 in
         let one' : events_of_outcome l.outcome ≡ receipt f ∷ [] = one ∙ ap (λ x. x ∷ []) (sym is) in
         let i = entry programs s u l (Deliver bs) (receipt f) (in_log n) call one' in
         let joins : f.join ≡ Some i.cast = ap (λ r. option_and_then (λ (g : Frame). g.join) (result_ok r)) (sym reads) ∙ cast_met n (receipt f) (Deliver bs) i (absent f.sid es are none) one' call in
-        at_end (Taken (receipt f)) (receipt f) one' (step_taken u n e is one') u i names i.cast es now honest none refl (subst (λ x. Begun (Taken x) programs names i.cast f.receiver f.sid es now) (sym is) (begun i.cast joins)) are
+        at_end (TakesFrame (receipt f)) (receipt f) one' (step_taken u n e is one') u i names i.cast es now honest none refl (subst (λ x. Begun (TakesFrame x) programs names i.cast f.receiver f.sid es now) (sym is) (begun i.cast joins)) are
 
   -- ---- what leaves no event
 

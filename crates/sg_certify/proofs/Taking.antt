@@ -23,7 +23,7 @@ use Rattle.sg_certify.specs.Adding.{Adds, Begins, Takes, view_now}
 use Rattle.sg_certify.specs.Traces.{Trace}
 use Rattle.sg_certify.specs.Tables.{Begun, GoesAt}
 use Rattle.sg_certify.proofs.Going.{Entry}
-use Rattle.sg_certify.proofs.Found.{entry_at}
+use Rattle.sg_certify.proofs.BySid.{entry_at}
 
 -- ---- results
 

@@ -1,7 +1,7 @@
 -- The text for a graph whose shape is wrong, or that blinds two roles, by its names.
 use Rattle.std.specs.Prelude.{ℕ, List, ◌++◌, codes}
 use Rattle.sg_protocol.specs.Graph.{Graph, role_name, node_name}
-use Rattle.sg_graph.specs.Named.{walk_text}
+use Rattle.sg_graph.specs.NamesOfGraph.{walk_text}
 use Rattle.sg_graph.specs.Parts.{edge_name}
 use Rattle.sg_check.specs.declared.shape.ShapeFault.{ShapeFault}
 use Rattle.sg_check.specs.declared.shape.ShapeFault.TheVariants.{SelfEdge, Unreachable, IdleRole}

@@ -8,7 +8,7 @@ use Rattle.sg_claims.specs.declared.claim.NamedClaim.{NamedClaim}
 use Rattle.sg_claims_text.specs.Grammar.{AreLabels, IsClaim, claim_names, claim_tokens, head_tokens, most_claims, said, since_tokens, SpellsClaims}
 use Rattle.sg_claims_text.specs.Written.{claim_line, said_text, since_text, written}
 use Rattle.sg_claims_text.proofs.TookClaims.{said_of}
-use Rattle.sg_graph.specs.Named.{walk_text}
+use Rattle.sg_graph.specs.NamesOfGraph.{walk_text}
 use Rattle.sg_graph.specs.Parts.{edge_name, edge_names}
 use Rattle.sg_model.specs.Claims.{ClaimKind, Needs, Bars}
 use Rattle.sg_model.specs.Lists.{has_text, all_differ}

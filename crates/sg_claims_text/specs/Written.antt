@@ -1,7 +1,7 @@
 -- The text of claims as it is written: a statement on each line.
 use Rattle.std.specs.Prelude.{ℕ, List, [], ◌∷◌, ◌++◌, codes, flat_map}
 use Rattle.sg_claims.specs.declared.claim.NamedClaim.{NamedClaim}
-use Rattle.sg_graph.specs.Named.{walk_text}
+use Rattle.sg_graph.specs.NamesOfGraph.{walk_text}
 use Rattle.sg_model.specs.Claims.{ClaimKind, Needs, Bars}
 use Rattle.sg_protocol.specs.Graph.{Graph, ended}
 

@@ -77,15 +77,15 @@ all_or_refused graphs programs index f compiled whole (g, at, s) =
 
 -- ---- one refusal
 
-in_front : (graphs : List Graph) (i j : ℕ) (g : Graph) → i < j → slice_get graphs i ≡ Some g → slice_get (take j graphs) i ≡ Some g
-in_front [] i j g l e = absurd (cc)
-in_front (h ∷ hs) i zero g l e = absurd (omega (arith, l))
-in_front (h ∷ hs) zero (suc j) g l e = e
-in_front (h ∷ hs) (suc i) (suc j) g l e = in_front hs i j g (omega (arith, l)) e
+in_prefix : (graphs : List Graph) (i j : ℕ) (g : Graph) → i < j → slice_get graphs i ≡ Some g → slice_get (take j graphs) i ≡ Some g
+in_prefix [] i j g l e = absurd (cc)
+in_prefix (h ∷ hs) i zero g l e = absurd (omega (arith, l))
+in_prefix (h ∷ hs) zero (suc j) g l e = e
+in_prefix (h ∷ hs) (suc i) (suc j) g l e = in_prefix hs i j g (omega (arith, l)) e
 
 none_before : (graphs : List Graph) (i j : ℕ) (f k : CompileFault) → i < j → IsAllFault graphs (Refused i f) → IsAllFault graphs (Refused j k) → ⊥
 none_before graphs i j f k l (g, at, s) (h, there, t) =
-    let early : In (parts (take j graphs)) (g, s.role) = in_parts (take j graphs) i g s.role (in_front graphs i j g l at) s.there in
+    let early : In (parts (take j graphs)) (g, s.role) = in_parts (take j graphs) i g s.role (in_prefix graphs i j g l at) s.there in
     none_stopped (parts (take i graphs)) g f s t.programs t.each
     (subst (λ ts. In ts (g, s.role)) (sym t.earlier) (in_left (parts (take j graphs)) (roles_of h t.role) (g, s.role) early))
 

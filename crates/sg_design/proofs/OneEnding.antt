@@ -24,12 +24,12 @@ use Rattle.sg_ending.specs.Laws.{EndsOnce, asked, is_of_outside}
 use Rattle.sg_ending.specs.Output.{Output}
 use Rattle.sg_design.specs.Claimed.{Suggests}
 use Rattle.sg_design.specs.Ends.{Checks, Compiles, Composes, IsCompilation, IsRefusedFor, LacksRole}
-use Rattle.sg_ending.proofs.OneEnding.{one_ok, one_err, ok_or_err, Cause, Taken, Refused, Before, Determined, one_cause, file_once, no_graph, of_graph}
+use Rattle.sg_ending.proofs.OneEnding.{one_ok, one_err, ok_or_err, Cause, CompiledGraph, Refused, Before, Determined, one_cause, file_once, no_graph, of_graph}
 
 -- ---- graphs
 
 check_cause : (bytes : List ℕ) (a a' : Output) (e : Ending) → Checks bytes a a' e → is_of_outside e ≡ false → Cause (SpellsGraph bytes) (no_graph bytes) (asked e)
-check_cause bytes a a' Written (text, t, w) n = Taken t.spelled t.compiled t.few
+check_cause bytes a a' Written (text, t, w) n = CompiledGraph t.spelled t.compiled t.few
 check_cause bytes a a' NoCommand (text, t, w) n = absurd w
 check_cause bytes a a' (NoGraph fault) (same, e) n = Before (fault, refl, e)
 check_cause bytes a a' (NoExpansion fault) (text, t, w) n = absurd w
@@ -45,7 +45,7 @@ check_cause bytes a a' NoLedger (text, t, w) n = absurd w
 check_cause bytes a a' (BadSlot slot) (text, t, w) n = absurd w
 check_cause bytes a a' LedgerNotEmpty (text, t, w) n = absurd w
 check_cause bytes a a' (FileFailed arg) (text, t, w) n = absurd w
-check_cause bytes a a' WriteFailed (text, t, w) n = Taken t.spelled t.compiled t.few
+check_cause bytes a a' WriteFailed (text, t, w) n = CompiledGraph t.spelled t.compiled t.few
 check_cause bytes a a' LinkFailed (text, t, w) n = absurd w
 check_cause bytes a a' InputFailed (text, t, w) n = absurd w
 check_cause bytes a a' DiskFailed (text, t, w) n = absurd w
@@ -58,7 +58,7 @@ check_once =
     file_once Checks most_graph_file (λ bytes a a' b b' x y h k p q. one_cause _ _ (of_graph bytes) (asked x) (asked y) (check_cause bytes a a' x h p) (check_cause bytes b b' y k q))
 
 suggest_cause : (bytes : List ℕ) (a a' : Output) (e : Ending) → Suggests bytes a a' e → is_of_outside e ≡ false → Cause (SpellsGraph bytes) (no_graph bytes) (asked e)
-suggest_cause bytes a a' Written (text, t, w) n = Taken t.accepted.spelled t.accepted.compiled t.accepted.few
+suggest_cause bytes a a' Written (text, t, w) n = CompiledGraph t.accepted.spelled t.accepted.compiled t.accepted.few
 suggest_cause bytes a a' NoCommand (text, t, w) n = absurd w
 suggest_cause bytes a a' (NoGraph fault) (same, e) n = Before (fault, refl, e)
 suggest_cause bytes a a' (NoExpansion fault) (text, t, w) n = absurd w
@@ -74,7 +74,7 @@ suggest_cause bytes a a' NoLedger (text, t, w) n = absurd w
 suggest_cause bytes a a' (BadSlot slot) (text, t, w) n = absurd w
 suggest_cause bytes a a' LedgerNotEmpty (text, t, w) n = absurd w
 suggest_cause bytes a a' (FileFailed arg) (text, t, w) n = absurd w
-suggest_cause bytes a a' WriteFailed (text, t, w) n = Taken t.accepted.spelled t.accepted.compiled t.accepted.few
+suggest_cause bytes a a' WriteFailed (text, t, w) n = CompiledGraph t.accepted.spelled t.accepted.compiled t.accepted.few
 suggest_cause bytes a a' LinkFailed (text, t, w) n = absurd w
 suggest_cause bytes a a' InputFailed (text, t, w) n = absurd w
 suggest_cause bytes a a' DiskFailed (text, t, w) n = absurd w
@@ -114,7 +114,7 @@ of_parts bytes = record { graph = graph; early = early; apart = apart }
     apart g e (ps, s, h) (inr (f, qs, is, t, j)) = ok_or_err (expansion ps) g f h (ap expansion (one_parts bytes ps qs s t) ∙ j)
 
 compose_cause : (bytes : List ℕ) (a a' : Output) (e : Ending) → Composes bytes a a' e → is_of_outside e ≡ false → Cause (expands bytes) (no_expansion bytes) (asked e)
-compose_cause bytes a a' Written (text, t, w) n = Taken (t.parts, t.spelled, t.expanded) t.compiled t.few
+compose_cause bytes a a' Written (text, t, w) n = CompiledGraph (t.parts, t.spelled, t.expanded) t.compiled t.few
 compose_cause bytes a a' NoCommand (text, t, w) n = absurd w
 compose_cause bytes a a' (NoGraph fault) (same, e) n = Before (inl (fault, refl, e))
 compose_cause bytes a a' (NoExpansion fault) (same, (ps, s, e)) n = Before (inr (fault, ps, refl, s, e))
@@ -130,7 +130,7 @@ compose_cause bytes a a' NoLedger (text, t, w) n = absurd w
 compose_cause bytes a a' (BadSlot slot) (text, t, w) n = absurd w
 compose_cause bytes a a' LedgerNotEmpty (text, t, w) n = absurd w
 compose_cause bytes a a' (FileFailed arg) (text, t, w) n = absurd w
-compose_cause bytes a a' WriteFailed (text, t, w) n = Taken (t.parts, t.spelled, t.expanded) t.compiled t.few
+compose_cause bytes a a' WriteFailed (text, t, w) n = CompiledGraph (t.parts, t.spelled, t.expanded) t.compiled t.few
 compose_cause bytes a a' LinkFailed (text, t, w) n = absurd w
 compose_cause bytes a a' InputFailed (text, t, w) n = absurd w
 compose_cause bytes a a' DiskFailed (text, t, w) n = absurd w

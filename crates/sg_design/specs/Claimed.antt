@@ -9,7 +9,7 @@ use Rattle.sg_claims_text.specs.Grammar.{SpellsClaims}
 use Rattle.sg_claims_text.specs.Reading.{read}
 use Rattle.sg_claims_text.specs.Written.{written}
 use Rattle.sg_claims_text.specs.declared.fault.ClaimsFault.TheVariants.{Text}
-use Rattle.sg_graph.specs.Named.{walk_text}
+use Rattle.sg_graph.specs.NamesOfGraph.{walk_text}
 use Rattle.sg_model.specs.Limits.{most_graph_file}
 use Rattle.sg_parse.specs.Grammar.{SpellsGraph}
 use Rattle.sg_parse.specs.Reading.{read as parsed}

@@ -16,7 +16,7 @@ use Rattle.sg_model.specs.Last.{Map}
 use Rattle.sg_model.specs.Lists.{below, range_from, rises_from}
 use Rattle.sg_model.specs.Shape.{Arrow, source}
 use Rattle.sg_model.specs.Values.{Value}
-use Rattle.sg_protocol.proofs.Course.{confounder_length}
+use Rattle.sg_protocol.proofs.Progressing.{confounder_length}
 use Rattle.sg_protocol.proofs.Moves.{writes_below}
 use Rattle.sg_protocol.proofs.Spelled.{bytes-append, to_bytes, u64_bytes}
 use Rattle.sg_protocol.specs.Frame.{IsValue}

@@ -12,8 +12,8 @@ mod OwnSetup
 mod Stepping
 mod Left
 mod DrawnValues
-mod Kept
-mod KeptTurns
+mod BudgetLaws
+mod BudgetOfTurns
 mod Grouped
 mod Turned
 mod WholeRun

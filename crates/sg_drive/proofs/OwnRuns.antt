@@ -7,7 +7,7 @@ use Rattle.std.proofs.lemmas.List.Elements.{filter_map-append}
 use Rattle.sg_model.proofs.Small.{all-append}
 use Rattle.sg_model.specs.Last.{Map}
 use Rattle.sg_model.specs.Values.{Value}
-use Rattle.sg_protocol.proofs.Course.{next_past, node_more, past_called}
+use Rattle.sg_protocol.proofs.Progressing.{next_past, node_more, past_called}
 use Rattle.sg_protocol.proofs.Finding.{find_passes}
 use Rattle.sg_protocol.proofs.Nodes.{abandon_sends, deliver_sends, start_sends}
 use Rattle.sg_protocol.proofs.Steps.{frames_are_numbered}

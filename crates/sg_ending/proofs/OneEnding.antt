@@ -35,7 +35,7 @@ ok_or_err r x y h k = absurd (cc)
 
 -- what bytes ask for that hold a graph, or are refused before one is found
 pub data Cause (Is : Graph → Type 0) (Early : Ending → Type 0) : Ending → Type 0 where
-  Taken : {g : Graph} {ps : List Program} → Is g → AreCompiled real (g ∷ []) ps → All IsWhole ps → Cause Is Early Written
+  CompiledGraph : {g : Graph} {ps : List Program} → Is g → AreCompiled real (g ∷ []) ps → All IsWhole ps → Cause Is Early Written
   Refused : {g : Graph} {f : CompileFault} → Is g → IsFirstRefused (g ∷ []) g f → Cause Is Early (GraphRefused g OutOfMemory)
   Before : {e : Ending} → Early e → Cause Is Early e
 
@@ -52,13 +52,13 @@ never_both Is Early d g h ps f i j c w (index, at, stopped) =
     all_or_refused (h ∷ []) ps index f (subst (λ (k : Graph). AreCompiled real (k ∷ []) ps) (d.graph g h i j) c) w stopped
 
 pub one_cause : (Is : Graph → Type 0) (Early : Ending → Type 0) → Determined Is Early → (x y : Ending) → Cause Is Early x → Cause Is Early y → x ≡ y
-one_cause Is Early d _ _ (Taken i c w) (Taken j b v) = refl
-one_cause Is Early d _ _ (Taken {g} {ps} i c w) (Refused {g = h} {f = f} j r) = absurd (never_both Is Early d g h ps f i j c w r)
-one_cause Is Early d _ y (Taken {g} i c w) (Before e) = absurd (d.apart g y i e)
-one_cause Is Early d _ _ (Refused {g = h} {f = f} j r) (Taken {g} {ps} i c w) = absurd (never_both Is Early d g h ps f i j c w r)
+one_cause Is Early d _ _ (CompiledGraph i c w) (CompiledGraph j b v) = refl
+one_cause Is Early d _ _ (CompiledGraph {g} {ps} i c w) (Refused {g = h} {f = f} j r) = absurd (never_both Is Early d g h ps f i j c w r)
+one_cause Is Early d _ y (CompiledGraph {g} i c w) (Before e) = absurd (d.apart g y i e)
+one_cause Is Early d _ _ (Refused {g = h} {f = f} j r) (CompiledGraph {g} {ps} i c w) = absurd (never_both Is Early d g h ps f i j c w r)
 one_cause Is Early d _ _ (Refused {g} i r) (Refused {g = h} j s) = ap (λ (k : Graph). GraphRefused k OutOfMemory) (d.graph g h i j)
 one_cause Is Early d _ y (Refused {g} i r) (Before e) = absurd (d.apart g y i e)
-one_cause Is Early d x _ (Before e) (Taken {g} i c w) = absurd (d.apart g x i e)
+one_cause Is Early d x _ (Before e) (CompiledGraph {g} i c w) = absurd (d.apart g x i e)
 one_cause Is Early d x _ (Before e) (Refused {g} i r) = absurd (d.apart g x i e)
 one_cause Is Early d x y (Before e) (Before f) = d.early x y e f
 

@@ -1,6 +1,6 @@
-pub mod Found
+pub mod FirstIndex
 pub mod Growth
-pub mod Kept
+pub mod ModelLaws
 pub mod Leaving
 pub mod Lines
 pub mod Rising

@@ -2,5 +2,5 @@ pub mod Adding
 pub mod Edges
 pub mod Parts
 pub mod Model
-pub mod Named
+pub mod NamesOfGraph
 pub mod Invariant

@@ -1,7 +1,7 @@
 //! Names of what a graph has by number, appended to what is there.
 ghost use Rattle.std.specs.Prelude.{◌≡◌, ◌++◌, ◌∷◌, OnOk};
 ghost use Rattle.sg_protocol.specs.Graph.{role_name, variable_name, node_name};
-ghost use Rattle.sg_graph.specs.Named.{label_and_var_text, walk_text};
+ghost use Rattle.sg_graph.specs.NamesOfGraph.{label_and_var_text, walk_text};
 ghost use Rattle.sg_graph.specs.Parts.{edge_name};
 
 use crate::Graph;

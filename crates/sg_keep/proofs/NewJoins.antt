@@ -18,7 +18,7 @@ use Rattle.sg_model.specs.Lists.{all_differ, first_some}
 use Rattle.sg_model.specs.Values.{Value}
 use Rattle.sg_node.proofs.Joined.{not_joined}
 use Rattle.sg_node.specs.Answers.{IsAnsweredPast}
-use Rattle.sg_protocol.proofs.Course.{node_more}
+use Rattle.sg_protocol.proofs.Progressing.{node_more}
 use Rattle.sg_protocol.proofs.Moves.{row_none}
 use Rattle.sg_protocol.proofs.ReadBack.{read-SpellsFrame}
 use Rattle.sg_protocol.specs.Acting.{answer, acted, rows_of_act, rows_of_start, sent, started}

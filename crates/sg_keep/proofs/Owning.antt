@@ -19,7 +19,7 @@ use Rattle.sg_model.proofs.Small.{and_left, and_right}
 use Rattle.sg_node.specs.Answers.{IsAnsweredPast}
 use Rattle.sg_play.specs.Played.{Play, answer_in, called, step_in}
 use Rattle.sg_play.specs.Steps.{Step, frames_in, frames_of}
-use Rattle.sg_protocol.proofs.Course.{node_more}
+use Rattle.sg_protocol.proofs.Progressing.{node_more}
 use Rattle.sg_protocol.proofs.Joins.{Owns, owns_after}
 use Rattle.sg_protocol.specs.Acting.{acted, answer, openings_for, rows_of_act, rows_of_start, sent, started}
 use Rattle.sg_protocol.specs.Calls as Protocol

@@ -1,7 +1,7 @@
 -- The text for a graph whose writes or reads are wrong, by its names.
 use Rattle.std.specs.Prelude.{ℕ, List, ◌++◌, codes}
 use Rattle.sg_protocol.specs.Graph.{Graph}
-use Rattle.sg_graph.specs.Named.{label_and_var_text, walk_text}
+use Rattle.sg_graph.specs.NamesOfGraph.{label_and_var_text, walk_text}
 use Rattle.sg_know.specs.declared.fault.ReadFault.{ReadFault}
 use Rattle.sg_know.specs.declared.fault.ReadFault.TheVariants.{NotWriter, ReadsOwn, BadRead, OutOfMemory}
 

@@ -52,7 +52,7 @@ use Rattle.sg_node.specs.Invariant.{IsLiveAt, IfLive, IsSlot, HoldsNode, node_st
 use Rattle.sg_node.proofs.Indices.{live_at, Tests, First, held_first}
 use Rattle.sg_node.proofs.Leaving.{tests_sid}
 use Rattle.sg_node.proofs.Going.{all_reachable, goes_on}
-use Rattle.sg_node.proofs.Found.{Its, turn_held, AtIndex, none_here, its_slot, replaced, its_program, session_here}
+use Rattle.sg_node.proofs.InSlots.{Its, turn_held, AtIndex, none_here, its_slot, replaced, its_program, session_here}
 
 mapped : {A B : Type 0} (f : A → B) (os : List (Option A)) → first_some (map (option_map f) os) ≡ option_map f (first_some os)
 mapped f [] = refl

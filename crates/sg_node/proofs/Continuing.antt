@@ -34,7 +34,7 @@ use Rattle.sg_node.specs.Faults.{of_role, refusal}
 use Rattle.sg_node.specs.Slots.{Slot, state_in, held_at, held_in, is_for, first_index, left_after}
 use Rattle.sg_node.specs.Invariant.{IsSlot, HoldsNode, node_state}
 use Rattle.sg_node.proofs.Indices.{live_at, Tests, First, held_first}
-use Rattle.sg_node.proofs.Found.{Its, AtIndex, none_here, its_slot, replaced, its_program, its_passes, session_here}
+use Rattle.sg_node.proofs.InSlots.{Its, AtIndex, none_here, its_slot, replaced, its_program, its_passes, session_here}
 use Rattle.sg_node.proofs.Receipts.{role_refused, early, no_text, no_session, not_waiting, next_rows_waiting, next_notes, unless_left, left_live}
 
 turned : (v a b : Bool) → (v && a && b) ≡ (a && b && v)

@@ -42,7 +42,7 @@ use Rattle.sg_node.specs.Faults.{of_role, refusal}
 use Rattle.sg_node.specs.Joining.{obstacle_to, refusal_for}
 use Rattle.sg_node.specs.Slots.{Slot, held_at, held_in, slot_of, left_after}
 use Rattle.sg_node.specs.Invariant.{IsSlot, HoldsNode, node_state}
-use Rattle.sg_node.proofs.Found.{found_all}
+use Rattle.sg_node.proofs.InSlots.{found_all}
 use Rattle.sg_node.proofs.Joined.{as_many, held_more, slots_more, no_slot, nothing_else, free_by, past_three}
 use Rattle.sg_node.proofs.Starts.{first_state}
 use Rattle.sg_node.proofs.Receipts.{role_refused, early, no_text_yet, text, no_program, bad_cast, no_key, bad_session, joining_rows, join_notes, unless_left, left_live}

@@ -14,7 +14,7 @@ use Rattle.sg_protocol.specs.Acting.{answer}
 use Rattle.sg_protocol.specs.Texts.{real}
 use Rattle.sg_protocol.specs.Reachable.{IsReachableAtTurn, IsReachableWaiting}
 use Rattle.sg_protocol.specs.NodeStates.{NodeState, IsReachableLive, RepresentsNode, RepresentsPast, state_after}
-use Rattle.sg_protocol.proofs.Course.{node_more}
+use Rattle.sg_protocol.proofs.Progressing.{node_more}
 use Rattle.sg_protocol.proofs.NodeStates.{node_states_represent}
 use Rattle.sg_protocol.proofs.RealHash.{real_hash}
 use Rattle.sg_node.specs.Answers.{GoesOn}

@@ -6,7 +6,7 @@ pub mod Counts
 pub mod Leaving
 pub mod Turning
 pub mod Going
-pub mod Found
+pub mod InSlots
 pub mod Acts
 pub mod Joined
 pub mod Starts
@@ -15,4 +15,4 @@ pub mod Continuing
 pub mod Entering
 pub mod Taking
 pub mod Life
-pub mod Told
+pub mod GraphsOfSessions

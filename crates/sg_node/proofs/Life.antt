@@ -12,7 +12,7 @@ use Rattle.sg_protocol.specs.NodeStates.{NodeState, RepresentsPast, new_state}
 use Rattle.sg_protocol.specs.Past.{Past, AnsweredCall, new_node, node_of, node_after_all, past_after, AreAnswers}
 use Rattle.sg_protocol.specs.Ranges.{IsCallInRange}
 use Rattle.sg_protocol.specs.Texts.{real}
-use Rattle.sg_protocol.proofs.Course.{node_more}
+use Rattle.sg_protocol.proofs.Progressing.{node_more}
 use Rattle.sg_protocol.proofs.Isolation.{sessions_are_isolated}
 use Rattle.sg_protocol.proofs.Joins.{nodes_join_once}
 use Rattle.sg_protocol.proofs.NodeStates.{node_states_represent}

@@ -30,7 +30,7 @@ use Rattle.sg_node.specs.declared.sessions.Live.TheVariants.{AtTurn}
 use Rattle.sg_node.specs.Faults.{of_role, refusal}
 use Rattle.sg_node.specs.Slots.{held_at, left_after}
 use Rattle.sg_node.specs.Invariant.{IfLive}
-use Rattle.sg_node.proofs.Found.{turn_held}
+use Rattle.sg_node.proofs.InSlots.{turn_held}
 
 -- a refusal of the role is the node's
 pub role_refused : (e : Event) (x : Option Refusal) (r : RoleRefusal) → Refuses x r → IsAnswer (decided e x) (option_map NotDelivered (refusal (of_role r)))

@@ -6,7 +6,7 @@ use Rattle.std.proofs.lemmas.Iterator.Adapters.{position_from-zero}
 use Rattle.std.proofs.lemmas.Bool.{cases_Bool}
 use Rattle.sg_model.specs.Lists.{has_text, is_in}
 use Rattle.sg_protocol.specs.Graph.{Name}
-use Rattle.sg_graph.proofs.Found.{some_passes, none_passes}
+use Rattle.sg_graph.proofs.FirstIndex.{some_passes, none_passes}
 use Rattle.sg_parse.specs.Owed.{Refuses}
 use Rattle.sg_parse.specs.PartsReading.{one_index, with_index, repeat}
 use Rattle.sg_parse.specs.Reading.{Parsed, Parser, on, is_next, name, index_of, known}

@@ -13,7 +13,7 @@ use Rattle.sg_protocol.specs.Acting.{answer}
 use Rattle.sg_protocol.specs.NodeAfter.{node_after, takes_read, joined, goes_on, replace, still}
 use Rattle.sg_protocol.specs.Past.{AnsweredCall, Past, node_of, new_node, node_after_all, past_after, answers}
 use Rattle.sg_protocol.specs.Restarts.{begun_anew, past_after_all, abandonments, RestartsAbandon}
-use Rattle.sg_protocol.proofs.Course.{node_more}
+use Rattle.sg_protocol.proofs.Progressing.{node_more}
 use Rattle.sg_protocol.proofs.First.{programs_after}
 
 -- ---- keys and programs stay

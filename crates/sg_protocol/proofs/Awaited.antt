@@ -51,7 +51,7 @@ use Rattle.sg_protocol.proofs.Sendings.{no_entry, act_event, keys_after, receipt
 use Rattle.sg_protocol.proofs.Reduced.{by_role, has-both, reduced}
 use Rattle.sg_protocol.proofs.Relay.{StepsOk, RelayOk, OpensAt, relay_new, at_end}
 use Rattle.sg_protocol.proofs.Rows.{rows_none, viewed}
-use Rattle.sg_protocol.proofs.Flight.{HonestSession, Flight, FrameOk, Taken, Track, New, SessOk, flight}
+use Rattle.sg_protocol.proofs.Flight.{HonestSession, Flight, FrameOk, WasReceived, Track, New, SessOk, flight}
 use Rattle.sg_protocol.proofs.Splits.{in_split, split_in, role_small}
 use Rattle.sg_protocol.proofs.Flight as L
 use Rattle.sg_protocol.proofs.Keys as Keys'
@@ -237,9 +237,9 @@ module _ (sha : Hash) (hash : IsHash sha) (programs : List Program) (s : Schedul
 
   -- ---- who has the turn, or which frame is under way
 
-  coursed : L.Course_ known_of_session (run sha programs s)
+  runs_so : L.FlightOfRun known_of_session (run sha programs s)
   unfolding known_of_session
-  coursed = L.course known_of_session has_program (new_world programs s) 1 (W.begins sha hash programs s compiled sched premises sid first (fit_steps sha hash programs s compiled sched) (fit_new sha hash programs s compiled sched)) (record {
+  runs_so = L.flight_of_run known_of_session has_program (new_world programs s) 1 (W.begins sha hash programs s compiled sched premises sid first (fit_steps sha hash programs s compiled sched) (fit_new sha hash programs s compiled sched)) (record {
     flight_ = begins_flight;
     sourced = λ m f i. absurd i;
     baton = inl refl;
@@ -256,7 +256,7 @@ module _ (sha : Hash) (hash : IsHash sha) (programs : List Program) (s : Schedul
 
   abandoned_by : (who : Name) → HadAnswer (run sha programs s).log who (Abandon sid) Abandoned → WasAbandoned first.cast sid (run sha programs s).log
   abandoned_by who had =
-      let r = coursed.left_from had.0 who (in_from_Contains (run sha programs s).log had.0 had.1) had.2 had.3 had.4 in
+      let r = runs_so.left_from had.0 who (in_from_Contains (run sha programs s).log had.0 had.1) had.2 had.3 had.4 in
       (r.0, r.1, subst (λ z. HadAnswer (run sha programs s).log z (Abandon sid) Abandoned) (sym r.2) had)
 
   at_end_ : (m : ℕ) → list_any (λ (e : Edge). e.source == m) first.program.graph.edges ≡ false → (e : ℕ) → e < length first.program.graph.edges → source (shape first.program.graph) e ≢ m
@@ -363,7 +363,7 @@ module _ (sha : Hash) (hash : IsHash sha) (programs : List Program) (s : Schedul
       untaken_ : (e : Event) → HadAnswer (run sha programs s).log fy.to (Deliver (spelling fy.f)) (Happened e) → ⊥
       untaken_ e had =
           let i = in_from_Contains (run sha programs s).log had.0 had.1 in
-          let q : e ≡ receipt fy.f = coursed.said had.0 (spelling fy.f) e fy.f i had.3 had.4 (read-spelling fy.f fo.spelled) in
+          let q : e ≡ receipt fy.f = runs_so.said had.0 (spelling fy.f) e fy.f i had.3 had.4 (read-spelling fy.f fo.spelled) in
           fy.untaken (had.0, i, had.2, had.3, had.4 ∙ ap (λ z. Answered (Happened z)) q)
 
       under_way : (HadAnswer (run sha programs s).log fy.to (Abandon sid) Abandoned → ⊥) → IsUnderWay sha s (run sha programs s) first.cast sid
@@ -393,7 +393,7 @@ module _ (sha : Hash) (hash : IsHash sha) (programs : List Program) (s : Schedul
 
   pub is_never_stuck : events_of sid (run sha programs s).log ≢ [] →
       IsAtEnd first.program.graph sid (run sha programs s).log ⊎ (WasAbandoned first.cast sid (run sha programs s).log ⊎ (CanAct sha (run sha programs s) first.cast first.program.graph sid ⊎ IsUnderWay sha s (run sha programs s) first.cast sid))
-  is_never_stuck some = elim coursed.baton [
+  is_never_stuck some = elim runs_so.baton [
     | inl n ↦ absurd (some n)
     | inr r ↦ elim r [
       | inl l ↦ inr (inl (abandoned_by l.0 l.1))
@@ -417,7 +417,7 @@ module _ (sha : Hash) (hash : IsHash sha) (programs : List Program) (s : Schedul
     bytes_are : aw.bytes ≡ spelling f
     bytes_are = (let z : Some aw.bytes ≡ Some (spelling f) = sym (aw.sent).4 ∙ fo.framed in cc)
 
-    untaken : Taken known_of_session (run sha programs s).log who f → ⊥
+    untaken : WasReceived known_of_session (run sha programs s).log who f → ⊥
     untaken t = aw.not_taken (receipt f) (t.0, contains_from_in (run sha programs s).log t.0 t.1, t.2, t.3 ∙ ap (λ z. Some (Deliver z)) (sym bytes_are), t.4)
 
     nothing_after : honest_items sid sp.1 ≡ []

@@ -51,7 +51,7 @@ use Rattle.sg_protocol.proofs.Entries.{entries, sight, sight-since, view_ends}
 use Rattle.sg_protocol.proofs.Moves.{writes_below}
 use Rattle.sg_protocol.proofs.Splits.{split_at_end}
 use Rattle.sg_protocol.proofs.KnownSession.{SessionOfRun}
-use Rattle.sg_protocol.proofs.Course.{Progress, progress_called, progress_moves, idle, idle_moves, Suffix, Outs}
+use Rattle.sg_protocol.proofs.Progressing.{Progress, progress_called, progress_moves, idle, idle_moves, Suffix, Outs}
 
 -- ---- values
 

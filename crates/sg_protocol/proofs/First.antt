@@ -43,7 +43,7 @@ use Rattle.sg_protocol.specs.Run.{called, called_if, world_after, world_after_al
 use Rattle.sg_protocol.specs.IsSchedule.{IsStep}
 use Rattle.sg_protocol.proofs.Finding.{find_passes}
 use Rattle.sg_protocol.proofs.KnownSession.{FitSteps}
-use Rattle.sg_protocol.proofs.Course.{past_called, next_past, node_more, Suffix, suffix_all}
+use Rattle.sg_protocol.proofs.Progressing.{past_called, next_past, node_more, Suffix, suffix_all}
 use Rattle.sg_protocol.proofs.Whole.{FirstCast, first_past, found_in}
 use Rattle.std.specs.Result.{result_ok}
 use Rattle.std.proofs.lemmas.List.Elements.{filter-append}

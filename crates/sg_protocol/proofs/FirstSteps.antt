@@ -23,7 +23,7 @@ use Rattle.sg_protocol.specs.Premises.{MadeBefore, hashed, Premises}
 use Rattle.sg_protocol.specs.IsSchedule.{IsSchedule, IsStep}
 use Rattle.sg_protocol.specs.Beginnings.{first_steps, IsLogUpTo, RunsGoOn, PremisesHoldBefore}
 use Rattle.sg_protocol.proofs.OtherSteps.{crafted_same, all_on}
-use Rattle.sg_protocol.proofs.Course.{Suffix, suffix_refl, suffix_all, in_before, in_after}
+use Rattle.sg_protocol.proofs.Progressing.{Suffix, suffix_refl, suffix_all, in_before, in_after}
 
 -- ---- the schedule's steps don't matter to one step
 

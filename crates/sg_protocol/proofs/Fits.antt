@@ -44,7 +44,7 @@ use Rattle.sg_protocol.proofs.Finding.{find_passes, find_all}
 use Rattle.sg_model.specs.Names.{is_name}
 use Rattle.sg_model.proofs.Small.{same_bytes, all-append}
 use Rattle.sg_protocol.proofs.KnownSession.{FitSteps}
-use Rattle.sg_protocol.proofs.Course.{past_called, next_past, node_more}
+use Rattle.sg_protocol.proofs.Progressing.{past_called, next_past, node_more}
 use Rattle.sg_protocol.proofs.Whole.{first_past}
 use Rattle.sg_protocol.proofs.First.{first_cast, programs_after}
 use Rattle.sg_protocol.specs.Bounds.{IsShortFrame}
@@ -53,7 +53,7 @@ use Rattle.sg_protocol.specs.Ranges.{AreValues}
 use Rattle.sg_protocol.proofs.Nodes.{start_all}
 use Rattle.sg_protocol.proofs.Nodes as Nodes'
 use Rattle.sg_protocol.proofs.Ranges.{new_in_range, act_in_range, node_in_range}
-use Rattle.sg_protocol.proofs.Course.{confounder_length}
+use Rattle.sg_protocol.proofs.Progressing.{confounder_length}
 use Rattle.sg_protocol.proofs.Spelled.{u64_bytes}
 use Rattle.sg_protocol.proofs.Whole.{explained}
 use Rattle.sg_protocol.proofs.Spelled.{Bytes_, BytesItem, BytesFrame, to_bytes, from_bytes, bytes-append, bytes-take, bytes-zeros, bytes-flipped, item_has_bytes, has_bytes, spelling_bytes}

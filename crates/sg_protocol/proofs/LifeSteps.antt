@@ -28,7 +28,7 @@ use Rattle.sg_protocol.specs.Premises.{MadeBefore, hashed, Premises}
 use Rattle.sg_protocol.specs.Receipts.{IsTaken}
 use Rattle.sg_protocol.specs.LastSteps.{exchanges_in, exchanges_of, is_of, sent_item, honest_items, bare, HeldBySender, ShowsLastSteps}
 use Rattle.sg_protocol.specs.Restarts.{StepOrRestart, Stepped, Restarted, live_of, world_restarted, world_over_restarts, run_with_restarts, IsStepOrRestart, dropped, without_restarts, HasMoreAbandonments, answered_call, called_by, calls_at, HeldInLife, ShowsLastStepsInLife, FramesShowLastStepsOverRestarts}
-use Rattle.sg_protocol.proofs.Course.{next_past, past_called, Suffix, suffix_refl, suffix_trans, suffix_step, in_before, in_after}
+use Rattle.sg_protocol.proofs.Progressing.{next_past, past_called, Suffix, suffix_refl, suffix_trans, suffix_step, in_before, in_after}
 use Rattle.sg_protocol.proofs.Finding.{find_passes}
 use Rattle.sg_protocol.proofs.FirstSteps.{OneMore, one_more}
 use Rattle.sg_protocol.proofs.LastSteps.{shows_at_end}

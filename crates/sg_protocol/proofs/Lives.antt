@@ -18,7 +18,7 @@ use Rattle.sg_protocol.specs.Schedule.{Schedule, Step, StartStep, ActStep, Aband
 use Rattle.sg_protocol.specs.World.{Outcome, Logged, World, Answered, Crafted, NoFrame, past_of, new_world, call_of}
 use Rattle.sg_protocol.specs.Run.{called, called_if, uncalled, world_after, world_after_all, frame_in, events_of_outcome}
 use Rattle.sg_protocol.specs.Restarts.{begun_anew, StepOrRestart, Stepped, Restarted, live_of, world_restarted, world_over_restarts, run_with_restarts, events_at, events_of_lives, LivesJoinOnce, NoRestartsNoChange, NoneJoinsTwiceOverRestarts}
-use Rattle.sg_protocol.proofs.Course.{find_map, next_past, past_called}
+use Rattle.sg_protocol.proofs.Progressing.{find_map, next_past, past_called}
 use Rattle.sg_protocol.proofs.Finding.{find_passes}
 use Rattle.sg_protocol.proofs.Joins.{Owns, owns_after, call_step}
 use Rattle.sg_protocol.proofs.Paths.{flat_map-append}

@@ -34,7 +34,7 @@ use Rattle.sg_protocol.specs.IsSchedule.{IsProgram, AreCompiled, IsSchedule, IsS
 use Rattle.sg_protocol.specs.Headline.{IsOfCast}
 use Rattle.sg_protocol.specs.Named.{IsNamed, GivesVariables, IsAnswered, EntriesAreAnswered, EntriesAreNamed, EntriesHaveOneGraph, IsOfOneGraph, StepsAreNamed, names_numbers}
 use Rattle.sg_protocol.proofs.TextLaws as TL
-use Rattle.sg_protocol.proofs.Course.{Suffix, suffix_all, small_values}
+use Rattle.sg_protocol.proofs.Progressing.{Suffix, suffix_all, small_values}
 use Rattle.sg_protocol.proofs.Finding.{find_passes}
 use Rattle.sg_protocol.proofs.First.{first_cast, first_of_live}
 use Rattle.sg_protocol.proofs.FirstSteps.{run_first}

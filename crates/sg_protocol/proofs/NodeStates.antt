@@ -23,7 +23,7 @@ use Rattle.sg_protocol.specs.Ranges.{IsCallInRange}
 use Rattle.sg_protocol.specs.Representation.{Held, held, RepresentsWaiting, RepresentsAtTurn, nothing_kept, held_after}
 use Rattle.sg_protocol.specs.Live.{IsSound, IsLive}
 use Rattle.sg_protocol.specs.NodeStates.{NodeState, IsReachableLive, RepresentsLive, RepresentEach, RepresentsIf, RepresentsNode, has_sid, is_held_for, is_spent, unless_spent, still_held, begun, joined_by, replace_held, with_join, with_live, state_taking, state_after, NodeStatesRepresent}
-use Rattle.sg_protocol.proofs.Course.{node_more}
+use Rattle.sg_protocol.proofs.Progressing.{node_more}
 use Rattle.sg_protocol.proofs.First.{programs_after}
 use Rattle.sg_protocol.proofs.Live.{node_sound, all_sound}
 use Rattle.sg_protocol.proofs.Reached.{Reached, ReachedIn, each_reached, node_reached}

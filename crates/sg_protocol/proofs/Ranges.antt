@@ -35,7 +35,7 @@ use Rattle.sg_protocol.proofs.Nodes.{Begun, ActSent, act_sends, start_sends, aba
 use Rattle.sg_protocol.proofs.Paths.{flat_map-append}
 use Rattle.sg_protocol.proofs.ReadBack.{read-SpellsFrame}
 use Rattle.sg_protocol.proofs.Sent.{all_transcript}
-use Rattle.sg_protocol.proofs.Course.{small_values}
+use Rattle.sg_protocol.proofs.Progressing.{small_values}
 
 -- ---- lists
 

@@ -139,10 +139,10 @@ took-u32 low high at bs o s h =
 -- ---- lists
 
 -- a reader that reads what is spelled so, with a fact
-abbrev Backs : {A : Type 0} → Reading.Reader A → (A → List ℕ) → (A → Type 0) → Type 0
-Backs {A} r spell P = (at : ℕ) (bs : List ℕ) (o : Reading.Read A) → Small bs → r at bs ≡ Ok o → Took bs o (spell o.value) × P o.value
+abbrev ReadsBack : {A : Type 0} → Reading.Reader A → (A → List ℕ) → (A → Type 0) → Type 0
+ReadsBack {A} r spell P = (at : ℕ) (bs : List ℕ) (o : Reading.Read A) → Small bs → r at bs ≡ Ok o → Took bs o (spell o.value) × P o.value
 
-took-times : {A : Type 0} (r : Reading.Reader A) (spell : A → List ℕ) (P : A → Type 0) → Backs r spell P → (n at : ℕ) (bs : List ℕ) (o : Reading.Read (List A)) → Small bs → Reading.times n r at bs ≡ Ok o →
+took-times : {A : Type 0} (r : Reading.Reader A) (spell : A → List ℕ) (P : A → Type 0) → ReadsBack r spell P → (n at : ℕ) (bs : List ℕ) (o : Reading.Read (List A)) → Small bs → Reading.times n r at bs ≡ Ok o →
     Took bs o (flat_map spell o.value) × (length o.value ≡ n) × AllByRecursion P o.value
 took-times {A = A} r spell P each zero at bs o s h =
     let out : Reading.Read (List A) = record { value = []; at = at; rest = bs } in
@@ -159,7 +159,7 @@ took-times {A = A} r spell P each (suc n) at bs o s h =
     subst (λ (o : Reading.Read (List A)). Took bs o (flat_map spell o.value) × (length o.value ≡ suc n) × AllByRecursion P o.value) (give-inv (a.value ∷ q.value) q.at q.rest o j.2)
     (took-cons bs a out (spell a.value) (flat_map spell q.value) t.0 (record { begins = (u.0).begins; small = (u.0).small; rest = (u.0).rest }), ap suc u.1, (t.1, u.2))
 
-took-rising : {A : Type 0} (key : A → ℕ) (r : ℕ → Reading.Reader A) (spell : A → List ℕ) (P : A → Type 0) → ((least : ℕ) → Backs (r least) spell (λ x. (least ≤ key x) × P x)) → (n least at : ℕ) (bs : List ℕ) (o : Reading.Read (List A)) → Small bs →
+took-rising : {A : Type 0} (key : A → ℕ) (r : ℕ → Reading.Reader A) (spell : A → List ℕ) (P : A → Type 0) → ((least : ℕ) → ReadsBack (r least) spell (λ x. (least ≤ key x) × P x)) → (n least at : ℕ) (bs : List ℕ) (o : Reading.Read (List A)) → Small bs →
     Reading.rising_times key n least r at bs ≡ Ok o → Took bs o (flat_map spell o.value) × (length o.value ≡ n) × (rises_from least (map key o.value) ≡ true) × AllByRecursion P o.value
 took-rising {A = A} key r spell P each zero least at bs o s h =
     let out : Reading.Read (List A) = record { value = []; at = at; rest = bs } in
@@ -208,7 +208,7 @@ filled v t l s = subst (λ n. (take n (t ++ replicate (32 - n) 0) ≡ t) × Fram
       | inr e ↦ rw e (omega (arith, length-append t (replicate 0 0), l, e))
     ]
 
-took-tag : (v : ℕ) → Backs (Reading.read_tag v) (take (Frame.tag_len v)) (Frame.IsTag v)
+took-tag : (v : ℕ) → ReadsBack (Reading.read_tag v) (take (Frame.tag_len v)) (Frame.IsTag v)
 took-tag v at bs o s h =
     let i : (r : Reading.Read (List ℕ)) × (Reading.any_bytes (Frame.tag_len v) at bs ≡ Ok r) × (Reading.give (r.value ++ replicate (32 - Frame.tag_len v) 0) r.at r.rest ≡ Ok o) = on-inv (Reading.any_bytes (Frame.tag_len v) at bs) (λ t. Reading.give (t ++ replicate (32 - Frame.tag_len v) 0)) o h in
     let r : Reading.Read (List ℕ) = i.0 in
@@ -218,7 +218,7 @@ took-tag v at bs o s h =
     subst (λ (o : Reading.Read (List ℕ)). Took bs o (take (Frame.tag_len v) o.value) × Frame.IsTag v o.value) (give-inv (r.value ++ replicate (32 - Frame.tag_len v) 0) r.at r.rest o i.2)
     (subst (Took bs out) (sym f.0) (record { begins = (t.0).begins; small = (t.0).small; rest = (t.0).rest }), f.1)
 
-took-name : Backs Reading.read_name Spelling.short_text (λ n. is_name n ≡ true)
+took-name : ReadsBack Reading.read_name Spelling.short_text (λ n. is_name n ≡ true)
 took-name at bs o s h =
     let i : (r : Reading.Read ℕ) × (Reading.number w8 1 32 at bs ≡ Ok r) × (Reading.field r.value is_name r.at r.rest ≡ Ok o) = on-inv (Reading.number w8 1 32 at bs) (λ n. Reading.field n is_name) o h in
     let r : Reading.Read ℕ = i.0 in
@@ -252,8 +252,8 @@ took-cast v at bs o s h =
 
 -- ---- items
 
-took-pair : (high : ℕ) (r : Reading.Reader (List ℕ)) (spell : List ℕ → List ℕ) (P : List ℕ → Type 0) → Backs r spell P → (least : ℕ) →
-    Backs (Reading.read_pair high r least) (Spelling.pair_bytes spell) (λ (p : ℕ × List ℕ). (least ≤ p.0) × ((p.0 ≤ high) × P p.1))
+took-pair : (high : ℕ) (r : Reading.Reader (List ℕ)) (spell : List ℕ → List ℕ) (P : List ℕ → Type 0) → ReadsBack r spell P → (least : ℕ) →
+    ReadsBack (Reading.read_pair high r least) (Spelling.pair_bytes spell) (λ (p : ℕ × List ℕ). (least ≤ p.0) × ((p.0 ≤ high) × P p.1))
 took-pair high r spell P each least at bs o s h =
     let i : (k : Reading.Read ℕ) × (Reading.number w8 least high at bs ≡ Ok k) × (Reading.after r (λ v. Reading.give (k.value, v)) k.at k.rest ≡ Ok o) = on-inv (Reading.number w8 least high at bs) (λ k. Reading.after r (λ v. Reading.give (k, v))) o h in
     let k : Reading.Read ℕ = i.0 in
@@ -265,8 +265,8 @@ took-pair high r spell P each least at bs o s h =
     subst (λ (o : Reading.Read (ℕ × List ℕ)). Took bs o (Spelling.pair_bytes spell o.value) × ((least ≤ o.value.0) × ((o.value.0 ≤ high) × P o.value.1))) (give-inv (k.value, v.value) v.at v.rest o j.2)
     (took-cons bs k out (Spelling.u8 k.value) (spell v.value) tk.0 (record { begins = (tv.0).begins; small = (tv.0).small; rest = (tv.0).rest }), (tk.1, (tk.2, tv.1)))
 
-took-map : (most high : ℕ) (r : Reading.Reader (List ℕ)) (spell : List ℕ → List ℕ) (P : List ℕ → Type 0) → Backs r spell P →
-    Backs (Reading.read_map most high r) (Spelling.map_bytes spell) (λ m. (length m ≤ most) × (rises_from 0 (keys_of m) ≡ true) × AllByRecursion (λ (p : ℕ × List ℕ). (p.0 ≤ high) × P p.1) m)
+took-map : (most high : ℕ) (r : Reading.Reader (List ℕ)) (spell : List ℕ → List ℕ) (P : List ℕ → Type 0) → ReadsBack r spell P →
+    ReadsBack (Reading.read_map most high r) (Spelling.map_bytes spell) (λ m. (length m ≤ most) × (rises_from 0 (keys_of m) ≡ true) × AllByRecursion (λ (p : ℕ × List ℕ). (p.0 ≤ high) × P p.1) m)
 took-map most high r spell P each at bs o s h =
     let key : ℕ × List ℕ → ℕ = λ p. p.0 in
     let i : (k : Reading.Read ℕ) × (Reading.number w8 0 most at bs ≡ Ok k) × (Reading.rising_times key k.value 0 (Reading.read_pair high r) k.at k.rest ≡ Ok o) = on-inv (Reading.number w8 0 most at bs) (λ count. Reading.rising_times key count 0 (Reading.read_pair high r)) o h in
@@ -280,7 +280,7 @@ below_next : (Q : List ℕ → Type 0) (k : ℕ) (m : Map (List ℕ)) → AllByR
 below_next Q k [] h = tt
 below_next Q k (p ∷ ps) h = ((omega (arith, (h.0).0), (h.0).1), below_next Q k ps h.1)
 
-took-item : (v : ℕ) → Backs (Reading.read_item v) (Spelling.item_bytes v) (Frame.IsItem v)
+took-item : (v : ℕ) → ReadsBack (Reading.read_item v) (Spelling.item_bytes v) (Frame.IsItem v)
 took-item v at bs o s h =
     let build : ℕ → ℕ → ℕ → Map (List ℕ) → Map (List ℕ) → Frame.Item = λ role label time delta tags. record { role = role; label = label; time = time; delta = delta; tags = tags } in
     let i1 : (r : Reading.Read ℕ) × (Reading.number w8 0 15 at bs ≡ Ok r) × (Reading.after (Reading.number w16 0 511) (λ label. Reading.after (Reading.number w32 1 1000000) (λ time. Reading.after (Reading.read_map 32 31 (Reading.any_bytes 32)) (λ delta. Reading.after (Reading.read_map 14 15 (Reading.read_tag v)) (λ tags. Reading.give (build r.value label time delta tags))))) r.at r.rest ≡ Ok o) = on-inv (Reading.number w8 0 15 at bs) _ o h in
@@ -317,7 +317,7 @@ be_small : (x : List ℕ) → length x ≡ 8 → Bytes.IsBytes x → from_be_byt
 be_small (a ∷ b ∷ c ∷ d ∷ e ∷ f ∷ g ∷ h ∷ []) l s = omega (arith, s 0, s 1, s 2, s 3, s 4, s 5, s 6, s 7)
 be_small other l s = absurd (omega (arith, l))
 
-took-int : Backs Reading.read_int Spelling.sized (λ v. Frame.IsValue v × (Spelling.kind_code v ≡ 0))
+took-int : ReadsBack Reading.read_int Spelling.sized (λ v. Frame.IsValue v × (Spelling.kind_code v ≡ 0))
 took-int at bs o s h =
     let i1 : (r : Reading.Read ℕ) × (Reading.number w32 8 8 at bs ≡ Ok r) × (Reading.after (Reading.any_bytes 8) (λ x. Reading.give (Values.IntValue (cast_signed w64 (from_be_bytes w64 x)))) r.at r.rest ≡ Ok o) = on-inv (Reading.number w32 8 8 at bs) _ o h in
     let a : Reading.Read ℕ = i1.0 in
@@ -336,7 +336,7 @@ took-int at bs o s h =
       (sfits_to_z (Fits-of_lt small), refl),
     )
 
-took-text : Backs Reading.read_text Spelling.sized (λ v. Frame.IsValue v × (Spelling.kind_code v ≡ 1))
+took-text : ReadsBack Reading.read_text Spelling.sized (λ v. Frame.IsValue v × (Spelling.kind_code v ≡ 1))
 took-text at bs o s h =
     let i1 : (r : Reading.Read ℕ) × (Reading.number w32 0 1024 at bs ≡ Ok r) × (Reading.after (Reading.field r.value is_utf8) (λ x. Reading.give (Values.TextValue x)) r.at r.rest ≡ Ok o) = on-inv (Reading.number w32 0 1024 at bs) (λ n. Reading.after (Reading.field n is_utf8) (λ x. Reading.give (Values.TextValue x))) o h in
     let a : Reading.Read ℕ = i1.0 in
@@ -350,12 +350,12 @@ took-text at bs o s h =
       ((tb.2, subst (λ n. n ≤ 1024) (sym tb.1) ta.2, bytes-small b.value (tb.0).small), refl),
     )
 
-took-value : (k : ℕ) → k ≤ 1 → Backs (if k == 0 then Reading.read_int else Reading.read_text) Spelling.sized (λ v. Frame.IsValue v × (Spelling.kind_code v ≡ k))
+took-value : (k : ℕ) → k ≤ 1 → ReadsBack (if k == 0 then Reading.read_int else Reading.read_text) Spelling.sized (λ v. Frame.IsValue v × (Spelling.kind_code v ≡ k))
 took-value zero l = took-int
 took-value (suc zero) l = took-text
 took-value (suc (suc k)) l = absurd (omega (arith, l))
 
-took-opening : (least : ℕ) → Backs (Reading.read_opening least) Spelling.opening_bytes (λ o. (least ≤ o.variable) × Frame.IsOpening o)
+took-opening : (least : ℕ) → ReadsBack (Reading.read_opening least) Spelling.opening_bytes (λ o. (least ≤ o.variable) × Frame.IsOpening o)
 took-opening least at bs o s h =
     let build : ℕ → List ℕ → Values.Value → Values.Opening = λ x confounder value. record { variable = x; confounder = confounder; value = value } in
     let i1 : (r : Reading.Read ℕ) × (Reading.number w8 least 31 at bs ≡ Ok r) × (Reading.after (Reading.any_bytes 16) (λ confounder. Reading.after (Reading.number w8 0 1) (λ kind. Reading.after (if kind == 0 then Reading.read_int else Reading.read_text) (λ value. Reading.give (build r.value confounder value)))) r.at r.rest ≡ Ok o) = on-inv (Reading.number w8 least 31 at bs) _ o h in
@@ -382,7 +382,7 @@ took-opening least at bs o s h =
 
 -- ---- frames
 
-took-join : (v k : ℕ) → k ≤ 1 → Backs (if k == 0 then Reading.read_cast v else Reading.give None) Spelling.join_bytes (λ c. IfSome c (Frame.IsCastOf v) × (Spelling.join_code c ≡ k))
+took-join : (v k : ℕ) → k ≤ 1 → ReadsBack (if k == 0 then Reading.read_cast v else Reading.give None) Spelling.join_bytes (λ c. IfSome c (Frame.IsCastOf v) × (Spelling.join_code c ≡ k))
 took-join v zero l at bs o s h = took-cast v at bs o s h
 took-join v (suc zero) l at bs o s h =
     let out : Reading.Read (Option Frame.Cast) = record { value = None; at = at; rest = bs } in
@@ -410,7 +410,7 @@ not_same m n h e = clash (m == n) (eq-eqb m n e) h
     clash true e h = cc
     clash false e h = cc
 
-took-version : Backs Reading.read_version Spelling.magic (λ v. (v ≡ 1) ⊎ (v ≡ 2))
+took-version : ReadsBack Reading.read_version Spelling.magic (λ v. (v ≡ 1) ⊎ (v ≡ 2))
 took-version at bs o s h =
     let test : List ℕ → Bool = λ x. if bytes_eq x (Spelling.magic 1) then true else bytes_eq x (Spelling.magic 2) in
     let i : (r : Reading.Read (List ℕ)) × (Reading.field 4 test at bs ≡ Ok r) × (Reading.give (if bytes_eq r.value (Spelling.magic 2) then 2 else 1) r.at r.rest ≡ Ok o) = on-inv (Reading.field 4 test at bs) (λ x. Reading.give (if bytes_eq x (Spelling.magic 2) then 2 else 1)) o h in

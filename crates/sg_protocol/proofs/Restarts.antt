@@ -32,7 +32,7 @@ use Rattle.sg_protocol.specs.Run.{called, called_if, uncalled, world_after, worl
 use Rattle.sg_protocol.specs.Crafted.{crafted}
 use Rattle.sg_protocol.specs.IsSchedule.{IsSchedule, IsStep, IsDeclared, AreCompiled, IsProgram}
 use Rattle.sg_protocol.specs.Restarts.{StepOrRestart, Stepped, Restarted, live_of, world_restarted, world_over_restarts, run_with_restarts, IsStepOrRestart, moved_step, declared, dropped, abandon_steps, plain_steps, without_restarts, IsAbandonment, HasMoreAbandonments, IsRunOf, RestartsAreAbandonments}
-use Rattle.sg_protocol.proofs.Course.{find_map, next_past, past_called}
+use Rattle.sg_protocol.proofs.Progressing.{find_map, next_past, past_called}
 use Rattle.sg_protocol.proofs.Finding.{find_passes, find_all}
 use Rattle.sg_protocol.proofs.Fits.{Fit, fit_new, fit_next, fit_bytes, declared_in}
 use Rattle.sg_protocol.proofs.First.{programs_after}

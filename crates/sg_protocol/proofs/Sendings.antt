@@ -45,7 +45,7 @@ use Rattle.sg_protocol.specs.IsSchedule.{IsSchedule, IsStep, AreCompiled, IsPair
 use Rattle.sg_law.proofs.Upto.{in_from_Contains}
 use Rattle.sg_protocol.proofs.Finding.{find_passes, find_all}
 use Rattle.sg_protocol.proofs.TextLaws as TL
-use Rattle.sg_protocol.proofs.Course.{past_called, next_past, node_more, Suffix, suffix_all, in_after}
+use Rattle.sg_protocol.proofs.Progressing.{past_called, next_past, node_more, Suffix, suffix_all, in_after}
 use Rattle.sg_protocol.proofs.Whole.{FirstCast, first_past, found_in}
 use Rattle.sg_protocol.proofs.First.{first_cast}
 use Rattle.sg_protocol.proofs.Sent.{FitSession}

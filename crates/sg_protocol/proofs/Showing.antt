@@ -43,7 +43,7 @@ use Rattle.sg_protocol.proofs.Keys.{last_of-keys, after_last-keys, last_of-map, 
 use Rattle.sg_protocol.proofs.Finding.{one_index}
 use Rattle.sg_protocol.proofs.Calls.{Status, TakesFrame}
 use Rattle.sg_protocol.proofs.KnownSession.{SessionOfRun}
-use Rattle.sg_protocol.proofs.Course.{Progress, LeftBy, progress_called, progress_moves, keep_all, Suffix, may-append, moved-append, Outs, Ok_}
+use Rattle.sg_protocol.proofs.Progressing.{Progress, LeftBy, progress_called, progress_moves, keep_all, Suffix, may-append, moved-append, Outs, Ok_}
 
 -- ---- one state of the law, and the items of a frame
 

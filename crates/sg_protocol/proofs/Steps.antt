@@ -19,7 +19,7 @@ use Rattle.sg_protocol.specs.World.{World, Logged, frames, past_of, new_world, k
 use Rattle.sg_protocol.specs.Run.{called_if, world_after, world_after_all, run}
 use Rattle.sg_protocol.specs.Beginnings.{first_steps}
 use Rattle.sg_protocol.specs.Steps.{with_step, RunsGoByStep, is_taken, LogsAreNumbered, logged_size, Added, StepsAddEntries, frame_number, FramesAreNumbered, FitsOutcome}
-use Rattle.sg_protocol.proofs.Course.{past_called, next_past}
+use Rattle.sg_protocol.proofs.Progressing.{past_called, next_past}
 use Rattle.sg_protocol.proofs.FirstSteps.{all_same}
 
 -- ---- one more step

@@ -54,7 +54,7 @@ use Rattle.sg_protocol.proofs.Paths.{one_path, acts_of, steps_of, TypedDeed}
 use Rattle.sg_protocol.proofs.TextLaws.{one_opening, one_canonical}
 use Rattle.sg_protocol.proofs.TextLaws as TL
 use Rattle.sg_protocol.proofs.KnownSession.{FitSteps, SessionOfRun}
-use Rattle.sg_protocol.proofs.Course.{Progress, LeftBy, keep_all, with_all}
+use Rattle.sg_protocol.proofs.Progressing.{Progress, LeftBy, keep_all, with_all}
 
 -- ---- graphs with one text
 

@@ -28,7 +28,7 @@ use Rattle.sg_ending.specs.Output.{Output}
 use Rattle.sg_replay.specs.Ends.{Audits, Drives, DrivesTooLong, IsDriving, IsNoLogs, IsNoSchedule, IsReplay, IsTooLong, Replays}
 use Rattle.sg_replay.specs.Faults.{ending_of_line, ending_of_logs}
 use Rattle.sg_replay.specs.Replayed.{IsOverfull}
-use Rattle.sg_ending.proofs.OneEnding.{Cause, Taken, Refused, Before, Determined, never_both, one_cause, file_once, no_graph, of_graph}
+use Rattle.sg_ending.proofs.OneEnding.{Cause, CompiledGraph, Refused, Before, Determined, never_both, one_cause, file_once, no_graph, of_graph}
 
 -- ---- logs
 
@@ -43,7 +43,7 @@ of_logs bytes = record {
 }
 
 audit_cause : (bytes : List ℕ) (a a' : Output) (e : Ending) → Audits bytes a a' e → is_of_outside e ≡ false → Cause (logs_of bytes) (IsNoLogs bytes) (asked e)
-audit_cause bytes a a' Written (text, t, w) n = Taken (t.logs, t.spelled, refl) t.compiled t.few
+audit_cause bytes a a' Written (text, t, w) n = CompiledGraph (t.logs, t.spelled, refl) t.compiled t.few
 audit_cause bytes a a' NoCommand (text, t, w) n = absurd w
 audit_cause bytes a a' (NoGraph fault) (same, e) n = Before e
 audit_cause bytes a a' (NoExpansion fault) (text, t, w) n = absurd w
@@ -59,7 +59,7 @@ audit_cause bytes a a' NoLedger (text, t, w) n = absurd w
 audit_cause bytes a a' (BadSlot slot) (text, t, w) n = absurd w
 audit_cause bytes a a' LedgerNotEmpty (text, t, w) n = absurd w
 audit_cause bytes a a' (FileFailed arg) (text, t, w) n = absurd w
-audit_cause bytes a a' WriteFailed (text, t, w) n = Taken (t.logs, t.spelled, refl) t.compiled t.few
+audit_cause bytes a a' WriteFailed (text, t, w) n = CompiledGraph (t.logs, t.spelled, refl) t.compiled t.few
 audit_cause bytes a a' LinkFailed (text, t, w) n = absurd w
 audit_cause bytes a a' InputFailed (text, t, w) n = absurd w
 audit_cause bytes a a' DiskFailed (text, t, w) n = absurd w

@@ -18,7 +18,7 @@ use Rattle.sg_protocol.specs.Schedule.{Schedule, NamedSession, Step, AbandonStep
 use Rattle.sg_protocol.specs.World.{Logged, World, past_of, new_world}
 use Rattle.sg_protocol.specs.Run.{called_if, world_after, world_after_all, run}
 use Rattle.sg_protocol.specs.Restarts.{StepOrRestart, Stepped, Restarted, live_of, world_restarted, world_over_restarts, run_with_restarts, IsStepOrRestart, moved_step, declared, dropped, abandon_steps, plain_steps, without_restarts}
-use Rattle.sg_protocol.proofs.Course.{Suffix, suffix_refl, suffix_trans, suffix_step, suffix_all, in_before, in_after}
+use Rattle.sg_protocol.proofs.Progressing.{Suffix, suffix_refl, suffix_trans, suffix_step, suffix_all, in_before, in_after}
 use Rattle.sg_protocol.proofs.FirstSteps.{OneMore, one_more}
 use Rattle.sg_protocol.proofs.Lives.{anew_if}
 use Rattle.sg_protocol.proofs.Restarts.{Same, plain, same_runs}

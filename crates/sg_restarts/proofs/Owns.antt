@@ -19,7 +19,7 @@ use Rattle.sg_protocol.specs.Schedule.{Schedule, Step, StartStep, ActStep, Aband
 use Rattle.sg_protocol.specs.World.{World, past_of, new_world, call_of}
 use Rattle.sg_protocol.specs.Run.{called_if, world_after}
 use Rattle.sg_protocol.specs.Restarts.{live_of, world_restarted}
-use Rattle.sg_protocol.proofs.Course.{next_past}
+use Rattle.sg_protocol.proofs.Progressing.{next_past}
 use Rattle.sg_protocol.proofs.Finding.{find_all}
 use Rattle.sg_protocol.proofs.Nodes.{start_all, abandon_all, act_all, deliver_all}
 use Rattle.sg_protocol.proofs.Anew.{node_next, anew}

@@ -24,7 +24,7 @@ use Rattle.sg_sched.proofs.FormLaws.{name_ok}
 use Rattle.sg_sched.proofs.NumberLaws.{number_ok, frame_ok, is_short_of, is_wide_of}
 use Rattle.sg_sched.proofs.PartLaws.{split_ok}
 use Rattle.sg_sched.proofs.RunLaws.{join_other, listed_other}
-use Rattle.sg_sched.proofs.TakerLaws.{taken_of, run_words, printed}
+use Rattle.sg_sched.proofs.TakerLaws.{took_then_of, run_words, printed}
 use Rattle.sg_sched.proofs.ItemLaws.{tag_print, item_print}
 
 -- ---- commitments

@@ -20,7 +20,7 @@ use Rattle.sg_sched.proofs.FormatWords.{both, name_list as pieces}
 use Rattle.sg_sched.proofs.FormLaws.{none_some, step, ended_is, line_up, name_is, Fits, fits}
 use Rattle.sg_sched.proofs.NumberLaws.{number_is, wide_is}
 use Rattle.sg_sched.proofs.PartLaws.{joined_back}
-use Rattle.sg_sched.proofs.TakerLaws.{Taken, taken_is, taken_of, Took, took, run_words, run_is, source_is, printed, TookAll, repeated_is}
+use Rattle.sg_sched.proofs.TakerLaws.{TookThen, took_then_is, took_then_of, Took, took, run_words, run_is, source_is, printed, TookAll, repeated_is}
 use Rattle.sg_sched.proofs.ItemLaws.{few_is, item_print, item_is}
 
 -- ---- lists behind a word
@@ -36,12 +36,12 @@ list_some : (first : List ℕ) (cs : List Committed) → (length cs == 0) ≡ fa
 list_some first [] e = absurd (cc e)
 list_some first (c ∷ cs) e = refl
 
-pub listed_is : (first : List ℕ) (ws : WordsLeft) (cs : List Committed) (rest : WordsLeft) → listed first ws ≡ taken_of cs rest → Took (list_words first) (list_all is_committed) ws cs rest
+pub listed_is : (first : List ℕ) (ws : WordsLeft) (cs : List Committed) (rest : WordsLeft) → listed first ws ≡ took_then_of cs rest → Took (list_words first) (list_all is_committed) ws cs rest
 unfolding listed
 listed_is first [] cs rest h = took (list_words first) (list_all is_committed) {x = []} {r = []} refl refl h
 listed_is first (w ∷ ws) cs rest h = by (bytes_eq w first) refl h
   where
-    by : (b : Bool) → bytes_eq w first ≡ b → (if b then some_of (run ws) else taken_of [] (w ∷ ws)) ≡ taken_of cs rest → Took (list_words first) (list_all is_committed) (w ∷ ws) cs rest
+    by : (b : Bool) → bytes_eq w first ≡ b → (if b then some_of (run ws) else took_then_of [] (w ∷ ws)) ≡ took_then_of cs rest → Took (list_words first) (list_all is_committed) (w ∷ ws) cs rest
     by true e h =
         let s = some_of_is (run ws) (cs, rest) h in
         let r = run_is ws in
@@ -49,10 +49,10 @@ listed_is first (w ∷ ws) cs rest h = by (bytes_eq w first) refl h
         took (list_words first) (list_all is_committed) {x = (run ws).0} {r = (run ws).1} words r.form (ap Some s.0)
     by false e h = took (list_words first) (list_all is_committed) {x = []} {r = w ∷ ws} refl refl h
 
-pub opened_is : (ws : WordsLeft) (cs : List Committed) (rest : WordsLeft) → opened ws ≡ taken_of cs rest → Took (list_words (codes "open")) are_committed ws cs rest
+pub opened_is : (ws : WordsLeft) (cs : List Committed) (rest : WordsLeft) → opened ws ≡ took_then_of cs rest → Took (list_words (codes "open")) are_committed ws cs rest
 opened_is ws cs rest h = first (listed (codes "open") ws) refl h
   where
-    first : (o : Option (List Committed × WordsLeft)) → listed (codes "open") ws ≡ o → option_and_then few o ≡ taken_of cs rest → Took (list_words (codes "open")) are_committed ws cs rest
+    first : (o : Option (List Committed × WordsLeft)) → listed (codes "open") ws ≡ o → option_and_then few o ≡ took_then_of cs rest → Took (list_words (codes "open")) are_committed ws cs rest
     first None e h = none_some h
     first (Some p) e h =
         let f = few_is p (cs, rest) h in
@@ -65,13 +65,13 @@ abbrev option_ok : {A : Type 0} → (A → Bool) → Option A → Bool
 option_ok ok o = option_map_or ok o true
 
 optional_is : {A : Type 0} (first : List ℕ) (read : Word → Option A) (print : A → Word) (ok : A → Bool) → ((w : Word) (x : A) → read w ≡ Some x → (w ≡ print x) × (ok x ≡ true))
-    → (ws : WordsLeft) (o : Option A) (rest : WordsLeft) → optional first read ws ≡ taken_of o rest → Took (λ o. option_words first (option_map print o)) (option_ok ok) ws o rest
+    → (ws : WordsLeft) (o : Option A) (rest : WordsLeft) → optional first read ws ≡ took_then_of o rest → Took (λ o. option_words first (option_map print o)) (option_ok ok) ws o rest
 optional_is first read print ok is [] o rest h = took (λ o. option_words first (option_map print o)) (option_ok ok) {x = None} {r = []} refl refl h
 optional_is {A} first read print ok is (w ∷ ws) o rest h = by (bytes_eq w first) refl h
   where
-    by : (b : Bool) → bytes_eq w first ≡ b → (if b then after (word read) (λ x rest. taken_of (Some x) rest) ws else taken_of None (w ∷ ws)) ≡ taken_of o rest → Took (λ o. option_words first (option_map print o)) (option_ok ok) (w ∷ ws) o rest
+    by : (b : Bool) → bytes_eq w first ≡ b → (if b then after (word read) (λ x rest. took_then_of (Some x) rest) ws else took_then_of None (w ∷ ws)) ≡ took_then_of o rest → Took (λ o. option_words first (option_map print o)) (option_ok ok) (w ∷ ws) o rest
     by true e h =
-        let a = step read (λ x rest. taken_of (Some x) rest) ws (o, rest) h in
+        let a = step read (λ x rest. took_then_of (Some x) rest) ws (o, rest) h in
         let r = is a.first a.value a.was in
         took (λ o. option_words first (option_map print o)) (option_ok ok) {x = Some a.value} {r = a.rest} (λ i. (bytes_eq-Decides w first).0 e i ∷ line_up a.all r.0 refl i) r.1 a.more
     by false e h = took (λ o. option_words first (option_map print o)) (option_ok ok) {x = None} {r = w ∷ ws} refl refl h
@@ -110,17 +110,17 @@ join_of nonce names = Some (record { nonce = nonce; names = names })
 abbrev join_ok : Option CraftJoin → Bool
 join_ok j = option_map_or is_join j true
 
-join_is : (ws : WordsLeft) (j : Option CraftJoin) (rest : WordsLeft) → join ws ≡ taken_of j rest → Took join_words join_ok ws j rest
+join_is : (ws : WordsLeft) (j : Option CraftJoin) (rest : WordsLeft) → join ws ≡ took_then_of j rest → Took join_words join_ok ws j rest
 unfolding join join_parts
 join_is [] j rest h = took join_words join_ok {x = None} {r = []} refl refl h
 join_is (w ∷ ws) j rest h = by (bytes_eq w (codes "join")) refl h
   where
     -- the word, and what is behind it
-    by : (b : Bool) → bytes_eq w (codes "join") ≡ b → (if b then after (optional (codes "nonce") (number 18446744073709551615)) (λ nonce. after (optional (codes "cast") cast) (λ names rest. taken_of (join_of nonce names) rest)) ws else taken_of None (w ∷ ws)) ≡ taken_of j rest
+    by : (b : Bool) → bytes_eq w (codes "join") ≡ b → (if b then after (optional (codes "nonce") (number 18446744073709551615)) (λ nonce. after (optional (codes "cast") cast) (λ names rest. took_then_of (join_of nonce names) rest)) ws else took_then_of None (w ∷ ws)) ≡ took_then_of j rest
         → Took join_words join_ok (w ∷ ws) j rest
     by true e h =
-        let a = taken_is (optional (codes "nonce") (number 18446744073709551615)) (λ nonce. after (optional (codes "cast") cast) (λ names rest. taken_of (join_of nonce names) rest)) ws (j, rest) h in
-        let b = taken_is (optional (codes "cast") cast) (λ names rest. taken_of (join_of a.value names) rest) a.rest (j, rest) a.more in
+        let a = took_then_is (optional (codes "nonce") (number 18446744073709551615)) (λ nonce. after (optional (codes "cast") cast) (λ names rest. took_then_of (join_of nonce names) rest)) ws (j, rest) h in
+        let b = took_then_is (optional (codes "cast") cast) (λ names rest. took_then_of (join_of a.value names) rest) a.rest (j, rest) a.more in
         let m = optional_is (codes "nonce") (number 18446744073709551615) decimal is_wide wide_of ws a.value a.rest a.was in
         let n = optional_is (codes "cast") cast joined_names are_cast cast_is a.rest b.value b.rest b.was in
         let prefix = option_words (codes "nonce") (option_map decimal a.value) in
@@ -147,7 +147,7 @@ ends_print e = e.0 ∷ codes "from" ∷ e.1 ∷ codes "to" ∷ e.2 ∷ []
 abbrev ends_ok : Ends → Bool
 ends_ok e = are_names (e.0 ∷ e.1 ∷ e.2 ∷ []) && not (bytes_eq e.1 e.2)
 
-ends_are : (ws : WordsLeft) (e : Ends) (rest : WordsLeft) → ends ws ≡ taken_of e rest → Took ends_print ends_ok ws e rest
+ends_are : (ws : WordsLeft) (e : Ends) (rest : WordsLeft) → ends ws ≡ took_then_of e rest → Took ends_print ends_ok ws e rest
 unfolding ends
 ends_are ws e rest h =
     let a = step name (λ session. after (word (exactly (codes "from"))) λ _. after (word name) λ from. after (word (exactly (codes "to"))) λ _. after (word name) λ to. ends_of session from to) ws (e, rest) h in
@@ -163,7 +163,7 @@ ends_are ws e rest h =
     (both l.name (both m.name (both n.name refl))) (bytes_eq c.value f.value) refl f.more
   where
     by : (session from to : Name) (r : WordsLeft) → ws ≡ ends_print (session, from, to) ++ r → are_names (session ∷ from ∷ to ∷ []) ≡ true → (b : Bool) → bytes_eq from to ≡ b
-        → (if b then None else taken_of (session, from, to) r) ≡ taken_of e rest → Took ends_print ends_ok ws e rest
+        → (if b then None else took_then_of (session, from, to) r) ≡ took_then_of e rest → Took ends_print ends_ok ws e rest
     by session from to r w n true q h = none_some h
     by session from to r w n false q h = took ends_print ends_ok {x = (session, from, to)} {r = r} w (both n (ap not q)) h
 
@@ -175,7 +175,7 @@ seal_is : (ws : WordsLeft) (s : TagSource) → seal_form ws ≡ Some s → SealI
 unfolding seal_form
 seal_is ws s h =
     let a = step (exactly (codes "seal")) (λ _. after source λ seal. ended (Some seal)) ws s h in
-    let b = taken_is source (λ seal. ended (Some seal)) a.rest s a.more in
+    let b = took_then_is source (λ seal. ended (Some seal)) a.rest s a.more in
     let e = ended_is (Some b.value) b.rest s b.more in
     let t = source_is a.rest b.value b.rest b.was in
     subst (λ s. SealIs ws s) (some_same e.1) (record { words = line_up a.all (exactly_is (codes "seal") a.first a.value a.was) (t.words ∙ ap (λ (r : WordsLeft). from_words b.value ++ r) e.0 ∙ append-nil (from_words b.value)); form = t.form })
@@ -207,12 +207,12 @@ some_there (i ∷ is) next ws s h = let some : (length (i ∷ is) == 0) ≡ fals
 pub craft_sound : (ws : WordsLeft) (s : LineContent) → craft_form ws ≡ Some s → Fits (codes "craft" ∷ ws) s
 unfolding craft_form
 craft_sound ws s h =
-    let a = taken_is ends (λ e. after join λ j. after (listed (codes "know")) λ know. after (repeated (codes "item") item 65535) λ is. some_items is (ending e j know is)) ws s h in
-    let b = taken_is join (λ j. after (listed (codes "know")) λ know. after (repeated (codes "item") item 65535) λ is. some_items is (ending a.value j know is)) a.rest s a.more in
-    let c = taken_is (listed (codes "know")) (λ know. after (repeated (codes "item") item 65535) λ is. some_items is (ending a.value b.value know is)) b.rest s b.more in
-    let d = taken_is (repeated (codes "item") item 65535) (λ is. some_items is (ending a.value b.value c.value is)) c.rest s c.more in
+    let a = took_then_is ends (λ e. after join λ j. after (listed (codes "know")) λ know. after (repeated (codes "item") item 65535) λ is. some_items is (ending e j know is)) ws s h in
+    let b = took_then_is join (λ j. after (listed (codes "know")) λ know. after (repeated (codes "item") item 65535) λ is. some_items is (ending a.value j know is)) a.rest s a.more in
+    let c = took_then_is (listed (codes "know")) (λ know. after (repeated (codes "item") item 65535) λ is. some_items is (ending a.value b.value know is)) b.rest s b.more in
+    let d = took_then_is (repeated (codes "item") item 65535) (λ is. some_items is (ending a.value b.value c.value is)) c.rest s c.more in
     let n = some_there d.value (ending a.value b.value c.value d.value) d.rest s d.more in
-    let f = taken_is opened (λ openings. λ ws. option_map (λ seal. MakeLine (made a.value b.value c.value d.value openings seal)) (seal_form ws)) d.rest s n.1 in
+    let f = took_then_is opened (λ openings. λ ws. option_map (λ seal. MakeLine (made a.value b.value c.value d.value openings seal)) (seal_form ws)) d.rest s n.1 in
     let g = sealed a.value b.value c.value d.value f.value f.rest s f.more in
     let ea = ends_are ws a.value a.rest a.was in
     let jb = join_is a.rest b.value b.rest b.was in

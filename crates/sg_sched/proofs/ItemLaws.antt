@@ -20,7 +20,7 @@ use Rattle.sg_sched.proofs.FormatWords.{both}
 use Rattle.sg_sched.proofs.FormLaws.{none_some, step, ended_is, line_up, name_is, Fits, fits}
 use Rattle.sg_sched.proofs.NumberLaws.{number_is, wide_is}
 use Rattle.sg_sched.proofs.PartLaws.{joined_back}
-use Rattle.sg_sched.proofs.TakerLaws.{Taken, taken_is, taken_of, Took, took, run_words, run_is, source_is, printed, TookAll, repeated_is}
+use Rattle.sg_sched.proofs.TakerLaws.{TookThen, took_then_is, took_then_of, Took, took, run_words, run_is, source_is, printed, TookAll, repeated_is}
 
 -- ---- tags
 
@@ -34,7 +34,7 @@ pub tag_is : (ws : WordsLeft) (t : Name × TagSource) (rest : WordsLeft) → tag
 unfolding tag
 tag_is ws t rest h =
     let a = step name (λ role. after source λ s rest. tag_with role s rest) ws (t, rest) h in
-    let b = taken_is source (λ s rest. tag_with a.value s rest) a.rest (t, rest) a.more in
+    let b = took_then_is source (λ s rest. tag_with a.value s rest) a.rest (t, rest) a.more in
     let n = name_is a.first a.value a.was in
     let s = source_is a.rest b.value b.rest b.was in
     took tag_print is_tag {x = (a.value, b.value)} {r = b.rest} (line_up a.all n.same s.words) (both n.name s.form) b.more
@@ -69,7 +69,7 @@ record Few (ws : WordsLeft) (cs : List Committed) (rest : WordsLeft) : Type 0 wh
   pub words : ws ≡ run_words cs ++ rest
   pub form : are_committed cs ≡ true
 
-few_run : (ws : WordsLeft) (cs : List Committed) (rest : WordsLeft) → few (run ws) ≡ taken_of cs rest → Few ws cs rest
+few_run : (ws : WordsLeft) (cs : List Committed) (rest : WordsLeft) → few (run ws) ≡ took_then_of cs rest → Few ws cs rest
 few_run ws cs rest h =
     let f = few_is (run ws) (cs, rest) h in
     let r = run_is ws in
@@ -84,10 +84,10 @@ item_of label t delta tags = record { label = label; time = t; delta = delta; ta
 pub item_is : (ws : WordsLeft) (i : ItemContent) (rest : WordsLeft) → item ws ≡ Some (i, rest) → Took item_print is_item ws i rest
 unfolding item
 item_is ws i rest h =
-    let a = step name (λ label. after (word time) λ t. after (λ ws. few (run ws)) λ delta. after (repeated (codes "tag") tag 14) λ tags rest. taken_of (item_of label t delta tags) rest) ws (i, rest) h in
-    let b = step time (λ t. after (λ ws. few (run ws)) λ delta. after (repeated (codes "tag") tag 14) λ tags rest. taken_of (item_of a.value t delta tags) rest) a.rest (i, rest) a.more in
-    let d = taken_is (λ ws. few (run ws)) (λ delta. after (repeated (codes "tag") tag 14) λ tags rest. taken_of (item_of a.value b.value delta tags) rest) b.rest (i, rest) b.more in
-    let e = taken_is (repeated (codes "tag") tag 14) (λ tags rest. taken_of (item_of a.value b.value d.value tags) rest) d.rest (i, rest) d.more in
+    let a = step name (λ label. after (word time) λ t. after (λ ws. few (run ws)) λ delta. after (repeated (codes "tag") tag 14) λ tags rest. took_then_of (item_of label t delta tags) rest) ws (i, rest) h in
+    let b = step time (λ t. after (λ ws. few (run ws)) λ delta. after (repeated (codes "tag") tag 14) λ tags rest. took_then_of (item_of a.value t delta tags) rest) a.rest (i, rest) a.more in
+    let d = took_then_is (λ ws. few (run ws)) (λ delta. after (repeated (codes "tag") tag 14) λ tags rest. took_then_of (item_of a.value b.value delta tags) rest) b.rest (i, rest) b.more in
+    let e = took_then_is (repeated (codes "tag") tag 14) (λ tags rest. took_then_of (item_of a.value b.value d.value tags) rest) d.rest (i, rest) d.more in
     let n = name_is a.first a.value a.was in
     let t = time_is b.first b.value b.was in
     let f = few_run b.rest d.value d.rest d.was in

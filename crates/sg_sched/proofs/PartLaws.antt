@@ -142,10 +142,10 @@ session_sound ws s h =
 -- ---- acts
 
 -- a byte before the prefix
-abbrev in_front : ℕ → Word × Word → Word × Word
-in_front c p = (c ∷ p.0, p.1)
+abbrev in_prefix : ℕ → Word × Word → Word × Word
+in_prefix c p = (c ∷ p.0, p.1)
 
-split_before : (mark c : ℕ) (cs f b : Word) → (o : Option (Word × Word)) → ((f b : Word) → o ≡ Some (f, b) → cs ≡ f ++ mark ∷ b) → option_map (in_front c) o ≡ Some (f, b) → (c ∷ cs) ≡ f ++ mark ∷ b
+split_before : (mark c : ℕ) (cs f b : Word) → (o : Option (Word × Word)) → ((f b : Word) → o ≡ Some (f, b) → cs ≡ f ++ mark ∷ b) → option_map (in_prefix c) o ≡ Some (f, b) → (c ∷ cs) ≡ f ++ mark ∷ b
 split_before mark c cs f b None ih h = none_some h
 split_before mark c cs f b (Some p) ih h = ap (λ (r : Word). c ∷ r) (ih p.0 p.1 refl) ∙ ap (λ (q : Word × Word). q.0 ++ mark ∷ q.1) (some_same h)
 
@@ -157,7 +157,7 @@ pub split_is : (mark : ℕ) (w f b : Word) → split_at mark w ≡ Some (f, b) �
 split_is mark [] f b h = none_some h
 split_is mark (c ∷ cs) f b h = by (c == mark) refl (λ f b h. split_is mark cs f b h) h
   where
-    by : (q : Bool) → (c == mark) ≡ q → ((f b : Word) → split_at mark cs ≡ Some (f, b) → cs ≡ f ++ mark ∷ b) → (if q then found_first cs else option_map (in_front c) (split_at mark cs)) ≡ Some (f, b) → (c ∷ cs) ≡ f ++ mark ∷ b
+    by : (q : Bool) → (c == mark) ≡ q → ((f b : Word) → split_at mark cs ≡ Some (f, b) → cs ≡ f ++ mark ∷ b) → (if q then found_first cs else option_map (in_prefix c) (split_at mark cs)) ≡ Some (f, b) → (c ∷ cs) ≡ f ++ mark ∷ b
     by true e ih h = ap (λ x. x ∷ cs) (eqb-true c mark e) ∙ ap (λ (q : Word × Word). q.0 ++ mark ∷ q.1) (some_same h)
     by false e ih h = split_before mark c cs f b (split_at mark cs) ih h
 
@@ -166,7 +166,7 @@ split_ok mark [] v h = let same : (mark == mark) ≡ true = grind (arith, common
 split_ok mark (c ∷ cs) v h = by (c == mark) refl (split_ok mark cs v (and_right (not (c == mark)) (lacks mark cs) h)) (and_left (not (c == mark)) (lacks mark cs) h)
   where
     by : (b : Bool) → (c == mark) ≡ b → split_at mark (cs ++ mark ∷ v) ≡ Some (cs, v) → not (c == mark) ≡ true → split_at mark (c ∷ (cs ++ mark ∷ v)) ≡ Some (c ∷ cs, v)
-    by false e ih l = ap (λ b. if b then found_first (cs ++ mark ∷ v) else option_map (in_front c) (split_at mark (cs ++ mark ∷ v))) e ∙ ap (option_map (in_front c)) ih
+    by false e ih l = ap (λ b. if b then found_first (cs ++ mark ∷ v) else option_map (in_prefix c) (split_at mark (cs ++ mark ∷ v))) e ∙ ap (option_map (in_prefix c)) ih
     by true e ih l = absurd (true≢false (sym l ∙ ap not e))
 
 pub assignment_is : (w : Word) (v : Assignment) → given w ≡ Some v → (w ≡ assignment_word v) × (is_assignment v ≡ true)

@@ -22,29 +22,29 @@ use Rattle.sg_sched.proofs.PartLaws.{split_is}
 -- ---- steps
 
 -- something was taken, and then what is behind it
-pub record Taken {A B : Type 0} (take : Taker A) (next : A → WordsLeft → Option B) (ws : WordsLeft) (y : B) : Type 0 where
+pub record TookThen {A B : Type 0} (take : Taker A) (next : A → WordsLeft → Option B) (ws : WordsLeft) (y : B) : Type 0 where
   pub value : A
   pub rest : WordsLeft
   pub was : take ws ≡ Some (value, rest)
   pub more : next value rest ≡ Some y
 
-pub taken_is : {A B : Type 0} (take : Taker A) (next : A → WordsLeft → Option B) (ws : WordsLeft) (y : B) → after take next ws ≡ Some y → Taken take next ws y
-taken_is {A} {B} take next ws y h = by (take ws) refl h
+pub took_then_is : {A B : Type 0} (take : Taker A) (next : A → WordsLeft → Option B) (ws : WordsLeft) (y : B) → after take next ws ≡ Some y → TookThen take next ws y
+took_then_is {A} {B} take next ws y h = by (take ws) refl h
   where
-    by : (o : Option (A × WordsLeft)) → take ws ≡ o → option_and_then (λ (p : A × WordsLeft). next p.0 p.1) o ≡ Some y → Taken take next ws y
+    by : (o : Option (A × WordsLeft)) → take ws ≡ o → option_and_then (λ (p : A × WordsLeft). next p.0 p.1) o ≡ Some y → TookThen take next ws y
     by None e h = none_some h
     by (Some p) e h = record { value = p.0; rest = p.1; was = e; more = h }
 
 -- what was taken, and the words behind it
-abbrev pub taken_of : {A : Type 0} → A → WordsLeft → Option (A × WordsLeft)
-taken_of x r = Some (x, r)
+abbrev pub took_then_of : {A : Type 0} → A → WordsLeft → Option (A × WordsLeft)
+took_then_of x r = Some (x, r)
 
 -- the words in front are those of what was taken, which is as it may be
 pub record Took {A : Type 0} (print : A → WordsLeft) (ok : A → Bool) (ws : WordsLeft) (x : A) (rest : WordsLeft) : Type 0 where
   pub words : ws ≡ print x ++ rest
   pub form : ok x ≡ true
 
-pub took : {A : Type 0} (print : A → WordsLeft) (ok : A → Bool) {ws : WordsLeft} {x y : A} {r rest : WordsLeft} → ws ≡ print x ++ r → ok x ≡ true → taken_of x r ≡ taken_of y rest → Took print ok ws y rest
+pub took : {A : Type 0} (print : A → WordsLeft) (ok : A → Bool) {ws : WordsLeft} {x y : A} {r rest : WordsLeft} → ws ≡ print x ++ r → ok x ≡ true → took_then_of x r ≡ took_then_of y rest → Took print ok ws y rest
 took {A} print ok {ws = ws} w f h = subst (λ (p : A × WordsLeft). Took print ok ws p.0 p.1) (some_same h) (record { words = w; form = f })
 
 -- ---- commitments
@@ -171,7 +171,7 @@ pub record TookAll {A : Type 0} (first : List ℕ) (print : A → WordsLeft) (ok
 abbrev nothing_taken : {A : Type 0} → WordsLeft → Option (List A × WordsLeft)
 nothing_taken ws = Some ([], ws)
 
-none_taken : {A : Type 0} (first : List ℕ) (print : A → WordsLeft) (ok : A → Bool) (n : ℕ) (ws : WordsLeft) (xs : List A) (rest : WordsLeft) → taken_of [] ws ≡ taken_of xs rest → TookAll first print ok n ws xs rest
+none_taken : {A : Type 0} (first : List ℕ) (print : A → WordsLeft) (ok : A → Bool) (n : ℕ) (ws : WordsLeft) (xs : List A) (rest : WordsLeft) → took_then_of [] ws ≡ took_then_of xs rest → TookAll first print ok n ws xs rest
 none_taken {A} first print ok n ws xs rest h = subst (λ (p : List A × WordsLeft). TookAll first print ok n ws p.0 p.1) (some_same h) (record { words = refl; form = refl; few = omega arith })
 
 pub repeated_is : {A : Type 0} (first : List ℕ) (take : Taker A) (print : A → WordsLeft) (ok : A → Bool) → ((ws : WordsLeft) (x : A) (rest : WordsLeft) → take ws ≡ Some (x, rest) → Took print ok ws x rest)
@@ -184,13 +184,13 @@ repeated_is {A} first take print ok is (suc n) (w ∷ ws) xs rest h = by (bytes_
     more x r e t None ih h = none_some h
     more x r e t (Some p) ih h =
         let same = some_same h in
-        let prefix = ih p.0 (ap (λ (q : List A × WordsLeft). taken_of p.0 q.1) same) in
+        let prefix = ih p.0 (ap (λ (q : List A × WordsLeft). took_then_of p.0 q.1) same) in
         let words : (w ∷ ws) ≡ printed first print (x ∷ p.0) ++ rest = (λ i. e i ∷ (t.words ∙ ap (λ (r : WordsLeft). print x ++ r) prefix.words ∙ sym (append_assoc (print x) (printed first print p.0) rest)) i) in
         subst (λ (ys : List A). TookAll first print ok (suc n) (w ∷ ws) ys rest) (ap (λ (q : List A × WordsLeft). q.0) same) (record { words = words; form = both t.form prefix.form; few = omega (arith, prefix.few) })
 
     by : (b : Bool) → bytes_eq w first ≡ b → ((ws : WordsLeft) (xs : List A) → repeated first take n ws ≡ Some (xs, rest) → TookAll first print ok n ws xs rest)
         → (if b then after take (λ x rest. more_after x (repeated first take n rest)) ws else nothing_taken (w ∷ ws)) ≡ Some (xs, rest) → TookAll first print ok (suc n) (w ∷ ws) xs rest
     by true e ih h =
-        let a = taken_is take (λ x rest. more_after x (repeated first take n rest)) ws (xs, rest) h in
+        let a = took_then_is take (λ x rest. more_after x (repeated first take n rest)) ws (xs, rest) h in
         more a.value a.rest ((bytes_eq-Decides w first).0 e) (is ws a.value a.rest a.was) (repeated first take n a.rest) (λ ys q. ih a.rest ys q) a.more
     by false e ih h = none_taken first print ok (suc n) (w ∷ ws) xs rest h

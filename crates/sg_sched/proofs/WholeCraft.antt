@@ -19,7 +19,7 @@ use Rattle.sg_sched.proofs.FormatWholeCraft.{CraftFacts, craft_facts, craft_rest
 use Rattle.sg_sched.proofs.FormLaws.{name_ok}
 use Rattle.sg_sched.proofs.NumberLaws.{number_ok, is_wide_of}
 use Rattle.sg_sched.proofs.RunLaws.{join_other, listed_other}
-use Rattle.sg_sched.proofs.TakerLaws.{taken_of, run_words, printed}
+use Rattle.sg_sched.proofs.TakerLaws.{took_then_of, run_words, printed}
 use Rattle.sg_sched.proofs.ItemLaws.{item_print}
 use Rattle.sg_sched.proofs.CraftComplete.{source_ok, run_ok, repeated_ok, item_repeats, item_behind, Behind}
 

@@ -82,7 +82,7 @@ one_more items (StepItem s) = let i = StepItem s in λ k. record {
 -- ---- lines that are taken
 
 -- a line of a form is right, and adds an item
-pub record Taken (items : List Item) (said : LineContent) (new : SoFar) : Type 0 where
+pub record TookItem (items : List Item) (said : LineContent) (new : SoFar) : Type 0 where
   pub item : Item
   pub right : fault items said ≡ None
   pub makes : made items said ≡ Some item
@@ -100,11 +100,11 @@ only_block items (AbandonLine who session) h = absurd (cc)
 only_block items (DeliverLine who what) h = absurd (cc)
 only_block items (MakeLine c) h = absurd (cc)
 
-pub took : (items : List Item) (said : LineContent) (new : SoFar) → (said ≡ BlockLine → ⊥) → after_line (so_far items) said ≡ Ok new → Taken items said new
+pub took : (items : List Item) (said : LineContent) (new : SoFar) → (said ≡ BlockLine → ⊥) → after_line (so_far items) said ≡ Ok new → TookItem items said new
 unfolding after_line
 took items said new other e = by (fault items said) (made items said) refl refl e
   where
-    by : (f : Option Kind) (m : Option Item) → fault items said ≡ f → made items said ≡ m → added (so_far items) f m ≡ Ok new → Taken items said new
+    by : (f : Option Kind) (m : Option Item) → fault items said ≡ f → made items said ≡ m → added (so_far items) f m ≡ Ok new → TookItem items said new
     by (Some k) m ef em e = absurd (cc)
     by None (Some i) ef em e = let same : plus (so_far items) i ≡ new = cc in record { item = i; right = ef; makes = em; after = sym same ∙ sym (one_more items i) }
     by None None ef em e = absurd (other (only_block items said em))

@@ -29,7 +29,7 @@ use Rattle.sg_sched_text.specs.declared.stop.Stop.{Stop}
 use Rattle.sg_sched_text.specs.declared.stop.Stop.TheVariants.{Wrong, OutOfMemory}
 use Rattle.sg_sched_text.specs.TakingLines.{IsRefused, kind_of, fault_at}
 use Rattle.sg_sched_text.specs.ReadSoFar.{IsFirstEdge, HasRead, Opens, IsAt, IsShown, IsBad, IsBadAt, IsFault, Refused, Again, AsPair}
-use Rattle.sg_sched_text.proofs.Growing.{one_more, Taken, took, stopped, begun}
+use Rattle.sg_sched_text.proofs.Growing.{one_more, TookItem, took, stopped, begun}
 
 -- ---- lists
 
@@ -166,7 +166,7 @@ module _ (bytes rest after : List ℕ) (line : Line) (r : ScheduleReader) (s : H
   pub says : (said : LineContent) (new : ScheduleReader) → SaysLine line said → (said ≡ BlockLine → ⊥) → after_line r.past said ≡ Ok new.past → new.number ≡ r.number + 1
       → new.first_edge ≡ (if length r.past.edges == 0 then r.number + 1 else r.first_edge) → HasRead bytes new after
   says said new is other taken number first_edge =
-      let t : Taken s.items said new.past = took s.items said new.past other (ap (λ p. after_line p said) (sym s.keeps.past) ∙ taken) in
+      let t : TookItem s.items said new.past = took s.items said new.past other (ap (λ p. after_line p said) (sym s.keeps.past) ∙ taken) in
       record {
         right = s.right ++ line ∷ [];
         items = s.items ++ t.item ∷ [];

@@ -8,7 +8,7 @@ use Rattle.std.proofs.lemmas.List.Elements.{All-from_recursion}
 use Rattle.std.proofs.lemmas.Bool.{and_parts}
 use Rattle.toml.specs.Data.{Data, Items, Members, get_member, as_str, as_integer, as_array, as_table}
 use Rattle.sg_base.specs.Words.{name}
-use Rattle.sg_graph.proofs.Found.{passes_there}
+use Rattle.sg_graph.proofs.FirstIndex.{passes_there}
 use Rattle.sg_graph.specs.Parts.{variable_names, node_names, edge_names}
 use Rattle.sg_keys.specs.KeyFile.{at, has_keys_alone, list_of, text_at}
 use Rattle.sg_model.specs.Last.{Map}

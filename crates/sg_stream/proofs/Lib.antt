@@ -7,4 +7,4 @@ pub mod Messages
 pub mod Posting
 pub mod Removal
 pub mod Steps
-pub mod Taken
+pub mod Pieces

@@ -14,7 +14,7 @@ use Rattle.sg_protocol.specs.Schedule.{Schedule, Step, is_honest, StartStep, Act
 use Rattle.sg_protocol.specs.Steps.{is_taken}
 use Rattle.sg_protocol.specs.Texts.{real}
 use Rattle.sg_protocol.specs.World.{World, Logged, past_of, new_world, call_of, frames}
-use Rattle.sg_protocol.proofs.Course.{past_called, next_past}
+use Rattle.sg_protocol.proofs.Progressing.{past_called, next_past}
 use Rattle.sg_protocol.proofs.Steps.{steps_add_entries, begins}
 
 -- each honest principal has a past

@@ -6,7 +6,7 @@ mod Called
 mod Delivered
 mod Next
 mod Begins
-mod Found
+mod ByName
 mod Lasts
 mod Worlds
 mod Graphs
@@ -22,6 +22,6 @@ mod WalkLaws
 pub mod ReportText
 mod Accounts
 mod Gathered
-mod Taken
+mod StepLaws
 pub mod EntryCalls
 pub mod Passing

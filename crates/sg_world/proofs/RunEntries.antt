@@ -13,7 +13,7 @@ use Rattle.sg_protocol.specs.Schedule.{Schedule, Step, StartStep, ActStep, Aband
 use Rattle.sg_protocol.specs.Steps.{is_taken}
 use Rattle.sg_protocol.specs.Texts.{real}
 use Rattle.sg_protocol.specs.World.{World, Logged, Outcome, Answered, past_of, new_world, call_of}
-use Rattle.sg_protocol.proofs.Course.{past_called, next_past}
+use Rattle.sg_protocol.proofs.Progressing.{past_called, next_past}
 use Rattle.sg_protocol.proofs.Steps.{begins}
 
 -- nothing was answered

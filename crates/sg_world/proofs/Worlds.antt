@@ -22,7 +22,7 @@ use Rattle.sg_world.specs.Indices.{IsIndexOf}
 use Rattle.sg_world.specs.Replay.{Replay, without_steps, with_taken, run_of, size_of, stepped}
 use Rattle.sg_world.specs.Setting.{Setting}
 use Rattle.sg_report.specs.Reported.{Reported, reported_log}
-use Rattle.sg_world.proofs.Found.{indexed}
+use Rattle.sg_world.proofs.ByName.{indexed}
 use Rattle.sg_world.proofs.Begins.{begins, is_declared, new_named, nothing}
 use Rattle.sg_world.proofs.Pasts.{Named}
 

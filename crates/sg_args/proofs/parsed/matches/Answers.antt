@@ -1,7 +1,7 @@
 use Rattle.std.proofs.Common.{rules, ap, ap₂, codes, map, List, drop, ◌≡◌, ◌∙◌, unwrap_or, []}
 use Rattle.std.proofs.lemmas.Result.{IfErr-weaker, IfOk-weaker}
 use Rattle.clap.specs.Words.{Text, all_of, app_of, is_simple, matches_of, rule_of, takes, with_rule}
-use Rattle.sg_args.proofs.Taken.{given_back, table, takes_any, arg}
+use Rattle.sg_args.proofs.AfterDashes.{given_back, table, takes_any, arg}
 use Rattle.sg_args.proofs.parsed.matches.Goals as goal
 
 pub returns : goal.returns

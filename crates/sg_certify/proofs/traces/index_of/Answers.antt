@@ -1,4 +1,4 @@
-use Rattle.sg_certify.proofs.Found.{found_sid}
+use Rattle.sg_certify.proofs.BySid.{found_sid}
 use Rattle.sg_certify.proofs.traces.index_of.Goals as goal
 
 pub returns : goal.returns

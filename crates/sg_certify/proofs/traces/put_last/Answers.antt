@@ -1,7 +1,7 @@
 use Rattle.std.proofs.Common.{◌∙◌}
 use Rattle.indexmap.proofs.CallerLemmas.{insert_entry-new}
 use Rattle.sg_text.proofs.SameSid.{same}
-use Rattle.sg_certify.proofs.Found.{found_none}
+use Rattle.sg_certify.proofs.BySid.{found_none}
 use Rattle.sg_certify.proofs.traces.put_last.Goals as goal
 
 pub returns-clause-ok : goal.returns-clause-ok

@@ -4,7 +4,7 @@ use Rattle.sg_role.specs.Accepting.{goes_on, state_after}
 use Rattle.sg_role.specs.Sending.{TurnsOrEnds}
 use Rattle.sg_node.specs.declared.sessions.Live.TheVariants.{AtTurn}
 use Rattle.sg_node.proofs.Indices.{live_at}
-use Rattle.sg_node.proofs.Found.{at_set, length_set, set_twice, left_turn}
+use Rattle.sg_node.proofs.InSlots.{at_set, length_set, set_twice, left_turn}
 use Rattle.sg_node.proofs.deliver.take.Goals as goal
 
 pub put-requires-clause-empty : goal.put-requires-clause-empty

@@ -1,5 +1,5 @@
 use Rattle.std.proofs.Common.{◌∙◌}
-use Rattle.sg_node.proofs.Found.{live_of}
+use Rattle.sg_node.proofs.InSlots.{live_of}
 use Rattle.sg_node.proofs.sessions.take_at.Goals as goal
 
 pub returns-clause-taken : goal.returns-clause-taken

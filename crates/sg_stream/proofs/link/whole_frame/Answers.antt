@@ -1,6 +1,6 @@
 use Rattle.std.proofs.Common.{Err, [], ap}
 use Rattle.sg_stream.proofs.Steps.{none_ready, none_given}
-use Rattle.sg_stream.proofs.Taken.{taken_closed}
+use Rattle.sg_stream.proofs.Pieces.{taken_closed}
 use Rattle.sg_stream.proofs.link.whole_frame.Goals as goal
 
 pub returns-in-Ok-clause-none : goal.returns-in-Ok-clause-none

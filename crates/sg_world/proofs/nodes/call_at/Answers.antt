@@ -3,7 +3,7 @@ use Rattle.indexmap.specs.IndexMap.{set_value_at}
 use Rattle.sg_sched.specs.Format.StepsHeld.{step_of}
 use Rattle.sg_world.specs.StepResults.{IsResultAt, IsResultOfStep}
 use Rattle.sg_world.proofs.Called.{if_is_ok}
-use Rattle.sg_world.proofs.Found.{entry_at}
+use Rattle.sg_world.proofs.ByName.{entry_at}
 use Rattle.sg_world.proofs.Goes.{same_value}
 use Rattle.std.proofs.Common.{◌∙◌, ap}
 use Rattle.sg_protocol.specs.NodeStates.{NodeState}

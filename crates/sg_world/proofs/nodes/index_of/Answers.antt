@@ -1,4 +1,4 @@
-use Rattle.sg_world.proofs.Found.{found_name}
+use Rattle.sg_world.proofs.ByName.{found_name}
 use Rattle.sg_world.proofs.nodes.index_of.Goals as goal
 
 pub returns : goal.returns

@@ -1,4 +1,4 @@
-use Rattle.sg_world.proofs.Found.{new_name, nodes_more}
+use Rattle.sg_world.proofs.ByName.{new_name, nodes_more}
 use Rattle.sg_world.proofs.nodes.nodes_of.Goals as goal
 
 pub put_last-requires : goal.put_last-requires

@@ -1,7 +1,7 @@
 use Rattle.std.proofs.Common.{◌∙◌}
 use Rattle.indexmap.proofs.CallerLemmas.{insert_entry-new}
 use Rattle.sg_base.proofs.SameName.{same}
-use Rattle.sg_world.proofs.Found.{lookup_absent}
+use Rattle.sg_world.proofs.ByName.{lookup_absent}
 use Rattle.sg_world.proofs.nodes.put_last.Goals as goal
 
 pub returns : goal.returns

@@ -1,7 +1,7 @@
 use Rattle.std.proofs.Common.{arith}
 use Rattle.std.proofs.lemmas.Result.{err_from_is_err_and}
 use Rattle.sg_sched.specs.Format.StepsHeld.{step_of}
-use Rattle.sg_world.proofs.Found.{indexed}
+use Rattle.sg_world.proofs.ByName.{indexed}
 use Rattle.sg_world.proofs.take.admit.Goals as goal
 
 pub returns-then-bytes-gt-MOST_BYTES-clause-refused : goal.returns-then-bytes-gt-MOST_BYTES-clause-refused

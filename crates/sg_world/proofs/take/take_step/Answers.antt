@@ -7,7 +7,7 @@ use Rattle.sg_world.specs.Holds.{schedule_of}
 use Rattle.sg_world.specs.RecordModel.{Recorded}
 use Rattle.sg_world.proofs.Gathered.{craftable}
 use Rattle.sg_world.proofs.Next.{frames_few}
-use Rattle.sg_world.proofs.Taken.{step_fits, step_taken}
+use Rattle.sg_world.proofs.StepLaws.{step_fits, step_taken}
 use Rattle.sg_world.proofs.take.take_step.Goals as goal
 
 pub perform-requires-clause-can : goal.perform-requires-clause-can

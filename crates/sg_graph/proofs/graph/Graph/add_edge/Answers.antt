@@ -7,9 +7,9 @@ use Rattle.sg_graph.specs.Edges.{leaving_of}
 use Rattle.sg_graph.specs.Parts.{edge_names}
 use Rattle.sg_graph.specs.Model.{graph_of, edge_of}
 use Rattle.sg_graph.specs.declared.graph.NamedEdge.{NamedEdge}
-use Rattle.sg_graph.proofs.Found.{unfound}
+use Rattle.sg_graph.proofs.FirstIndex.{unfound}
 use Rattle.sg_graph.proofs.Growth.{IsGraph-with_edge}
-use Rattle.sg_graph.proofs.Kept.{labels-append}
+use Rattle.sg_graph.proofs.ModelLaws.{labels-append}
 use Rattle.sg_graph.proofs.Leaving.{leaving_of-edge, length-leaving_of}
 use Rattle.sg_graph.proofs.graph.Graph.add_edge.Goals as goal
 

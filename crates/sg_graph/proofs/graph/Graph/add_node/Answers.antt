@@ -7,7 +7,7 @@ use Rattle.sg_graph.specs.Edges.{leaving_of}
 use Rattle.sg_graph.specs.Parts.{node_names}
 use Rattle.sg_graph.specs.Model.{graph_of, node_of}
 use Rattle.sg_graph.specs.declared.graph.Node.{Node as Kept}
-use Rattle.sg_graph.proofs.Found.{unfound}
+use Rattle.sg_graph.proofs.FirstIndex.{unfound}
 use Rattle.sg_graph.proofs.Growth.{IsGraph-with_node}
 use Rattle.sg_graph.proofs.Leaving.{leaving_of-node}
 use Rattle.sg_graph.proofs.graph.Graph.add_node.Goals as goal

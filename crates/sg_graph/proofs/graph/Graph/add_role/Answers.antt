@@ -2,7 +2,7 @@ use Rattle.std.proofs.Common.{◌≡◌, false, List, [], ◌∷◌, ◌++◌, �
 use Rattle.sg_model.specs.Lists.{has_text}
 use Rattle.sg_protocol.specs.Graph.{Graph, IsGraph, Name}
 use Rattle.sg_graph.specs.Model.{graph_of}
-use Rattle.sg_graph.proofs.Found.{unfound}
+use Rattle.sg_graph.proofs.FirstIndex.{unfound}
 use Rattle.sg_graph.proofs.Growth.{IsGraph-with_role}
 use Rattle.sg_graph.proofs.graph.Graph.add_role.Goals as goal
 

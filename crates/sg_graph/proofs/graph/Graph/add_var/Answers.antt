@@ -5,7 +5,7 @@ use Rattle.sg_protocol.specs.Graph.{Graph, IsGraph, Variable, AreNumbers}
 use Rattle.sg_graph.specs.Parts.{variable_names}
 use Rattle.sg_graph.specs.Model.{graph_of, variable_of}
 use Rattle.sg_graph.specs.declared.graph.Variable.{Variable as Kept}
-use Rattle.sg_graph.proofs.Found.{unfound}
+use Rattle.sg_graph.proofs.FirstIndex.{unfound}
 use Rattle.sg_graph.proofs.Growth.{IsGraph-with_variable}
 use Rattle.sg_graph.proofs.graph.Graph.add_var.Goals as goal
 

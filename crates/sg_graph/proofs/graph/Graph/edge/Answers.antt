@@ -1,6 +1,6 @@
 use Rattle.std.proofs.Common.{◌<◌, length, subst}
 use Rattle.sg_protocol.specs.Graph.{Edge, IsGraph, AreNumbers}
-use Rattle.sg_graph.proofs.Kept.{edge_kept, edge_has}
+use Rattle.sg_graph.proofs.ModelLaws.{edge_kept, edge_has}
 use Rattle.sg_graph.proofs.graph.Graph.edge.Goals as goal
 
 pub returns-clause-edge : goal.returns-clause-edge

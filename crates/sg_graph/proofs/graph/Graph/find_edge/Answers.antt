@@ -1,8 +1,8 @@
 use Rattle.std.proofs.Common.{◌≡◌, [], refl}
 use Rattle.std.specs.Prelude.{bytes_eq, Some, None, position}
 use Rattle.sg_protocol.specs.Graph.{Edge}
-use Rattle.sg_graph.proofs.Found.{name_found, name_missed, name_there, neither}
-use Rattle.sg_graph.proofs.Kept.{edge_index}
+use Rattle.sg_graph.proofs.FirstIndex.{name_found, name_missed, name_there, neither}
+use Rattle.sg_graph.proofs.ModelLaws.{edge_index}
 use Rattle.sg_graph.proofs.graph.Graph.find_edge.Goals as goal
 
 pub returns-in_err-index-clause-found : goal.returns-in_err-index-clause-found

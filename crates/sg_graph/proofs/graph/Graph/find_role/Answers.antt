@@ -1,8 +1,8 @@
 use Rattle.std.proofs.Common.{◌≡◌, [], refl, sym}
 use Rattle.std.specs.Prelude.{bytes_eq, Some, None, position}
 use Rattle.sg_protocol.specs.Graph.{Name}
-use Rattle.sg_graph.proofs.Found.{some_passes, none_passes, name_there, neither}
-use Rattle.sg_graph.proofs.Kept.{role_index}
+use Rattle.sg_graph.proofs.FirstIndex.{some_passes, none_passes, name_there, neither}
+use Rattle.sg_graph.proofs.ModelLaws.{role_index}
 use Rattle.sg_graph.proofs.graph.Graph.find_role.Goals as goal
 
 pub returns-in_err-index-clause-found : goal.returns-in_err-index-clause-found

@@ -1,8 +1,8 @@
 use Rattle.std.proofs.Common.{◌≡◌, [], refl}
 use Rattle.std.specs.Prelude.{bytes_eq, Some, None, position}
 use Rattle.sg_protocol.specs.Graph.{Variable, Int}
-use Rattle.sg_graph.proofs.Found.{name_found, name_missed, name_there, neither}
-use Rattle.sg_graph.proofs.Kept.{variable_index}
+use Rattle.sg_graph.proofs.FirstIndex.{name_found, name_missed, name_there, neither}
+use Rattle.sg_graph.proofs.ModelLaws.{variable_index}
 use Rattle.sg_graph.proofs.graph.Graph.find_var.Goals as goal
 
 pub returns-in_err-index-clause-found : goal.returns-in_err-index-clause-found

@@ -1,6 +1,6 @@
 use Rattle.std.proofs.Common.{◌<◌, length, subst}
 use Rattle.sg_protocol.specs.Graph.{Node, IsGraph}
-use Rattle.sg_graph.proofs.Kept.{role_kept, node_has}
+use Rattle.sg_graph.proofs.ModelLaws.{role_kept, node_has}
 use Rattle.sg_graph.proofs.graph.Graph.node_role.Goals as goal
 
 pub returns-clause-role : goal.returns-clause-role

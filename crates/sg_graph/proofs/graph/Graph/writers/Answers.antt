@@ -1,6 +1,6 @@
 use Rattle.std.proofs.Common.{◌<◌, length, subst}
 use Rattle.sg_protocol.specs.Graph.{Variable, IsGraph, AreNumbers}
-use Rattle.sg_graph.proofs.Kept.{variable_has}
+use Rattle.sg_graph.proofs.ModelLaws.{variable_has}
 use Rattle.sg_graph.proofs.graph.Graph.writers.Goals as goal
 
 pub returns-clause-there : goal.returns-clause-there

@@ -14,7 +14,7 @@ use Rattle.sg_node.specs.Invariant.{IsSlot}
 use Rattle.sg_node.specs.declared.fault.ActFault.TheVariants as acting
 use Rattle.sg_node.specs.declared.sessions.Live.TheVariants.{AtTurn, Waiting}
 use Rattle.sg_node.proofs.Indices.{live_at, some_none}
-use Rattle.sg_node.proofs.Found.{set_twice, set_same, at_set, length_set}
+use Rattle.sg_node.proofs.InSlots.{set_twice, set_same, at_set, length_set}
 use Rattle.sg_node.proofs.Acts.{with_none, quiet, first_at, not_there, not_its_turn, not_sent_by, its_session, lacks, would_send, act_answer, act_notes, act_slots, stays_by, goes_by}
 use Rattle.sg_node.proofs.node.Node.act.Goals as goal
 

@@ -2,7 +2,7 @@ use Rattle.std.proofs.Common.{None, Some, sym, ◌∙◌, ap, subst}
 use Rattle.sg_protocol.specs.Frame.{Frame}
 use Rattle.sg_protocol.specs.NodeStates.{NodeState, RepresentsPast}
 use Rattle.sg_protocol.specs.Past.{node_of}
-use Rattle.sg_node.proofs.Told.{graph_continued}
+use Rattle.sg_node.proofs.GraphsOfSessions.{graph_continued}
 use Rattle.sg_node.proofs.node.Node.frame_graph.Goals as goal
 
 pub returns-in-Some-find_for : goal.returns-in-Some-find_for

@@ -1,7 +1,7 @@
 use Rattle.std.proofs.Common.{None, Some, sym, ◌∙◌, subst}
 use Rattle.sg_protocol.specs.NodeStates.{NodeState, RepresentsPast}
 use Rattle.sg_protocol.specs.Past.{node_of}
-use Rattle.sg_node.proofs.Told.{graph_with_sid}
+use Rattle.sg_node.proofs.GraphsOfSessions.{graph_with_sid}
 use Rattle.sg_node.proofs.node.Node.graph_of.Goals as goal
 
 pub returns-in-Some : goal.returns-in-Some

@@ -17,7 +17,7 @@ use Rattle.sg_node.specs.Invariant.{IsSlot, HoldsNode, node_state}
 use Rattle.sg_node.specs.Slots.{Slot, state_in, is_of, is_for, first_index}
 use Rattle.sg_node.proofs.Acts.{first_at, session_at, represents_if as represents_with, tests as tests_with}
 use Rattle.sg_node.proofs.Continuing.{first_for, represents_if as represents_for, tests as tests_for_frame}
-use Rattle.sg_node.proofs.Found.{Its, none_here, session_here}
+use Rattle.sg_node.proofs.InSlots.{Its, none_here, session_here}
 use Rattle.sg_node.proofs.Indices.{live_at, some_none}
 
 -- the graph of a program beside a session

@@ -331,14 +331,14 @@ module _ {sha : Hash} {s : Schedule} {programs : List Program} {sid : List ℕ} 
       typed = subst (AllByRecursion (TypedDeed g honest)) (sym (map-append deed_of p.moves out.moves)) (all-append (TypedDeed g honest) (map deed_of p.moves) (map deed_of out.moves) p.typed out.typed);
       used = subst (AllByRecursion (λ (o : Opening). Hashed (commitment_text_of sid o) × OpeningFits o)) (sym (openings-append p.moves out.moves)) (all-append (λ (o : Opening). Hashed (commitment_text_of sid o) × OpeningFits o) (all_openings p.moves) (all_openings out.moves) p.used (all_weaker _ _ (λ o h. (hs_of c after (commitment_text_of sid o) h.0, h.1)) (all_openings out.moves) out.used));
       pasts = λ me is. (let o = p.pasts me is in (next_past sha who c o.0, past_called sha w k who c past me ∙ ap (option_map (next_past sha who c)) o.1));
-      transcript = λ me p' e r is l. subst (λ (z : State). IsTranscript z r p'.calls) (sym (moved-append commit (V.at_first (shape g)) p.moves out.moves)) (told_ me p' (past_of w me) refl (sym (past_called sha w k who c past me) ∙ e) r is l);
+      transcript = λ me p' e r is l. subst (λ (z : State). IsTranscript z r p'.calls) (sym (moved-append commit (V.at_first (shape g)) p.moves out.moves)) (named_ me p' (past_of w me) refl (sym (past_called sha w k who c past me) ∙ e) r is l);
       sent = subst (λ l. ((moved_all commit (V.at_first (shape g)) (p.moves ++ out.moves)).machine.sent ≡ map step l) × Roles (shape g) l) (sym (honest_items-append w.log (entry_ c ∷ [])))
           (ap (λ (z : State). z.machine.sent) (moved-append commit (V.at_first (shape g)) p.moves out.moves) ∙ out.sent.0 ∙ ap (λ l. l ++ map step (honest_items sid (entry_ c ∷ []))) p.sent.0 ∙ sym (map-append step (honest_items sid w.log) (honest_items sid (entry_ c ∷ []))), roles-append (shape g) (honest_items sid w.log) (honest_items sid (entry_ c ∷ [])) p.sent.1 out.sent.1);
     }
       where
-        told_ : (me : Name) (p' : Past) (o : Option Past) → past_of w me ≡ o → option_map (next_past sha who c) o ≡ Some p' → (r : ℕ) → principal cast r ≡ me → r < length cast.names → IsTranscript (moved_all commit st out.moves) r p'.calls
-        told_ me p' None q e r is l = absurd (cc)
-        told_ me p' (Some y) q e r is l =
+        named_ : (me : Name) (p' : Past) (o : Option Past) → past_of w me ≡ o → option_map (next_past sha who c) o ≡ Some p' → (r : ℕ) → principal cast r ≡ me → r < length cast.names → IsTranscript (moved_all commit st out.moves) r p'.calls
+        named_ me p' None q e r is l = absurd (cc)
+        named_ me p' (Some y) q e r is l =
             let nx : next_past sha who c y ≡ p' = cc in
             let is_me : y.keys.me ≡ me = same_bytes y.keys.me me (find_passes (λ (z : Past). bytes_eq z.keys.me me) w.pasts y q) in
             elim (cases_Bool (bytes_eq y.keys.me who)) [

@@ -22,7 +22,7 @@ use Rattle.sg_protocol.specs.Verdict.{receipt}
 use Rattle.sg_report.specs.Reported.{reported_answer}
 use Rattle.sg_world.specs.Replay.{next_number, run_of, stepped}
 use Rattle.sg_drive.proofs.DrawnValues.{chosen_there}
-use Rattle.sg_drive.proofs.Kept.{WereReported, accepted_is, along_keeps, get_some}
+use Rattle.sg_drive.proofs.BudgetLaws.{WereReported, accepted_is, along_keeps, get_some}
 use Rattle.sg_drive.proofs.Left.{TakenOut, add, at, budget_of, few_roles, fewer, graph_is, more_budget, none_left, none_pending, one_begins, spend_draws, spend_step, sum_end, taken_out, reported_anew}
 use Rattle.sg_drive.proofs.OwnRuns.{abandon_is, deliver_is, next_accepted, not_again, own_frame, start_is}
 use Rattle.sg_drive.proofs.OwnSetup.{own_cast}

@@ -5,7 +5,7 @@ use Rattle.std.specs.Option.{option_map_or}
 use Rattle.std.proofs.lemmas.List.{map_more}
 use Rattle.std.proofs.lemmas.Bool.{or_parts}
 use Rattle.sg_base.proofs.SameName.{same, any_same, same-bytes_eq, same-Decides}
-use Rattle.sg_graph.proofs.Found.{passes_there, none_passes}
+use Rattle.sg_graph.proofs.FirstIndex.{passes_there, none_passes}
 use Rattle.sg_model.proofs.Differ.{absent_before}
 use Rattle.sg_model.specs.Lists.{all_differ, has_text}
 use Rattle.sg_model.specs.Names.{Name}

@@ -12,7 +12,7 @@ use Rattle.sg_graph.specs.declared.graph.Node.{Node as KeptNode}
 use Rattle.sg_graph.specs.declared.graph.NamedEdge.{NamedEdge}
 use Rattle.sg_graph.specs.declared.graph.Graph.TheInside.{Inside}
 use Rattle.sg_model.specs.Lists.{below}
-use Rattle.sg_graph.proofs.Found.{position-map}
+use Rattle.sg_graph.proofs.FirstIndex.{position-map}
 use Rattle.sg_model.proofs.Numbers.{below-suc, below-at}
 
 -- an index among the roles

@@ -5,7 +5,7 @@ use Rattle.std.specs.List.{list_any}
 use Rattle.std.specs.Map.{lookup}
 use Rattle.std.proofs.lemmas.Bool.{or_parts}
 use Rattle.std.proofs.lemmas.Slice.Eq.{bytes_eq-Decides}
-use Rattle.sg_graph.proofs.Found.{passes_there, none_passes}
+use Rattle.sg_graph.proofs.FirstIndex.{passes_there, none_passes}
 use Rattle.sg_text.proofs.SameSid.{same, same-bytes_eq}
 use Rattle.sg_model.specs.Lists.{has_text}
 use Rattle.sg_certify.specs.Traces.{Trace}
