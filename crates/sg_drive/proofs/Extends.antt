@@ -11,7 +11,7 @@ use Rattle.sg_world.specs.Replay.{Replay, size_of, up_to}
 use Rattle.sg_drive.specs.Draws.{draw}
 use Rattle.sg_drive.specs.Faults.{IsFullAt, IsStopped}
 use Rattle.sg_drive.specs.Generated.{Fate, Delivered, Delayed, Repeated, Lost, accepted_time, begin, begin_all, chosen, deliver, fate_of, goes_on, goes_on_by, gone_on, meet, number_sent, play, play_along, play_by, player_at, put_back, take_out, turn, turns, values_drawn, with_frame, with_sent}
-use Rattle.sg_drive.specs.Going.{Going, Pending, came_last, drawing, taking}
+use Rattle.sg_drive.specs.Going.{Going, Pending, reported_last, drawing, taking}
 use Rattle.sg_drive.specs.Setup.{player}
 use Rattle.sg_drive.specs.declared.fault.GenerateFault.{GenerateFault}
 use Rattle.sg_drive.specs.declared.fault.GenerateFault.TheVariants.{RecordFull, OutOfMemory}
@@ -75,7 +75,7 @@ with_frame_goes session label None x = refl
 with_frame_goes session label (Some n) x = refl
 
 pub goes_with_sent : (session label : ℕ) (x : Going) → Goes x (with_sent session label x)
-goes_with_sent session label x = extends_same x.replay (with_sent session label x).replay (with_frame_goes session label (number_sent (came_last x)) x)
+goes_with_sent session label x = extends_same x.replay (with_sent session label x).replay (with_frame_goes session label (number_sent (reported_last x)) x)
 
 module _ (seed : ℕ) (g : Graph) where
   pub goes_play_along : (session node label : ℕ) (x : Going) → Goes x (play_along seed g session node label x)
@@ -104,7 +104,7 @@ module _ (seed : ℕ) (g : Graph) where
   goes_goes_on p (Some time) x = goes_goes_on_by p.session (target (shape g) p.label) time (leaving_from g (target (shape g) p.label)) x
 
   pub goes_gone_on : (p : Pending) (x : Going) → Goes x (gone_on seed g p x)
-  goes_gone_on p x = goes_goes_on p (accepted_time (came_last x)) x
+  goes_gone_on p x = goes_goes_on p (accepted_time (reported_last x)) x
 
   pub goes_deliver : (p : Pending) (x : Going) → Goes x (deliver seed g p x)
   goes_deliver p x =

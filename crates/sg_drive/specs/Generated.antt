@@ -11,7 +11,7 @@ use Rattle.sg_protocol.specs.Keyring.{Program}
 use Rattle.sg_protocol.specs.Schedule.{StartStep, ActStep, AbandonStep, DeliverStep, Whole}
 use Rattle.sg_report.specs.Reported.{Reported, Happened, Sends}
 use Rattle.sg_drive.specs.Draws.{draw}
-use Rattle.sg_drive.specs.Going.{Pending, Going, beginning, taking, drawing, adding, without, came_last}
+use Rattle.sg_drive.specs.Going.{Pending, Going, beginning, taking, drawing, adding, without, reported_last}
 use Rattle.sg_drive.specs.Setup.{player}
 
 -- ---- to play at a node
@@ -46,7 +46,7 @@ with_frame session label (Some n) x = adding (record { frame = n; session = sess
 
 -- and so the one that the last step sent
 abbrev pub with_sent : (session label : ℕ) → Going → Going
-with_sent session label x = with_frame session label (number_sent (came_last x)) x
+with_sent session label x = with_frame session label (number_sent (reported_last x)) x
 
 -- along a label: a draw for each written variable, in rising number; an act; and its frame goes to the list's end
 abbrev pub play_along : (seed : ℕ) → Graph → (session node label : ℕ) → Going → Going
@@ -81,7 +81,7 @@ goes_on seed g p (Some time) x = goes_on_by seed g p.session (target (shape g) p
 
 -- and so by the outcome of the last step
 abbrev pub gone_on : (seed : ℕ) → Graph → Pending → Going → Going
-gone_on seed g p x = goes_on seed g p (accepted_time (came_last x)) x
+gone_on seed g p x = goes_on seed g p (accepted_time (reported_last x)) x
 
 -- a frame is delivered to the principal to whom its label leads, and the session goes on if it was accepted
 abbrev pub deliver : (seed : ℕ) → Graph → Pending → Going → Going

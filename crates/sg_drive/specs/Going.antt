@@ -43,5 +43,5 @@ abbrev pub without : (index : ℕ) → Going → Going
 without index x = record x { pending = remove x.pending index }
 
 -- the outcome of the last step, by the run of all
-abbrev pub came_last : Going → Option Reported
-came_last x = last (reported_log (run_of x.replay).log)
+abbrev pub reported_last : Going → Option Reported
+reported_last x = last (reported_log (run_of x.replay).log)

@@ -54,8 +54,8 @@ asked_node k pl may_leave c reported graph h came = record {
 
 pub is_asked : (k : Keeper) (pl : Player) (may_leave : List ℕ → Type 0) (p : Play) (c : Call) (reported : Option Reported) (graph : Option Graph) → HoldsJoins k may_leave → RepresentsKept k p → pl ≡ record k.player { node = pl.node }
     → ((number : ℕ) → IsAskedOfNode number k.player.node pl.node p.past c reported graph None) → None ≡ sid_left c → IsAsked (record k { player = pl }) p c reported graph
-is_asked k pl may_leave p c reported graph h s is comes stays = record {
-  asked = subst (λ (x : Player). HasAsked x p c reported graph []) (sym is) (asked_quiet k.player pl.node p c reported graph s.player comes);
+is_asked k pl may_leave p c reported graph h s is its_asked stays = record {
+  asked = subst (λ (x : Player). HasAsked x p c reported graph []) (sym is) (asked_quiet k.player pl.node p c reported graph s.player its_asked);
   stays = stays;
   answered_before = s.player.answered;
   in_step = s.in_step;

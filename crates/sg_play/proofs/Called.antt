@@ -32,15 +32,15 @@ none_sealed (Protocol.Sends e to f) h = absurd (cc)
 none_sealed other h = refl
 
 -- the outcome of a call that sends nothing
-pub comes_quiet : (number : ℕ) (old new : NodeState) (past : Past) (call : Call) (reported : Option Reported) (graph : Option Graph) → IsCallInRange call
+pub results_quiet : (number : ℕ) (old new : NodeState) (past : Past) (call : Call) (reported : Option Reported) (graph : Option Graph) → IsCallInRange call
     → SendsNothing number (answer real (node_of past) call) reported → graph ≡ graph_of_call real (node_of past) call → GoesOn old new call past → IsAsked number old new past call reported graph None
-comes_quiet number old new past call reported graph range h graphed goes = record { range = range; is_reported = h.0; is_graph = graphed; is_sealed = none_sealed (answer real (node_of past) call) h.1; goes_on = goes }
+results_quiet number old new past call reported graph range h graphed goes = record { range = range; is_reported = h.0; is_graph = graphed; is_sealed = none_sealed (answer real (node_of past) call) h.1; goes_on = goes }
 
 -- the outcome of a step that was sent
-pub comes_sent : (number : ℕ) (old new : NodeState) (past : Past) (sid : List ℕ) (label : ℕ) (values : Map Value) (random : List (List ℕ)) (e : Protocol.Event) (to : Name) (sealed : Name × List ℕ) (graph : Option Graph) (f : Frame)
+pub results_sent : (number : ℕ) (old new : NodeState) (past : Past) (sid : List ℕ) (label : ℕ) (values : Map Value) (random : List (List ℕ)) (e : Protocol.Event) (to : Name) (sealed : Name × List ℕ) (graph : Option Graph) (f : Frame)
     → to ≡ sealed.0 → answer real (node_of past) (Act sid label values random) ≡ Protocol.Sends e sealed.0 f → sealed.1 ≡ spelling f → AreValues values random → graph ≡ graph_of_call real (node_of past) (Act sid label values random)
     → GoesOn old new (Act sid label values random) past → IsAsked number old new past (Act sid label values random) (Some (Sends e to number)) graph (Some sealed)
-comes_sent number old new past sid label values random e to sealed graph f is_to given spelled range graphed goes = record {
+results_sent number old new past sid label values random e to sealed graph f is_to given spelled range graphed goes = record {
   range = range;
   is_reported = (λ i. Some (Sends e (is_to i) number)) ∙ ap (λ (a : Answer). Some (reported_answer number a)) (sym given);
   is_graph = graphed;
@@ -65,10 +65,10 @@ is_addressed keys Protocol.NotAbandoned = refl
 is_addressed keys (Protocol.NotDelivered x) = refl
 
 -- what comes of an act, with its frame
-pub comes_made : (keys : Keyring) (frames counted : ℕ) (old new : NodeState) (past : Past) (call : Call) (number : ℕ) (reported : Option Reported) (graph : Option Graph) (sealed : Option (Name × List ℕ)) (frame : Option (Addr × (Name × List ℕ)))
+pub results_made : (keys : Keyring) (frames counted : ℕ) (old new : NodeState) (past : Past) (call : Call) (number : ℕ) (reported : Option Reported) (graph : Option Graph) (sealed : Option (Name × List ℕ)) (frame : Option (Addr × (Name × List ℕ)))
     → number ≡ frames + 1 → IsAsked number old new past call reported graph sealed → frame ≡ addressed keys sealed → counted ≡ frames + length (frames_made frame) → IsAskedWithFrames keys frames counted old new past call reported graph frame
-comes_made keys frames counted old new past call number reported graph sealed frame is_number h is_frame counted_so = record {
-  comes = record {
+results_made keys frames counted old new past call number reported graph sealed frame is_number h is_frame counted_so = record {
+  is_asked = record {
     range = h.range;
     is_reported = h.is_reported ∙ ap (λ k. Some (reported_answer k (answer real (node_of past) call))) is_number;
     is_graph = h.is_graph;

@@ -58,7 +58,7 @@ pub keeps_by_act : (keys : Keyring) (frames counted : ℕ) (old new : NodeState)
     → ((past : Past) → RepresentsPast old past → IsAskedWithFrames keys frames counted old new past (Act sid label values confounders) reported graph frame) → KeepsJoins old new
 keeps_by_act keys frames counted old new sid label values confounders reported graph frame h past s its =
     let act = Act sid label values confounders in
-    keeps_by (frames + 1) old new act past reported graph (sealed_in (answer real (node_of past) act)) its (h past s).comes (acts_join_none old sid label values confounders)
+    keeps_by (frames + 1) old new act past reported graph (sealed_in (answer real (node_of past) act)) its (h past s).is_asked (acts_join_none old sid label values confounders)
 
 -- a leaving
 pub keeps_by_leaving : (number : ℕ) (old new : NodeState) (sid : List ℕ) (reported : Option Reported) (graph : Option Graph) (sealed : Option (Name × List ℕ))

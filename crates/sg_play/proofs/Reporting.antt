@@ -99,7 +99,7 @@ asked_quiet pl n p c reported graph s h =
 pub asked_made : (pl : Player) (n : NodeState) (counted : ℕ) (p : Play) (c : Call) (reported : Option Reported) (graph : Option Graph) (frame : Option (Addr × (Name × List ℕ))) → RepresentsPlay pl p → IsAskedWithFrames pl.keys.now pl.frames counted pl.node n p.past c reported graph frame
     → HasAsked (record pl { node = n; frames = counted }) p c reported graph (frames_made frame)
 asked_made pl n counted p c reported graph frame s h =
-    let came = h.comes in
+    let came = h.is_asked in
     record {
       node = came.goes_on.represents;
       answered_past = pasts_go_on p.past c s.answered came.range;

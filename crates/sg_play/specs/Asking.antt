@@ -36,6 +36,6 @@ addressed keys sealed = option_and_then (λ s. option_map (λ at. (at, s)) (addr
 
 -- so with the frame that is made, at its address: it has the next number after these, and is counted
 pub record IsAskedWithFrames (keys : Keyring) (frames counted : ℕ) (old new : NodeState) (past : Past) (call : Call) (reported : Option Reported) (graph : Option Graph) (frame : Option (Addr × (Name × List ℕ))) : Type 0 where
-  pub comes : IsAsked (frames + 1) old new past call reported graph (sealed_in (answer real (node_of past) call))
+  pub is_asked : IsAsked (frames + 1) old new past call reported graph (sealed_in (answer real (node_of past) call))
   pub is_frame : frame ≡ addressed keys (sealed_in (answer real (node_of past) call))
   pub is_counted : counted ≡ frames + length (frames_made frame)

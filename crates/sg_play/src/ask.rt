@@ -29,7 +29,7 @@ pub(crate) fn ask_start<'p>(
     node: &mut Node<'p>,
     cast: Cast,
 ) -> Result<(Outcome, Option<&'p Graph>), PlayFault>
-    ensures comes { (number : ℕ) (past : Past) → RepresentsPast node.old past → IfOk result (λ r. IsAsked number node.old node.new past (Start cast) (outcome_of r.0) (option_copied r.1) None) }
+    ensures is_asked { (number : ℕ) (past : Past) → RepresentsPast node.old past → IfOk result (λ r. IsAsked number node.old node.new past (Start cast) (outcome_of r.0) (option_copied r.1) None) }
     ensures memory { IfErr result (λ e. e ≡ PlayFault.OutOfMemory) }
 {
     facts_of_cast(&cast);
@@ -60,7 +60,7 @@ pub(crate) fn ask_deliver<'p>(
     node: &mut Node<'p>,
     bytes: &[u8],
 ) -> Result<(Outcome, Option<&'p Graph>), PlayFault>
-    ensures comes { (number : ℕ) (past : Past) → RepresentsPast node.old past → IfOk result (λ r. IsAsked number node.old node.new past (Deliver bytes.now) (outcome_of r.0) (option_copied r.1) None) }
+    ensures is_asked { (number : ℕ) (past : Past) → RepresentsPast node.old past → IfOk result (λ r. IsAsked number node.old node.new past (Deliver bytes.now) (outcome_of r.0) (option_copied r.1) None) }
     ensures memory { IfErr result (λ e. e ≡ PlayFault.OutOfMemory) }
 {
     facts_of_bytes(bytes);
@@ -124,7 +124,7 @@ pub(crate) fn ask_act<'p>(
     confounders: &[[u8; 16]],
 ) -> Result<(Outcome, Option<&'p Graph>, Option<(Addr, Sealed)>), PlayFault>
     requires { length confounders.now ≡ length values.now }
-    ensures comes { (past : Past) → RepresentsPast node.old past
+    ensures is_asked { (past : Past) → RepresentsPast node.old past
         → IfOk result (λ r. IsAskedWithFrames keys.now frames.old frames.new node.old node.new past (Act sid label (values_of values.now) confounders.now) (outcome_of r.0) (option_copied r.1) r.2) }
     ensures memory { IfErr result (λ e. e ≡ PlayFault.OutOfMemory) }
 {
@@ -189,7 +189,7 @@ fn ask_numbered<'p>(
     number: u32,
 ) -> Result<(Outcome, Option<&'p Graph>, Option<Sealed>), PlayFault>
     requires { length confounders.now ≡ length values.now }
-    ensures comes { (past : Past) → RepresentsPast node.old past
+    ensures is_asked { (past : Past) → RepresentsPast node.old past
         → IfOk result (λ r. IsAsked number node.old node.new past (Act sid label (values_of values.now) confounders.now) (outcome_of r.0) (option_copied r.1) r.2) }
     ensures memory { IfErr result (λ e. e ≡ PlayFault.OutOfMemory) }
 {

@@ -86,7 +86,7 @@ impl<'p> Player<'p> {
         nonce: [u8; 16],
     ) -> Result<(Outcome, Option<&'p Graph>), PlayFault>
         ensures rest { OnOk result (self.new ≡ record self.old { node = self.new.node }) }
-        ensures comes { (number : ℕ) (past : Past) → RepresentsPast self.old.node past
+        ensures is_asked { (number : ℕ) (past : Past) → RepresentsPast self.old.node past
             → IfOk result (λ r. IsAsked number self.old.node self.new.node past (Start (cast_of_start self.old.programs.now start_of.now nonce)) (outcome_of r.0) (option_copied r.1) None) }
         ensures memory { IfErr result (λ e. e ≡ PlayFault.OutOfMemory) }
     {
@@ -97,7 +97,7 @@ impl<'p> Player<'p> {
     /// Asks the node to take a delivery: the outcome, and the graph by which its numbers have names. It is to be given to the outside.
     pub fn ask_deliver(&mut self, bytes: &[u8]) -> Result<(Outcome, Option<&'p Graph>), PlayFault>
         ensures rest { OnOk result (self.new ≡ record self.old { node = self.new.node }) }
-        ensures comes { (number : ℕ) (past : Past) → RepresentsPast self.old.node past
+        ensures is_asked { (number : ℕ) (past : Past) → RepresentsPast self.old.node past
             → IfOk result (λ r. IsAsked number self.old.node self.new.node past (Deliver bytes.now) (outcome_of r.0) (option_copied r.1) None) }
         ensures memory { IfErr result (λ e. e ≡ PlayFault.OutOfMemory) }
     {

@@ -45,10 +45,10 @@ asked_node sv pl may_leave c reported graph h came = record {
 
 pub has_called : (sv : Server) (pl : Player) (s : Serving) (c : Call) (reported : Option Reported) (graph : Option Graph) → RepresentsServing sv s → pl ≡ record sv.player { node = pl.node } → ((number : ℕ) → IsAsked number sv.player.node pl.node s.play.past c reported graph None)
     → HasCalled (record sv { player = pl }) s c reported graph None
-has_called sv pl s c reported graph h is comes = record {
-  asked = subst (λ (x : Player). HasAsked x s.play c reported graph []) (sym is) (asked_quiet sv.player pl.node s.play c reported graph h.player comes);
+has_called sv pl s c reported graph h is is_asked = record {
+  asked = subst (λ (x : Player). HasAsked x s.play c reported graph []) (sym is) (asked_quiet sv.player pl.node s.play c reported graph h.player is_asked);
   answered_before = h.player.answered;
-  is_frame = ap (addressed s.play.past.keys) (comes 0).is_sealed;
+  is_frame = ap (addressed s.play.past.keys) (is_asked 0).is_sealed;
   programs = h.programs;
   graphs = h.graphs;
   last = h.last;

@@ -39,9 +39,9 @@ noted_first : (blank : StepResult) (notes more : Notes) → blank ≡ no_frame �
 noted_first blank notes more none h = h ∙ ap (λ (z : StepResult). with_notes z.notes more) none
 
 -- the outcome of a call that sends nothing
-pub comes_quiet : (number : ℕ) (old new : NodeState) (past : Past) (call : Call) (reported : Option Reported) (graph : Option Graph) (notes : Notes) (blank c : StepResult) → blank ≡ no_frame → c ≡ record blank { reported = reported; graph = graph; notes = notes } → IsCallInRange call
+pub results_quiet : (number : ℕ) (old new : NodeState) (past : Past) (call : Call) (reported : Option Reported) (graph : Option Graph) (notes : Notes) (blank c : StepResult) → blank ≡ no_frame → c ≡ record blank { reported = reported; graph = graph; notes = notes } → IsCallInRange call
     → SendsNothing number (answer real (node_of past) call) reported → graph ≡ graph_of_call real (node_of past) call → notes ≡ with_notes blank.notes (noted_of real (node_of past) call) → GoesOn old new call past → IsResultOfCall number old new past call c
-comes_quiet number old new past call reported graph notes blank c none e range h graphed noted goes =
+results_quiet number old new past call reported graph notes blank c none e range h graphed noted goes =
     subst (IsResultOfCall number old new past call) (sym e) (record {
       range = range;
       reported = h.0;
@@ -58,9 +58,9 @@ if_is_ok Q (Err e) f = tt
 
 -- ---- the call of a step
 
-pub comes_start : (s : Schedule) (w : World) (k number : ℕ) (who : Name) (n : ℕ) (ds : List NamedSession) (cast : Cast) (old new : NodeState) (past : Past) (c : StepResult)
+pub results_start : (s : Schedule) (w : World) (k number : ℕ) (who : Name) (n : ℕ) (ds : List NamedSession) (cast : Cast) (old new : NodeState) (past : Past) (c : StepResult)
     → ds ≡ s.sessions → option_map (λ (d : NamedSession). d.cast) (slice_get ds n) ≡ Some cast → IsResultOfCall number old new past (Start cast) c → IsResult number old new past (call_of real s w k (StartStep who n)) c
-comes_start s w k number who n ds cast old new past c same at h =
+results_start s w k number who n ds cast old new past c same at h =
     subst (λ (o : Option Call). IsResult number old new past o c) (sym (ap (option_map Start) (ap (λ (ds : List NamedSession). option_map (λ (d : NamedSession). d.cast) (slice_get ds n)) (sym same) ∙ at))) h
 
 -- the identifier at an index
@@ -71,21 +71,21 @@ sid_is s n ds sid same at = by (slice_get ds n) at ∙ ap (λ (ds : List NamedSe
     by None e = absurd (cc)
     by (Some d) e = sym (cc)
 
-pub comes_act : (s : Schedule) (w : World) (k number : ℕ) (who : Name) (n label : ℕ) (values : Map Value) (ds : List NamedSession) (sid : List ℕ) (confounders : List (List ℕ)) (old new : NodeState) (past : Past) (c : StepResult)
+pub results_act : (s : Schedule) (w : World) (k number : ℕ) (who : Name) (n label : ℕ) (values : Map Value) (ds : List NamedSession) (sid : List ℕ) (confounders : List (List ℕ)) (old new : NodeState) (past : Past) (c : StepResult)
     → ds ≡ s.sessions → option_map (λ (d : NamedSession). session_id real d.cast) (slice_get ds n) ≡ Some sid → confounders ≡ map (λ (v : ℕ × Value). confounder k v.0) values
     → IsResultOfCall number old new past (Act sid label values confounders) c → IsResult number old new past (call_of real s w k (ActStep who n label values)) c
-comes_act s w k number who n label values ds sid confounders old new past c same at are h =
+results_act s w k number who n label values ds sid confounders old new past c same at are h =
     subst (λ (z : List ℕ). IsResultOfCall number old new past (Act z label values (map (λ (v : ℕ × Value). confounder k v.0) values)) c) (sid_is s n ds sid same at)
     (subst (λ (z : List (List ℕ)). IsResultOfCall number old new past (Act sid label values z) c) are h)
 
 -- ---- answers
 
 -- the outcome of a step that was sent
-pub comes_sent : (number : ℕ) (old new : NodeState) (past : Past) (sid : List ℕ) (label : ℕ) (values : Map Value) (confounders : List (List ℕ)) (e : Protocol.Event) (to bytes : List ℕ) (graph : Option Graph) (notes : Notes) (blank c : StepResult)
+pub results_sent : (number : ℕ) (old new : NodeState) (past : Past) (sid : List ℕ) (label : ℕ) (values : Map Value) (confounders : List (List ℕ)) (e : Protocol.Event) (to bytes : List ℕ) (graph : Option Graph) (notes : Notes) (blank c : StepResult)
     → blank ≡ no_frame → c ≡ record { reported = Some (Sends e to number); graph = graph; frame = Some bytes; notes = notes } → (f : Frame) → answer real (node_of past) (Act sid label values confounders) ≡ Protocol.Sends e to f → bytes ≡ spelling f
     → AreValues values confounders → graph ≡ graph_of_call real (node_of past) (Act sid label values confounders) → notes ≡ with_notes blank.notes (noted_of real (node_of past) (Act sid label values confounders)) → GoesOn old new (Act sid label values confounders) past
     → IsResultOfCall number old new past (Act sid label values confounders) c
-comes_sent number old new past sid label values confounders e to bytes graph notes blank c none is f given spelled range graphed noted goes =
+results_sent number old new past sid label values confounders e to bytes graph notes blank c none is f given spelled range graphed noted goes =
     subst (IsResultOfCall number old new past (Act sid label values confounders)) (sym is) (record {
       range = range;
       reported = ap (λ (a : Answer). Some (reported_answer number a)) (sym given);

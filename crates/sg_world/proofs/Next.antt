@@ -73,7 +73,7 @@ module _ (d : Setting) (nodes now : List Named) (r : Recorded) (x : Step) (c : S
 
   held : HoldsRun d.programs (with_step (schedule_of d nodes r) x) (world_after real (schedule_of d nodes r) (run real d.programs (schedule_of d nodes r)) k x) (set_value_at nodes index performed.new) (with_result r x c)
   held = step_held d.programs S W nodes r k x c performed.who index performed.old performed.new who (is_before d.programs S k x at_end) h.run (and_parts (all_differ (names nodes)) (list_all is_name (names nodes)) h.schedule.honest_names).0 performed.is_old
-      (λ past represents. performed.comes S W past refl (sym h.run.frames) represents)
+      (λ past represents. performed.is_result S W past refl (sym h.run.frames) represents)
 
   run_is : run real d.programs (with_step (schedule_of d nodes r) x) ≡ world_after real (schedule_of d nodes r) (run real d.programs (schedule_of d nodes r)) k x
   run_is = runs_go_by_step real d.programs S x ∙ ap (λ n. world_after real S W n x) (sym at_end)

@@ -22,21 +22,21 @@ Goes d nodes now r r2 x = Holds d now r2 × (schedule_of d now r2 ≡ with_step 
 module _ (d : Setting) (nodes now : List Named) (r : Recorded) (x : Step) (c : StepResult) (k : ℕ)
     (h : Holds d nodes r) (room : length r.entries < most_steps) (step : IsStep real (schedule_of d nodes r) x) (number : k ≡ length r.entries + 1) where
   -- what comes of a craft, in the run so far
-  crafted_here : (comes : IsResultOfCrafting d r.frames x c) → IsResultOfCraft (length r.frames + 1) (schedule_of d nodes r) (run real d.programs (schedule_of d nodes r)) comes.craft c
-  crafted_here comes = comes.comes (schedule_of d nodes r) (run real d.programs (schedule_of d nodes r)) (refl, refl, refl) (sym h.run.frames)
+  crafted_here : (is_result : IsResultOfCrafting d r.frames x c) → IsResultOfCraft (length r.frames + 1) (schedule_of d nodes r) (run real d.programs (schedule_of d nodes r)) is_result.craft c
+  crafted_here is_result = is_result.is_result (schedule_of d nodes r) (run real d.programs (schedule_of d nodes r)) (refl, refl, refl) (sym h.run.frames)
 
   pub goes : (index : Option ℕ) → IsIndexOf nodes x index → IsResultAtIndex d r.frames k x index nodes now c → Goes d nodes now r (with_result r x c) x
-  goes None at comes =
-      let is = comes.1.is_craft in
-      subst (λ (z : List Named). Goes d nodes z r (with_result r x c) x) (sym comes.0)
+  goes None at is_result =
+      let is = is_result.1.is_craft in
+      subst (λ (z : List Named). Goes d nodes z r (with_result r x c) x) (sym is_result.0)
       (subst (λ (z : Step). Goes d nodes nodes r (with_result r z c) z) (sym is)
-      (next_craft d nodes r comes.1.craft c h room (subst (λ (z : Step). IsStep real (schedule_of d nodes r) z) is step) (crafted_here comes.1)))
-  goes (Some index) at comes = next d nodes now r x c index k h at room step number comes
+      (next_craft d nodes r is_result.1.craft c h room (subst (λ (z : Step). IsStep real (schedule_of d nodes r) z) is step) (crafted_here is_result.1)))
+  goes (Some index) at is_result = next d nodes now r x c index k h at room step number is_result
 
   pub goes_in : (index : Option ℕ) → IsIndexOf nodes x index → IsResultAtIndex d r.frames k x index nodes now c → r.size ≤ 264241152 → r.size + added_size c < 2 ^ 64
-  goes_in None at comes full =
-      craft_fits d nodes r comes.1.craft c h room (subst (λ (z : Step). IsStep real (schedule_of d nodes r) z) comes.1.is_craft step) (crafted_here comes.1) full
-  goes_in (Some index) at comes full = fits d nodes now r x c index k h at room step number comes full
+  goes_in None at is_result full =
+      craft_fits d nodes r is_result.1.craft c h room (subst (λ (z : Step). IsStep real (schedule_of d nodes r) z) is_result.1.is_craft step) (crafted_here is_result.1) full
+  goes_in (Some index) at is_result full = fits d nodes now r x c index k h at room step number is_result full
 
 pub step_taken : (d : Setting) (nodes now : List Named) (r r1 r2 : Recorded) (x x1 : Step) (c : StepResult) (index : Option ℕ) (k : ℕ) → Holds d nodes r → IsIndexOf nodes x index → length r.entries < most_steps → IsStep real (schedule_of d nodes r) x
     → r1 ≡ r → k ≡ length r1.entries + 1 → IsResultAtIndex d r1.frames k x index nodes now c → x1 ≡ x → r2 ≡ with_result r1 x1 c → Goes d nodes now r r2 x

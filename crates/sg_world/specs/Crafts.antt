@@ -47,7 +47,7 @@ pub record IsResultOfCraft (number : ℕ) (s : Schedule) (w : World) (x : Craft)
 pub record IsResultOfCrafting (d : Setting) (recorded : List (List ℕ)) (x : Step) (c : StepResult) : Type 0 where
   pub craft : Craft
   pub is_craft : x ≡ CraftStep craft
-  pub comes : (s : Schedule) (w : World) → Declares s d → frames w ≡ recorded → IsResultOfCraft (length recorded + 1) s w craft c
+  pub is_result : (s : Schedule) (w : World) → Declares s d → frames w ≡ recorded → IsResultOfCraft (length recorded + 1) s w craft c
 
 -- what comes of step k: at the node at its index; or, if it has none, of a craft, which leaves the nodes as they are
 abbrev pub IsResultAtIndex : Setting → List (List ℕ) → ℕ → Step → Option ℕ → List (Name × NodeState) → List (Name × NodeState) → StepResult → Type 0

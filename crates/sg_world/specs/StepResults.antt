@@ -65,4 +65,4 @@ pub record IsResultAt (sessions : List NamedSession) (recorded : List (List ℕ)
   pub new : NodeState
   pub is_old : slice_get nodes index ≡ Some (who, old)
   pub is_new : now ≡ set_value_at nodes index new
-  pub comes : IsResultOfStep sessions recorded k x old new c
+  pub is_result : IsResultOfStep sessions recorded k x old new c

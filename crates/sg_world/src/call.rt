@@ -45,7 +45,7 @@ pub(crate) fn call<'p>(
     requires named { IsNamed (length setting.now.sessions) (step_of step.now) }
     requires few { length recorded.now + 1 < 2 ^ 32 }
     requires blank { step_result.old ≡ no_frame }
-    ensures comes { OnOk result (IsResultOfStep setting.now.sessions recorded.now number (step_of step.now) node.old node.new step_result.new) }
+    ensures is_result { OnOk result (IsResultOfStep setting.now.sessions recorded.now number (step_of step.now) node.old node.new step_result.new) }
     ensures back { OnErr result (node.new ≡ node.old) }
 {
     match step {
@@ -92,7 +92,7 @@ fn start<'p>(
     step_result: &mut StepResult<'p>,
 ) -> Result<(), OutOfMemory>
     requires blank { step_result.old ≡ no_frame }
-    ensures comes { (number : ℕ) (past : Past) → RepresentsPast node.old past → OnOk result (IsResultOfCall number node.old node.new past (Start cast) step_result.new) }
+    ensures is_result { (number : ℕ) (past : Past) → RepresentsPast node.old past → OnOk result (IsResultOfCall number node.old node.new past (Start cast) step_result.new) }
     ensures back { OnErr result (node.new ≡ node.old) }
 {
     facts_of_cast(&cast);
@@ -131,7 +131,7 @@ fn act<'p>(
     requires count { length confounders.now ≡ length values.now }
     requires bytes { AllByRecursion (AreBytes 16) confounders.now }
     requires blank { step_result.old ≡ no_frame }
-    ensures comes { (past : Past) → RepresentsPast node.old past
+    ensures is_result { (past : Past) → RepresentsPast node.old past
         → OnOk result (IsResultOfCall frame node.old node.new past (Act sid label (values_of values.now) confounders.now) step_result.new) }
     ensures back { OnErr result (node.new ≡ node.old) }
 {
@@ -195,7 +195,7 @@ fn deliver_what<'p>(
     step_result: &mut StepResult<'p>,
 ) -> Result<(), OutOfMemory>
     requires blank { step_result.old ≡ no_frame }
-    ensures comes { (number : ℕ) (w : World) (past : Past) → frames w ≡ recorded.now → RepresentsPast node.old past
+    ensures is_result { (number : ℕ) (w : World) (past : Past) → frames w ≡ recorded.now → RepresentsPast node.old past
         → OnOk result (IsResult number node.old node.new past (option_map Deliver (bytes_of w (what_of what.now))) step_result.new) }
     ensures back { OnErr result (node.new ≡ node.old) }
 {
@@ -217,7 +217,7 @@ fn deliver_frame<'p>(
     step_result: &mut StepResult<'p>,
 ) -> Result<(), OutOfMemory>
     requires blank { step_result.old ≡ no_frame }
-    ensures comes { (number : ℕ) (past : Past) → RepresentsPast node.old past
+    ensures is_result { (number : ℕ) (past : Past) → RepresentsPast node.old past
         → OnOk result (IsResultOfCall number node.old node.new past (Deliver (changed_to change frame.now)) step_result.new) }
     ensures back { OnErr result (node.new ≡ node.old) }
 {
@@ -239,7 +239,7 @@ fn deliver<'p>(
     step_result: &mut StepResult<'p>,
 ) -> Result<(), OutOfMemory>
     requires blank { step_result.old ≡ no_frame }
-    ensures comes { (number : ℕ) (past : Past) → RepresentsPast node.old past → OnOk result (IsResultOfCall number node.old node.new past (Deliver bytes.now) step_result.new) }
+    ensures is_result { (number : ℕ) (past : Past) → RepresentsPast node.old past → OnOk result (IsResultOfCall number node.old node.new past (Deliver bytes.now) step_result.new) }
     ensures back { OnErr result (node.new ≡ node.old) }
 {
     match decode(alloc, bytes) {
@@ -259,7 +259,7 @@ fn deliver_read<'p>(
     requires spelled { SpellsFrame bytes.now frame.now }
     requires read { read bytes.now ≡ Ok frame.now }
     requires blank { step_result.old ≡ no_frame }
-    ensures comes { (number : ℕ) (past : Past) → RepresentsPast node.old past → OnOk result (IsResultOfCall number node.old node.new past (Deliver bytes.now) step_result.new) }
+    ensures is_result { (number : ℕ) (past : Past) → RepresentsPast node.old past → OnOk result (IsResultOfCall number node.old node.new past (Deliver bytes.now) step_result.new) }
     ensures back { OnErr result (node.new ≡ node.old) }
 {
     facts_of_bytes(bytes);
@@ -286,7 +286,7 @@ fn deliver_malformed<'p>(
 ) -> Result<(), OutOfMemory>
     requires malformed { IsErr (read bytes.now) }
     requires blank { step_result.old ≡ no_frame }
-    ensures comes { (number : ℕ) (past : Past) → RepresentsPast node.old past → OnOk result (IsResultOfCall number node.old node.new past (Deliver bytes.now) step_result.new) }
+    ensures is_result { (number : ℕ) (past : Past) → RepresentsPast node.old past → OnOk result (IsResultOfCall number node.old node.new past (Deliver bytes.now) step_result.new) }
     ensures back { OnErr result (node.new ≡ node.old) }
 {
     facts_of_bytes(bytes);

@@ -77,7 +77,7 @@ pub(crate) fn call_at<'p>(
     requires named { IsNamed (length setting.now.sessions) (step_of step.now) }
     requires few { length recorded.now + 1 < 2 ^ 32 }
     requires blank { step_result.old ≡ no_frame }
-    ensures comes { OnOk result (IsResultAt setting.now.sessions recorded.now number (step_of step.now) index nodes.old.entries nodes.new.entries step_result.new) }
+    ensures is_result { OnOk result (IsResultAt setting.now.sessions recorded.now number (step_of step.now) index nodes.old.entries nodes.new.entries step_result.new) }
     ensures back { OnErr result (nodes.new.entries ≡ nodes.old.entries) }
 {
     call(

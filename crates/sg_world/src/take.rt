@@ -111,7 +111,7 @@ fn perform<'p>(
     requires can { IsCraftable setting.now (step_of step.now) }
     requires few { length recorded.now + 1 < 2 ^ 32 }
     requires blank { step_result.old ≡ no_frame }
-    ensures comes { OnOk result (IsResultAtIndex setting.now recorded.now number (step_of step.now) index nodes.old.entries nodes.new.entries step_result.new) }
+    ensures is_result { OnOk result (IsResultAtIndex setting.now recorded.now number (step_of step.now) index nodes.old.entries nodes.new.entries step_result.new) }
     ensures back { OnErr result (nodes.new.entries ≡ nodes.old.entries) }
 {
     match index {

@@ -11,22 +11,22 @@ use Rattle.sg_node.specs.declared.fault.ActFault.TheVariants as acting
 use Rattle.sg_walk.specs.Model.{event_of, values_of}
 use Rattle.sg_report.specs.Reported.{NotActed}
 use Rattle.sg_report.proofs.Answered.{err_same, not_acted}
-use Rattle.sg_play.proofs.Called.{comes_quiet, comes_sent}
+use Rattle.sg_play.proofs.Called.{results_quiet, results_sent}
 use Rattle.sg_play.proofs.ask.ask_numbered.Goals as goal
 
-pub returns-in-Ok-clause-comes : goal.returns-in-Ok-clause-comes
-returns-in-Ok-clause-comes c = λ past represents.
+pub returns-in-Ok-clause-is_asked : goal.returns-in-Ok-clause-is_asked
+returns-in-Ok-clause-is_asked c = λ past represents.
     let h = c.in-Ok.ensures.answer past represents in
-    comes_sent c.args.number c.args.node.now c.act.new.self past c.args.sid c.args.label (values_of c.args.values.now) c.args.confounders.now (event_of c.in-Ok.event) c.to-to.result c.in-Ok.sealed (option_copied c.graph_of-graph.result) h.0
+    results_sent c.args.number c.args.node.now c.act.new.self past c.args.sid c.args.label (values_of c.args.values.now) c.args.confounders.now (event_of c.in-Ok.event) c.to-to.result c.in-Ok.sealed (option_copied c.graph_of-graph.result) h.0
     c.to-to.ensures h.1 h.2 c.facts_of_values.ensures (c.graph_of-graph.ensures past represents) (c.in-Ok.ensures.state past represents (λ e. cc))
 
-pub returns-clause-comes : goal.returns-clause-comes
-returns-clause-comes c = λ past represents.
+pub returns-clause-is_asked : goal.returns-clause-is_asked
+returns-clause-is_asked c = λ past represents.
     let ne = λ (e : c.in-Err.fault ≡ acting.OutOfMemory). clash c.is_act_memory-lacks.result (c.is_act_memory-lacks.ensures.1 (inl e)) c.if-lacks.false in
     let unsent = λ (e : c.in-Err.fault ≡ acting.Send sending.OutOfMemory). clash c.is_act_memory-lacks.result (c.is_act_memory-lacks.ensures.1 (inr e)) c.if-lacks.false in
     let other = λ (e : c.act.result ≡ Err acting.OutOfMemory). ne (err_same c.act.result c.in-Err.fault acting.OutOfMemory c.in-Err.is e) in
     let call = Act c.args.sid c.args.label (values_of c.args.values.now) c.args.confounders.now in
-    comes_quiet c.args.number c.args.node.now c.act.new.self past call (option_map NotActed (act_fault c.in-Err.fault)) (option_copied c.graph_of-graph.result) c.facts_of_values.ensures
+    results_quiet c.args.number c.args.node.now c.act.new.self past call (option_map NotActed (act_fault c.in-Err.fault)) (option_copied c.graph_of-graph.result) c.facts_of_values.ensures
     (not_acted c.args.number (answer real (node_of past) call) c.in-Err.fault ne unsent (c.in-Err.ensures.answer past represents))
     (c.graph_of-graph.ensures past represents)
     (c.act.ensures.state past represents other)

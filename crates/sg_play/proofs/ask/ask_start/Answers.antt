@@ -11,20 +11,20 @@ use Rattle.sg_node.specs.declared.fault.StartFault.TheVariants as starting
 use Rattle.sg_walk.specs.Model.{event_of}
 use Rattle.sg_report.specs.Reported.{Happened, NotStarted}
 use Rattle.sg_report.proofs.Answered.{err_same, not_started, quiet}
-use Rattle.sg_play.proofs.Called.{comes_quiet}
+use Rattle.sg_play.proofs.Called.{results_quiet}
 use Rattle.sg_play.proofs.ask.ask_start.Goals as goal
 
-pub returns-in-Ok-clause-comes : goal.returns-in-Ok-clause-comes
-returns-in-Ok-clause-comes c = λ number past represents. comes_quiet number c.args.node.now c.start.new.self past (Start c.args.cast) (Some (Happened (event_of c.in-Ok.event))) (option_copied c.start_graph-graph.result) c.facts_of_cast.ensures
+pub returns-in-Ok-clause-is_asked : goal.returns-in-Ok-clause-is_asked
+returns-in-Ok-clause-is_asked c = λ number past represents. results_quiet number c.args.node.now c.start.new.self past (Start c.args.cast) (Some (Happened (event_of c.in-Ok.event))) (option_copied c.start_graph-graph.result) c.facts_of_cast.ensures
     (quiet number (answer real (node_of past) (Start c.args.cast)) (Protocol.Happened (event_of c.in-Ok.event)) (Happened (event_of c.in-Ok.event)) refl refl (c.in-Ok.ensures.answer past represents))
     (c.start_graph-graph.ensures past represents)
     (c.in-Ok.ensures.state past represents (λ e. cc))
 
-pub returns-clause-comes : goal.returns-clause-comes
-returns-clause-comes c = λ number past represents.
+pub returns-clause-is_asked : goal.returns-clause-is_asked
+returns-clause-is_asked c = λ number past represents.
     let ne = λ (e : c.in-Err.fault ≡ starting.OutOfMemory). clash c.is_start_memory-lacks.result (c.is_start_memory-lacks.ensures.1 e) c.if-lacks.false in
     let other = λ (e : c.start.result ≡ Err starting.OutOfMemory). ne (err_same c.start.result c.in-Err.fault starting.OutOfMemory c.in-Err.is e) in
-    comes_quiet number c.args.node.now c.start.new.self past (Start c.args.cast) (option_map NotStarted (start_fault c.in-Err.fault)) (option_copied c.start_graph-graph.result) c.facts_of_cast.ensures
+    results_quiet number c.args.node.now c.start.new.self past (Start c.args.cast) (option_map NotStarted (start_fault c.in-Err.fault)) (option_copied c.start_graph-graph.result) c.facts_of_cast.ensures
     (not_started number (answer real (node_of past) (Start c.args.cast)) c.in-Err.fault ne (c.in-Err.ensures.answer past represents))
     (c.start_graph-graph.ensures past represents)
     (c.start.ensures.state past represents other)

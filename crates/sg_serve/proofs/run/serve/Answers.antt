@@ -8,12 +8,12 @@ use Rattle.sg_serve.proofs.Running.{gave_none, holds_first, not_begun}
 use Rattle.sg_serve.proofs.run.serve.Goals as goal
 
 pub returns-in_default-clause-served : goal.returns-in_default-clause-served
-returns-in_default-clause-served g c = λ bytes coming random reported comes drawn.
+returns-in_default-clause-served g c = λ bytes coming random reported is_asked drawn.
     not_begun (record { written = g.O.Sink.written c.args.out.now; sent = g.L.Link.sent c.args.link.now; coming = g.L.TimedLink.coming c.args.link.now; failed = g.L.Link.faults c.args.link.now }) (g.R.Fresh.random c.args.fresh.now)
     (images_if (is_some c.args.ledger) (g.D.Disk.may_leave c.args.disk.now)) c.args.keys.now c.args.programs.now (joins_kept c.args.ledger) coming random (lines_of bytes) _ refl c.requires.represents
 
 pub returns-in_err-server-clause-served : goal.returns-in_err-server-clause-served
-returns-in_err-server-clause-served g c = let same : c.from_residual.result ≡ Err c.in_err-server.field-0.0 = search rules in λ bytes coming random reported comes drawn.
+returns-in_err-server-clause-served g c = let same : c.from_residual.result ≡ Err c.in_err-server.field-0.0 = search rules in λ bytes coming random reported is_asked drawn.
     let start : Outside = record { written = g.O.Sink.written c.args.out.now; sent = g.L.Link.sent c.args.link.now; coming = g.L.TimedLink.coming c.args.link.now; failed = g.L.Link.faults c.args.link.now } in
     let images = images_if (is_some c.args.ledger) (g.D.Disk.may_leave c.args.disk.now) in
     subst (λ x. Served start start (g.R.Fresh.random c.args.fresh.now) images (opening c.args.keys.now c.args.programs.now (joins_kept c.args.ledger) coming random) (lines_of bytes) x) (sym same)
@@ -25,7 +25,7 @@ serve_all-requires g c = record {
 }
 
 pub returns-clause-served : goal.returns-clause-served
-returns-clause-served g c = λ bytes coming random reported comes drawn.
+returns-clause-served g c = λ bytes coming random reported is_asked drawn.
     let start : Outside = record { written = g.O.Sink.written c.args.out.now; sent = g.L.Link.sent c.args.link.now; coming = g.L.TimedLink.coming c.args.link.now; failed = g.L.Link.faults c.args.link.now } in
     let now : Outside = record { written = g.O.Sink.written c.serve_all.new.out; sent = g.L.Link.sent c.serve_all.new.link; coming = g.L.TimedLink.coming c.serve_all.new.link; failed = g.L.Link.faults c.serve_all.new.link } in
     let first = opening c.args.keys.now c.args.programs.now (joins_kept c.args.ledger) coming random in
@@ -33,7 +33,7 @@ returns-clause-served g c = λ bytes coming random reported comes drawn.
     (ap is_some c.in_ok-server.ensures.ledger)
     (c.serve_all.ensures.served first (lines_of bytes) (c.in_ok-server.ensures.represents random)
     (ap (λ (r : Reading). lines_left r.unread (g.I.Input.coming c.args.input.now)) c.in-Ok.ensures ∙ ap (λ o. lines_left [] o) reported)
-    (record { gave = gave_none start c.args.keys.now c.args.programs.now (joins_kept c.args.ledger) coming random; random_left = drawn; coming = comes }))
+    (record { gave = gave_none start c.args.keys.now c.args.programs.now (joins_kept c.args.ledger) coming random; random_left = drawn; coming = is_asked }))
 
 pub returns-clause-untouched : goal.returns-clause-untouched
 returns-clause-untouched g c = λ none. c.serve_all.ensures.untouched (ap is_some c.in_ok-server.ensures.ledger ∙ none)

@@ -15,21 +15,21 @@ use Rattle.sg_node.specs.declared.fault.Refusal.TheVariants as refusals
 use Rattle.sg_walk.specs.Model.{event_of}
 use Rattle.sg_report.specs.Reported.{Happened, NotDelivered}
 use Rattle.sg_report.proofs.Answered.{err_same, not_delivered, quiet}
-use Rattle.sg_world.proofs.Called.{comes_quiet}
+use Rattle.sg_world.proofs.Called.{results_quiet}
 use Rattle.sg_world.proofs.call.deliver_read.Goals as goal
 
-pub returns-in-Ok-clause-comes : goal.returns-in-Ok-clause-comes
-returns-in-Ok-clause-comes c = λ number past represents. comes_quiet number c.args.node.now c.deliver_frame.new.self past (Deliver c.args.bytes.now) (Some (Happened (event_of c.in-Ok.event))) (option_copied c.frame_graph-step_result-inside.result) c.deliver_frame.new.notes _ _ (c.step_result.view_is ∙ c.requires.blank) c.set_outcome.ensures c.facts_of_bytes.ensures
+pub returns-in-Ok-clause-is_result : goal.returns-in-Ok-clause-is_result
+returns-in-Ok-clause-is_result c = λ number past represents. results_quiet number c.args.node.now c.deliver_frame.new.self past (Deliver c.args.bytes.now) (Some (Happened (event_of c.in-Ok.event))) (option_copied c.frame_graph-step_result-inside.result) c.deliver_frame.new.notes _ _ (c.step_result.view_is ∙ c.requires.blank) c.set_outcome.ensures c.facts_of_bytes.ensures
     (quiet number (answer real (node_of past) (Deliver c.args.bytes.now)) (Protocol.Happened (event_of c.in-Ok.event)) (Happened (event_of c.in-Ok.event)) refl refl (c.in-Ok.ensures.answer past represents))
     (c.frame_graph-step_result-inside.ensures past represents ∙ ap (λ r. option_map (λ (x : Program × Session). x.0.graph) (option_and_then (session_of_frame (node_of past)) (result_ok r))) (sym c.requires.read))
     (c.in-Ok.ensures.notes past represents (λ e. cc))
     (c.in-Ok.ensures.state past represents (λ e. cc))
 
-pub returns-else-lacks-clause-comes : goal.returns-else-lacks-clause-comes
-returns-else-lacks-clause-comes c = λ number past represents.
+pub returns-else-lacks-clause-is_result : goal.returns-else-lacks-clause-is_result
+returns-else-lacks-clause-is_result c = λ number past represents.
     let ne = λ (e : c.in-Err.why ≡ refusals.OutOfMemory). clash c.is_delivery_memory-lacks.result (c.is_delivery_memory-lacks.ensures.1 e) c.if-lacks.false in
     let other = λ (e : c.deliver_frame.result ≡ Err refusals.OutOfMemory). ne (err_same c.deliver_frame.result c.in-Err.why refusals.OutOfMemory c.in-Err.is e) in
-    comes_quiet number c.args.node.now c.deliver_frame.new.self past (Deliver c.args.bytes.now) (option_map NotDelivered (refusal c.in-Err.why)) (option_copied c.frame_graph-step_result-inside.result) c.deliver_frame.new.notes _ _ (c.step_result.view_is ∙ c.requires.blank) c.set_outcome-in-Err.ensures c.facts_of_bytes.ensures
+    results_quiet number c.args.node.now c.deliver_frame.new.self past (Deliver c.args.bytes.now) (option_map NotDelivered (refusal c.in-Err.why)) (option_copied c.frame_graph-step_result-inside.result) c.deliver_frame.new.notes _ _ (c.step_result.view_is ∙ c.requires.blank) c.set_outcome-in-Err.ensures c.facts_of_bytes.ensures
     (not_delivered number (answer real (node_of past) (Deliver c.args.bytes.now)) c.in-Err.why ne (c.in-Err.ensures.answer past represents))
     (c.frame_graph-step_result-inside.ensures past represents ∙ ap (λ r. option_map (λ (x : Program × Session). x.0.graph) (option_and_then (session_of_frame (node_of past)) (result_ok r))) (sym c.requires.read))
     (c.deliver_frame.ensures.notes past represents other)

@@ -11,5 +11,5 @@ returns c = if_is_ok (IsResultOfCrafting c.args.setting.now c.args.recorded.now 
     record {
       craft = c.get.result.now;
       is_craft = ap step_of c.in-Craft.is ∙ ap CraftStep (sym c.get.ensures);
-      comes = λ s w same are. subst (λ r. OnOk r (IsResultOfCraft (length c.args.recorded.now + 1) s w c.get.result.now c.craft_frame.new.step_result)) e (c.craft_frame.ensures s w same are);
+      is_result = λ s w same are. subst (λ r. OnOk r (IsResultOfCraft (length c.args.recorded.now + 1) s w c.get.result.now c.craft_frame.new.step_result)) e (c.craft_frame.ensures s w same are);
     })

@@ -10,8 +10,8 @@ use Rattle.sg_protocol.specs.NodeStates.{NodeState}
 use Rattle.sg_certify.proofs.Taking.{on_err}
 use Rattle.sg_world.proofs.nodes.call_at.Goals as goal
 
-pub returns-clause-comes : goal.returns-clause-comes
-returns-clause-comes c = if_is_ok (IsResultAt c.args.setting.now.sessions c.args.recorded.now c.args.number (step_of c.args.step.now) c.args.index c.args.nodes.now.entries (set_value_at c.args.nodes.now.entries c.args.index c.call.new.node) c.call.new.step_result) c.call.result
+pub returns-clause-is_result : goal.returns-clause-is_result
+returns-clause-is_result c = if_is_ok (IsResultAt c.args.setting.now.sessions c.args.recorded.now c.args.number (step_of c.args.step.now) c.args.index c.args.nodes.now.entries (set_value_at c.args.nodes.now.entries c.args.index c.call.new.node) c.call.new.step_result) c.call.result
     (λ x e.
     let entry = entry_at c.args.nodes.now.entries c.args.index c.index_mut.result.now c.index_mut.ensures.value in
     record {
@@ -20,7 +20,7 @@ returns-clause-comes c = if_is_ok (IsResultAt c.args.setting.now.sessions c.args
       new = c.call.new.node;
       is_old = entry.1;
       is_new = refl;
-      comes = subst (λ r. OnOk r (IsResultOfStep c.args.setting.now.sessions c.args.recorded.now c.args.number (step_of c.args.step.now) c.index_mut.result.now c.call.new.node c.call.new.step_result)) e c.call.ensures.comes;
+      is_result = subst (λ r. OnOk r (IsResultOfStep c.args.setting.now.sessions c.args.recorded.now c.args.number (step_of c.args.step.now) c.index_mut.result.now c.call.new.node c.call.new.step_result)) e c.call.ensures.is_result;
     })
 
 pub returns-clause-back : goal.returns-clause-back

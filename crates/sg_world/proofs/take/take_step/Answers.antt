@@ -24,18 +24,18 @@ perform-requires-clause-few c =
 
 pub put-requires-clause-size : goal.put-requires-clause-size
 put-requires-clause-size c =
-    let comes = subst (λ (fs : List (List ℕ)). IsResultAtIndex c.args.setting.now fs (c.count.result + 1) (step_of c.args.step.now) c.args.index c.args.nodes.now.entries c.perform.new.nodes.entries c.perform.new.step_result) c.frames.ensures c.in_ok-perform.ensures.comes in
+    let is_result = subst (λ (fs : List (List ℕ)). IsResultAtIndex c.args.setting.now fs (c.count.result + 1) (step_of c.args.step.now) c.args.index c.args.nodes.now.entries c.perform.new.nodes.entries c.perform.new.step_result) c.frames.ensures c.in_ok-perform.ensures.is_result in
     step_fits c.args.setting.now c.args.nodes.now.entries c.perform.new.nodes.entries c.args.history.now.done c.make_room.new.self.done (step_of c.args.step.now) c.perform.new.step_result c.args.index (c.count.result + 1)
-    c.requires.holds c.requires.index c.requires.room c.requires.step.range c.make_room.ensures.done (ap (λ (n : ℕ). n + 1) c.count.ensures) comes c.requires.size
+    c.requires.holds c.requires.index c.requires.room c.requires.step.range c.make_room.ensures.done (ap (λ (n : ℕ). n + 1) c.count.ensures) is_result c.requires.size
 
 pub returns-clause-taken : goal.returns-clause-taken
 returns-clause-taken c =
-    let comes = subst (λ (fs : List (List ℕ)). IsResultAtIndex c.args.setting.now fs (c.count.result + 1) (step_of c.args.step.now) c.args.index c.args.nodes.now.entries c.perform.new.nodes.entries c.perform.new.step_result) c.frames.ensures c.in_ok-perform.ensures.comes in
+    let is_result = subst (λ (fs : List (List ℕ)). IsResultAtIndex c.args.setting.now fs (c.count.result + 1) (step_of c.args.step.now) c.args.index c.args.nodes.now.entries c.perform.new.nodes.entries c.perform.new.step_result) c.frames.ensures c.in_ok-perform.ensures.is_result in
     (step_taken c.args.setting.now c.args.nodes.now.entries c.perform.new.nodes.entries c.args.history.now.done c.make_room.new.self.done c.put.new.self.done (step_of c.args.step.now) (step_of c.in_ok-kept.kept) c.perform.new.step_result c.args.index (c.count.result + 1)
-    c.requires.holds c.requires.index c.requires.room c.requires.step.range c.make_room.ensures.done (ap (λ (n : ℕ). n + 1) c.count.ensures) comes c.in_ok-kept.ensures c.put.ensures).0
+    c.requires.holds c.requires.index c.requires.room c.requires.step.range c.make_room.ensures.done (ap (λ (n : ℕ). n + 1) c.count.ensures) is_result c.in_ok-kept.ensures c.put.ensures).0
 
 pub returns-clause-schedule : goal.returns-clause-schedule
 returns-clause-schedule c =
-    let comes = subst (λ (fs : List (List ℕ)). IsResultAtIndex c.args.setting.now fs (c.count.result + 1) (step_of c.args.step.now) c.args.index c.args.nodes.now.entries c.perform.new.nodes.entries c.perform.new.step_result) c.frames.ensures c.in_ok-perform.ensures.comes in
+    let is_result = subst (λ (fs : List (List ℕ)). IsResultAtIndex c.args.setting.now fs (c.count.result + 1) (step_of c.args.step.now) c.args.index c.args.nodes.now.entries c.perform.new.nodes.entries c.perform.new.step_result) c.frames.ensures c.in_ok-perform.ensures.is_result in
     (step_taken c.args.setting.now c.args.nodes.now.entries c.perform.new.nodes.entries c.args.history.now.done c.make_room.new.self.done c.put.new.self.done (step_of c.args.step.now) (step_of c.in_ok-kept.kept) c.perform.new.step_result c.args.index (c.count.result + 1)
-    c.requires.holds c.requires.index c.requires.room c.requires.step.range c.make_room.ensures.done (ap (λ (n : ℕ). n + 1) c.count.ensures) comes c.in_ok-kept.ensures c.put.ensures).1
+    c.requires.holds c.requires.index c.requires.room c.requires.step.range c.make_room.ensures.done (ap (λ (n : ℕ). n + 1) c.count.ensures) is_result c.in_ok-kept.ensures c.put.ensures).1

@@ -11,12 +11,12 @@ use Rattle.sg_keep.proofs.keeper.Keeper.deliver.Goals as goal
 pub report-requires : goal.report-requires
 report-requires g c =
     let h = c.requires.holds in
-    record { asked = asked_node c.args.self.now c.ask_deliver.new.self (g.D.Disk.may_leave c.args.disk.now) (Deliver c.args.bytes.now) (outcome_of c.in-Ok.outcome) (option_copied c.in-Ok.graph) h (c.in-Ok.ensures.comes 0 h.past h.represents) }
+    record { asked = asked_node c.args.self.now c.ask_deliver.new.self (g.D.Disk.may_leave c.args.disk.now) (Deliver c.args.bytes.now) (outcome_of c.in-Ok.outcome) (option_copied c.in-Ok.graph) h (c.in-Ok.ensures.is_asked 0 h.past h.represents) }
 
 pub returns-in-Ok-clause-progress : goal.returns-in-Ok-clause-progress
 returns-in-Ok-clause-progress g c = λ p start s w h.
     c.report.ensures.progress p (Deliver c.args.bytes.now) start
-    (is_asked c.args.self.now c.ask_deliver.new.self (g.D.Disk.may_leave c.args.disk.now) p (Deliver c.args.bytes.now) (outcome_of c.in-Ok.outcome) (option_copied c.in-Ok.graph) c.requires.holds s c.in-Ok.ensures.rest (λ number. c.in-Ok.ensures.comes number p.past s.player.node) refl)
+    (is_asked c.args.self.now c.ask_deliver.new.self (g.D.Disk.may_leave c.args.disk.now) p (Deliver c.args.bytes.now) (outcome_of c.in-Ok.outcome) (option_copied c.in-Ok.graph) c.requires.holds s c.in-Ok.ensures.rest (λ number. c.in-Ok.ensures.is_asked number p.past s.player.node) refl)
     w h
 
 pub returns-in-Err-clause-faults : goal.returns-in-Err-clause-faults

@@ -14,7 +14,7 @@ use Rattle.sg_keep.proofs.keeper.Keeper.start_one.Goals as goal
 pub report-requires : goal.report-requires
 report-requires g c =
     let h = c.requires.holds in
-    record { asked = asked_node c.args.self.now c.ask_start.new.self (g.D.Disk.may_leave c.args.disk.now) (Start (cast_of_start c.args.self.now.player.programs.now c.args.start_of.now c.next-nonce.result)) (outcome_of c.in-Ok.outcome) (option_copied c.in-Ok.graph) h (c.in-Ok.ensures.comes 0 h.past h.represents) }
+    record { asked = asked_node c.args.self.now c.ask_start.new.self (g.D.Disk.may_leave c.args.disk.now) (Start (cast_of_start c.args.self.now.player.programs.now c.args.start_of.now c.next-nonce.result)) (outcome_of c.in-Ok.outcome) (option_copied c.in-Ok.graph) h (c.in-Ok.ensures.is_asked 0 h.past h.represents) }
 
 pub returns-in-Ok-clause-progress : goal.returns-in-Ok-clause-progress
 returns-in-Ok-clause-progress g c = λ p start s w h.
@@ -26,7 +26,7 @@ returns-in-Ok-clause-progress g c = λ p start s w h.
     let is : with_turn q (Start cast) ≡ starts p c.args.start_of.now = start_is p c.args.start_of.now c.args.self.now.player.programs.now c.next-nonce.result cast s.player.programs (c.next-nonce.ensures.drawn p.random w) refl in
     to_same start now (g.D.Disk.may_leave c.report.new.disk) c.report.new.self (g.R.Fresh.random c.report.new.fresh) (with_turn q (Start cast)) (starts p c.args.start_of.now) c.report.result is
     (c.report.ensures.progress q (Start cast) start
-    (is_asked c.args.self.now c.ask_start.new.self leaves q (Start cast) (outcome_of c.in-Ok.outcome) (option_copied c.in-Ok.graph) c.requires.holds t c.in-Ok.ensures.rest (λ number. c.in-Ok.ensures.comes number q.past t.player.node) refl)
+    (is_asked c.args.self.now c.ask_start.new.self leaves q (Start cast) (outcome_of c.in-Ok.outcome) (option_copied c.in-Ok.graph) c.requires.holds t c.in-Ok.ensures.rest (λ number. c.in-Ok.ensures.is_asked number q.past t.player.node) refl)
     (c.next-nonce.ensures.taken p.random w) h)
 
 pub returns-in-Err-clause-faults : goal.returns-in-Err-clause-faults

@@ -25,7 +25,7 @@ returns-clause-asked c =
     (λ (p : Play) r. IsAskedWithFrames old.keys.now old.frames frames old.node node p.past act (outcome_of r.0) (option_copied r.1) r.2)
     (λ (p : Play) r. HasAsked (record old { node = node; frames = frames }) p act (outcome_of r.0) (option_copied r.1) (frames_made r.2))
     (λ p r s h. asked_made old node frames p act (outcome_of r.0) (option_copied r.1) r.2 s h)
-    (λ p s. c.ask_act.ensures.comes p.past s.node)
+    (λ p s. c.ask_act.ensures.is_asked p.past s.node)
 
 pub returns-clause-frame : goal.returns-clause-frame
 returns-clause-frame c =
@@ -37,7 +37,7 @@ returns-clause-frame c =
     (λ (p : Play) r. IsAskedWithFrames old.keys.now old.frames frames old.node node p.past act (outcome_of r.0) (option_copied r.1) r.2)
     (λ (p : Play) r. r.2 ≡ addressed p.past.keys (sealed_in (answer_in p act)))
     (λ p r s h. h.is_frame ∙ ap (λ (k : Keyring). addressed k (sealed_in (answer_in p act))) (sym s.keys))
-    (λ p s. c.ask_act.ensures.comes p.past s.node)
+    (λ p s. c.ask_act.ensures.is_asked p.past s.node)
 
 pub returns-clause-joins : goal.returns-clause-joins
 returns-clause-joins c =
@@ -48,4 +48,4 @@ returns-clause-joins c =
     then_ok c.ask_act.result (λ (past : Past). RepresentsPast old.node past)
     (λ (past : Past) r. IsAskedWithFrames old.keys.now old.frames frames old.node node past (Act c.args.sid c.args.label values c.args.confounders.now) (outcome_of r.0) (option_copied r.1) r.2) (KeepsJoins old.node node)
     (λ r h. keeps_by_act old.keys.now old.frames frames old.node node c.args.sid c.args.label values c.args.confounders.now (outcome_of r.0) (option_copied r.1) r.2 h)
-    c.ask_act.ensures.comes
+    c.ask_act.ensures.is_asked

@@ -20,7 +20,7 @@ returns-clause-acted g c = λ p s w.
     let call = act_is c.args.sid choice c.choice.inside.label (values_of c.as_slice.result.now) c.len.result c.as_slice-2.result.now p.random (ap (λ (k : Choice). k.label) c.choice.view_is) values count drawn in
     has_acted c.args.self.now c.ask_act.new.node c.use_first.new.self c.ask_act.new.frames p c.args.sid c.args.graph.now c.args.node choice
     (Act c.args.sid c.choice.inside.label (values_of c.as_slice.result.now) c.as_slice-2.result.now) (outcome_of c.in_ok-asked.asked.0) (option_copied c.in_ok-asked.asked.1) c.in_ok-asked.asked.2
-    (g.R.Fresh.random c.draw.new.fresh) s (sym (c.first.ensures p.choices s.choices) ∙ ap option_copied c.in-Some.is) call (c.in_ok-asked.ensures.comes p.past s.node) (c.use_first.ensures p.choices s.choices)
+    (g.R.Fresh.random c.draw.new.fresh) s (sym (c.first.ensures p.choices s.choices) ∙ ap option_copied c.in-Some.is) call (c.in_ok-asked.ensures.is_asked p.past s.node) (c.use_first.ensures p.choices s.choices)
     (c.in-Ok.ensures.left p.random w ∙ ap (λ n. Some (drop n p.random)) count)
 
 pub returns-in_default-clause-joins : goal.returns-in_default-clause-joins
@@ -30,4 +30,4 @@ pub returns-clause-joins : goal.returns-clause-joins
 returns-clause-joins g c =
     let old = c.args.self.now in
     keeps_by_act old.keys.now old.frames c.ask_act.new.frames old.node c.ask_act.new.node c.args.sid c.choice.inside.label (values_of c.as_slice.result.now) c.as_slice-2.result.now
-    (outcome_of c.in_ok-asked.asked.0) (option_copied c.in_ok-asked.asked.1) c.in_ok-asked.asked.2 c.in_ok-asked.ensures.comes
+    (outcome_of c.in_ok-asked.asked.0) (option_copied c.in_ok-asked.asked.1) c.in_ok-asked.asked.2 c.in_ok-asked.ensures.is_asked
