@@ -30,16 +30,16 @@ pub no_line : (g : Graph) (d : SoFar) (l : Line) → is_skipped l ≡ false → 
 unfolding add_line
 no_line g d l s n = rw (s, n) refl
 
-pub said_line : (g : Graph) (d : SoFar) (l : Line) (s : LogContent) → is_skipped l ≡ false → form g (words (content l)) ≡ Some s → add_line g d l ≡ add g d s
+pub statement_line : (g : Graph) (d : SoFar) (l : Line) (s : LogContent) → is_skipped l ≡ false → form g (words (content l)) ≡ Some s → add_line g d l ≡ add g d s
 unfolding add_line
-said_line g d l s k h = rw (k, h) refl
+statement_line g d l s k h = rw (k, h) refl
 
 -- what the reader makes of a line of a form
 pub right_line : (g : Graph) (d : SoFar) (l : Line) (s : LogContent) → Fine g d → Kept d → is_skipped l ≡ false → form g (words (content l)) ≡ Some s → fault g (so_far_by d) s ≡ None → add_line g d l ≡ Ok (next d s)
-right_line g d l s f k n h e = said_line g d l s n h ∙ add_same g d s f k ∙ ap (λ o. judged o (next d s)) e
+right_line g d l s f k n h e = statement_line g d l s n h ∙ add_same g d s f k ∙ ap (λ o. judged o (next d s)) e
 
 pub wrong_line : (g : Graph) (d : SoFar) (l : Line) (s : LogContent) (kind : Mistake) → Fine g d → Kept d → is_skipped l ≡ false → form g (words (content l)) ≡ Some s → fault g (so_far_by d) s ≡ Some kind → add_line g d l ≡ Err kind
-wrong_line g d l s kind f k n h e = said_line g d l s n h ∙ add_same g d s f k ∙ ap (λ o. judged o (next d s)) e
+wrong_line g d l s kind f k n h e = statement_line g d l s n h ∙ add_same g d s f k ∙ ap (λ o. judged o (next d s)) e
 
 pub fine_next : (g : Graph) (d : SoFar) (l : Line) (s : LogContent) → IsGraph g → Fine g d → Kept d → form g (words (content l)) ≡ Some s → fault g (so_far_by d) s ≡ None → Fine g (next d s)
 fine_next g d l s is f k h e = adds g d (next d s) s is (form_fits g (words (content l)) s h) f (add_same g d s f k ∙ ap (λ o. judged o (next d s)) e)
@@ -82,14 +82,14 @@ reached g _ _ is (Skip {ls = ls} {t = t} l logs s) = let r = reached g ls t is l
 }
 reached g _ _ is (Say {ls = ls} {t = t} l s logs n says right) =
     let r = reached g ls t is logs in
-    let said = form_ok g (words (content l)) s says in
+    let statement = form_ok g (words (content l)) s says in
     let none : fault g (so_far_by r.state) s ≡ None = ap (λ x. fault g x s) r.so_far ∙ right in
     record {
       state = next r.state s;
-      fine = fine_next g r.state l s is r.fine r.keeps said none;
+      fine = fine_next g r.state l s is r.fine r.keeps statement none;
       keeps = kept g r.state s r.keeps none;
       so_far = moved r.state s r.keeps ∙ ap (λ x. added x s) r.so_far;
-      reads = goes_on g ls l r.state (next r.state s) r.reads (right_line g r.state l s r.fine r.keeps n said none);
+      reads = goes_on g ls l r.state (next r.state s) r.reads (right_line g r.state l s r.fine r.keeps n statement none);
     }
 
 -- ---- from what is read to what lines say
@@ -99,8 +99,8 @@ pub data Ends (g : Graph) (n : ℕ) (ls : List Line) : Result Logs Fault → Typ
   Well : (t : LogsSoFar) → AreLogsOf g ls t → is_over g t ≡ true → Ends g n ls (Ok (record { graph = g; sessions = sessions_of t }))
   Few : (t : LogsSoFar) → AreLogsOf g ls t → is_over g t ≡ false → Ends g n ls (Err (WrongLine (n + length ls) Form))
   Formless : (t : LogsSoFar) (right rest : List Line) (line : Line) → ls ≡ right ++ line ∷ rest → AreLogsOf g right t → is_skipped line ≡ false → form g (words (content line)) ≡ None → Ends g n ls (Err (WrongLine (n + length right) Form))
-  Faulty : (t : LogsSoFar) (right rest : List Line) (line : Line) (said : LogContent) {kind : Mistake} → ls ≡ right ++ line ∷ rest → AreLogsOf g right t → is_skipped line ≡ false → form g (words (content line)) ≡ Some said
-      → fault g t said ≡ Some kind → Ends g n ls (Err (WrongLine (n + length right) kind))
+  Faulty : (t : LogsSoFar) (right rest : List Line) (line : Line) (statement : LogContent) {kind : Mistake} → ls ≡ right ++ line ∷ rest → AreLogsOf g right t → is_skipped line ≡ false → form g (words (content line)) ≡ Some statement
+      → fault g t statement ≡ Some kind → Ends g n ls (Err (WrongLine (n + length right) kind))
 
 pub ends : (g : Graph) (n : ℕ) (prefix : List Line) (d : SoFar) (ls : List Line) → IsGraph g → Fine g d → Kept d → AreLogsOf g prefix (so_far_by d) → Ends g n (prefix ++ ls) (read_sessions g (n + length prefix) d ls)
 ends g n prefix d [] is f k logs = elim (cases_Bool (is_whole g d)) [

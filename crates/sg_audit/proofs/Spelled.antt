@@ -55,13 +55,13 @@ behind bytes g block rest text _ all b s (Formless t right more l at logs n none
     let number : length (block ++ right) + 1 ≡ 1 + length block + length right = omega (arith, split) in
     let laid : lines bytes ≡ (block ++ right) ++ l ∷ more = all ∙ ap (λ xs. block ++ xs) at ∙ sym (append_assoc block right (l ∷ more)) in
     subst (λ n. IsFirstFault (lines bytes) (WrongLine n FormKind)) number
-    (OfNoForm g t (block ++ right) more l laid (record { block = block; text = text; behind = right; all = refl; is_block = b; spelled = s; logs = logs }) n (λ said q. none_some (sym none ∙ form_ok g (words (content l)) said q)))
-behind bytes g block rest text _ all b s (Faulty t right more l said {kind = kind} at logs n says wrong) =
+    (OfNoForm g t (block ++ right) more l laid (record { block = block; text = text; behind = right; all = refl; is_block = b; spelled = s; logs = logs }) n (λ statement q. none_some (sym none ∙ form_ok g (words (content l)) statement q)))
+behind bytes g block rest text _ all b s (Faulty t right more l statement {kind = kind} at logs n says wrong) =
     let split = length-append block right in
     let number : length (block ++ right) + 1 ≡ 1 + length block + length right = omega (arith, split) in
     let laid : lines bytes ≡ (block ++ right) ++ l ∷ more = all ∙ ap (λ xs. block ++ xs) at ∙ sym (append_assoc block right (l ∷ more)) in
     subst (λ n. IsFirstFault (lines bytes) (WrongLine n kind)) number
-    (OfAForm g t (block ++ right) more l said laid (record { block = block; text = text; behind = right; all = refl; is_block = b; spelled = s; logs = logs }) n (form_is g (words (content l)) said says) wrong)
+    (OfAForm g t (block ++ right) more l statement laid (record { block = block; text = text; behind = right; all = refl; is_block = b; spelled = s; logs = logs }) n (form_is g (words (content l)) statement says) wrong)
 
 begun : (bytes : List ℕ) (r : Result Logs Fault) → Begins (lines bytes) r → Outcome bytes r
 begun bytes _ (BlankAll h) = NoLine h

@@ -19,7 +19,7 @@ use Rattle.sg_sched.proofs.FormatWords.{both}
 use Rattle.sg_sched.proofs.NumberLaws.{number_is, number_ok}
 use Rattle.sg_audit.specs.LineContents.{Assignments, StepContent, LogContent, SessionLine, LogHeadLine, EventLine, WalkLine, numbered}
 use Rattle.sg_audit.specs.Reading.{all_assigned, steps, time, session_form, log_form, event_form, walk_form, form}
-use Rattle.sg_audit.specs.Written.{Written, ASession, ALog, AnEvent, AWalk, line_words, is_assignment, is_form, said_in, Says}
+use Rattle.sg_audit.specs.Written.{Written, ASession, ALog, AnEvent, AWalk, line_words, is_assignment, is_form, statement_in, Says}
 use Rattle.sg_audit.proofs.WrittenAssignments.{of_values, pairs_are, pairs_ok}
 use Rattle.sg_audit.proofs.WrittenWalks.{steps_are, steps_ok}
 
@@ -132,7 +132,7 @@ form_is g (w ∷ ws) s h =
 
 -- ---- what is written is read so
 
-written_ok : (g : Graph) (w : Written) → is_form w ≡ true → form g (line_words w) ≡ Some (said_in g w)
+written_ok : (g : Graph) (w : Written) → is_form w ≡ true → form g (line_words w) ≡ Some (statement_in g w)
 unfolding form session_form log_form event_form walk_form word
 written_ok g (ASession n) h = rw (name_ok n h) refl
 written_ok g (ALog role) h = rw (name_ok role h) refl

@@ -42,13 +42,13 @@ pub record IsBlock (ls : List Line) (text : List ℕ) : Type 0 where
 
 -- the words of the line say this of the graph
 abbrev pub SaysLine : AGraph → Line → LogContent → Type 0
-SaysLine g line said = Says g (words (content line)) said
+SaysLine g line statement = Says g (words (content line)) statement
 
 -- the lines after the block, from the first one on, say this, and none of them is wrong
 pub data AreLogsOf (g : AGraph) : List Line → LogsSoFar → Type 0 where
   Nothing : AreLogsOf g [] (record { over = []; last = None })
   Skip : {ls : List Line} {t : LogsSoFar} (line : Line) → AreLogsOf g ls t → IsTrue (is_skipped line) → AreLogsOf g (ls ++ line ∷ []) t
-  Say : {ls : List Line} {t : LogsSoFar} (line : Line) (said : LogContent) → AreLogsOf g ls t → IsFalse (is_skipped line) → SaysLine g line said → fault g t said ≡ None → AreLogsOf g (ls ++ line ∷ []) (added t said)
+  Say : {ls : List Line} {t : LogsSoFar} (line : Line) (statement : LogContent) → AreLogsOf g ls t → IsFalse (is_skipped line) → SaysLine g line statement → fault g t statement ≡ None → AreLogsOf g (ls ++ line ∷ []) (added t statement)
 
 -- after the block of a graph, these lines say this
 pub record AreLogsAfterBlock (g : AGraph) (ls : List Line) (t : LogsSoFar) : Type 0 where
@@ -82,9 +82,9 @@ pub data IsFirstFault (ls : List Line) : Fault → Type 0 where
   NotClosed : (inner : List Line) → IsOpened ls inner → IsFirstFault ls (WrongLine (length ls) Form)
   OfGraph : (block rest : List Line) (text : List ℕ) {e : ParseFault} → ls ≡ block ++ rest → IsBlock block text → read text ≡ Err e → IsFirstFault ls (NoGraph e)
   OfNoForm : (g : AGraph) (t : LogsSoFar) (right rest : List Line) (line : Line) → ls ≡ right ++ line ∷ rest → AreLogsAfterBlock g right t → IsFalse (is_skipped line)
-      → ((said : LogContent) → SaysLine g line said → ⊥) → IsFirstFault ls (WrongLine (length right + 1) Form)
-  OfAForm : (g : AGraph) (t : LogsSoFar) (right rest : List Line) (line : Line) (said : LogContent) {kind : Mistake} → ls ≡ right ++ line ∷ rest → AreLogsAfterBlock g right t → IsFalse (is_skipped line)
-      → SaysLine g line said → fault g t said ≡ Some kind → IsFirstFault ls (WrongLine (length right + 1) kind)
+      → ((statement : LogContent) → SaysLine g line statement → ⊥) → IsFirstFault ls (WrongLine (length right + 1) Form)
+  OfAForm : (g : AGraph) (t : LogsSoFar) (right rest : List Line) (line : Line) (statement : LogContent) {kind : Mistake} → ls ≡ right ++ line ∷ rest → AreLogsAfterBlock g right t → IsFalse (is_skipped line)
+      → SaysLine g line statement → fault g t statement ≡ Some kind → IsFirstFault ls (WrongLine (length right + 1) kind)
   TooFew : (g : AGraph) (t : LogsSoFar) → AreLogsAfterBlock g ls t → IsFalse (is_whole g t) → IsFirstFault ls (WrongLine (length ls + 1) Form)
 
 -- a fault as the program reports it: the event 100,001 without its line

@@ -33,11 +33,11 @@ abbrev pub step_in_line : LogStep → StepContent
 step_in_line s = record { label = s.label; writes = assigned_writes s.writes }
 
 -- what a line that is held says
-abbrev pub said : LogLine → LogContent
-said (ALine n) = SessionLine n
-said (Log role) = LogHeadLine role
-said (Event sent label time values) = EventLine sent label time (assigned_values values)
-said (Walk steps) = WalkLine (map step_in_line steps)
+abbrev pub statement : LogLine → LogContent
+statement (ALine n) = SessionLine n
+statement (Log role) = LogHeadLine role
+statement (Event sent label time values) = EventLine sent label time (assigned_values values)
+statement (Walk steps) = WalkLine (map step_in_line steps)
 
 -- a role is less than 16
 abbrev pub Fits : LogLine → Type 0

@@ -80,15 +80,15 @@ abbrev pub step_in : Graph → WrittenStep → StepContent
 step_in g s = record { label = numbered (edge_names g) s.label; writes = assigned_in (variable_names g) shown_value (option_map_or (λ ps. ps) s.writes []) }
 
 -- what a line says, with the numbers of its names
-abbrev pub said_in : Graph → Written → LogContent
-said_in g (ASession n) = SessionLine n
-said_in g (ALog role) = LogHeadLine (numbered g.roles role)
-said_in g (AnEvent sent label time values) = EventLine sent (numbered (edge_names g) label) time (assigned_in (variable_names g) value_of values)
-said_in g (AWalk steps) = WalkLine (map (step_in g) steps)
+abbrev pub statement_in : Graph → Written → LogContent
+statement_in g (ASession n) = SessionLine n
+statement_in g (ALog role) = LogHeadLine (numbered g.roles role)
+statement_in g (AnEvent sent label time values) = EventLine sent (numbered (edge_names g) label) time (assigned_in (variable_names g) value_of values)
+statement_in g (AWalk steps) = WalkLine (map (step_in g) steps)
 
 -- the words are those of a line, each field of which holds what it may hold, and they say this of the graph
-pub record Says (g : Graph) (ws : List Word) (said : LogContent) : Type 0 where
+pub record Says (g : Graph) (ws : List Word) (statement : LogContent) : Type 0 where
   pub written : Written
   pub spelled : ws ≡ line_words written
   pub form : is_form written ≡ true
-  pub says : said_in g written ≡ said
+  pub says : statement_in g written ≡ statement

@@ -2,7 +2,7 @@
 ghost use Rattle.std.specs.Prelude.{◌≡◌, ◌≤◌, option_map, true, false, IfOk, IfSome};
 ghost use Rattle.sg_base.specs.Words.{name};
 ghost use Rattle.sg_audit.specs.Reading.{event_form, form, log_form, session_form, time, walk_form};
-ghost use Rattle.sg_audit.specs.TakingLines.{Fits, said};
+ghost use Rattle.sg_audit.specs.TakingLines.{Fits, statement};
 ghost use Rattle.sg_sched.specs.Format.Reading.{word};
 
 use crate::assignments::{Assignments, label_named, read_values, role_named};
@@ -33,7 +33,7 @@ pub(crate) fn read_line(
     graph: &Graph,
     words: &mut Words<'_>,
 ) -> Result<Option<LogLine>, OutOfMemory>
-    ensures said { IfOk result (λ o. option_map said o ≡ form graph.now words.old) }
+    ensures statement { IfOk result (λ o. option_map statement o ≡ form graph.now words.old) }
     ensures fits { IfOk result (λ o. IfSome o Fits) }
 {
     let Some(first) = words.next() else {
@@ -57,7 +57,7 @@ pub(crate) fn read_line(
 // `NAME` of a session.
 #[tactic(auto, unfolding(crate::specs::Reading::session_form, sg_base::specs::Words::name, sg_sched::specs::Format::Reading::word))]
 fn session(words: &mut Words<'_>) -> Option<LogLine>
-    ensures said { option_map said result ≡ session_form words.old }
+    ensures statement { option_map statement result ≡ session_form words.old }
     ensures fits { IfSome result Fits }
 {
     let name = Name::new(words.next()?)?;
@@ -70,7 +70,7 @@ fn session(words: &mut Words<'_>) -> Option<LogLine>
 // `ROLE` of a log.
 #[tactic(auto, unfolding(crate::specs::Reading::log_form, sg_base::specs::Words::name, sg_sched::specs::Format::Reading::word))]
 fn log(graph: &Graph, words: &mut Words<'_>) -> Option<LogLine>
-    ensures said { option_map said result ≡ log_form graph.now words.old }
+    ensures statement { option_map statement result ≡ log_form graph.now words.old }
     ensures fits { IfSome result Fits }
 {
     let name = Name::new(words.next()?)?;
@@ -88,7 +88,7 @@ fn event(
     sent: bool,
     words: &mut Words<'_>,
 ) -> Result<Option<LogLine>, OutOfMemory>
-    ensures said { IfOk result (λ o. option_map said o ≡ event_form graph.now sent words.old) }
+    ensures statement { IfOk result (λ o. option_map statement o ≡ event_form graph.now sent words.old) }
     ensures fits { IfOk result (λ o. IfSome o Fits) }
 {
     let Some(name) = words.next() else {
@@ -129,7 +129,7 @@ fn read_time(word: &[u8]) -> Option<Time>
 // The steps of a walk.
 #[tactic(auto, unfolding(crate::specs::Reading::walk_form))]
 fn walk(alloc: Global, graph: &Graph, words: &mut Words<'_>) -> Result<Option<LogLine>, OutOfMemory>
-    ensures said { IfOk result (λ o. option_map said o ≡ walk_form graph.now words.old) }
+    ensures statement { IfOk result (λ o. option_map statement o ≡ walk_form graph.now words.old) }
     ensures fits { IfOk result (λ o. IfSome o Fits) }
 {
     match read_steps(alloc, graph, words)? {

@@ -3,7 +3,7 @@ ghost use Rattle.std.specs.Prelude.{◌≡◌, ◌<◌, ◌≤◌, ◌^◌, ◌&
 ghost use Rattle.std.specs.List.{list_any, list_all};
 ghost use Rattle.sg_audit.specs.SoFar.{nothing, all_logs, all_sessions, all_have_logs, is_whole, is_open, add, add_session, add_log, add_event, add_walk, open_log, count_event, put_event};
 ghost use Rattle.sg_audit.specs.Sessions.{event, stored_step};
-ghost use Rattle.sg_audit.specs.TakingLines.{Fits, Takes, said, session_of, assigned_values, step_in_line};
+ghost use Rattle.sg_audit.specs.TakingLines.{Fits, Takes, statement, session_of, assigned_values, step_in_line};
 ghost use Rattle.sg_model.specs.Lists.{is_in, below};
 ghost use Rattle.sg_walk.specs.Model.{event_of, step_of, steps_of};
 
@@ -84,7 +84,7 @@ impl LogsReader {
     #[tactic(auto, unfolding(crate::specs::SoFar::add))]
     pub fn add(&mut self, graph: &Graph, line: LogLine) -> Result<(), Stop>
         requires { Fits line }
-        ensures { Takes (add graph.now self.old (said line)) self.new result }
+        ensures { Takes (add graph.now self.old (statement line)) self.new result }
     {
         match line {
             LogLine::Session(name) => self.add_session(graph, name),

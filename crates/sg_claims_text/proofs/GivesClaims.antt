@@ -3,12 +3,12 @@ use Rattle.std.proofs.Common.{◌≡◌, ℕ, zero, suc, ◌≤◌, Bool, true, 
 use Rattle.std.specs.Prelude.{All}
 use Rattle.std.proofs.lemmas.List.{map-append}
 use Rattle.sg_claims.specs.declared.claim.NamedClaim.{NamedClaim}
-use Rattle.sg_claims_text.specs.Grammar.{AreLabels, IsClaim, claim_names, claim_tokens, most_claims, said, since_tokens, SpellsClaims}
-use Rattle.sg_claims_text.specs.Reading.{in_text, is_label, read, read_bars, read_claim, read_claims, read_name, read_named, read_needs, read_said, read_since, some_labels}
+use Rattle.sg_claims_text.specs.Grammar.{AreLabels, IsClaim, claim_names, claim_tokens, most_claims, claim_kind_tokens, since_tokens, SpellsClaims}
+use Rattle.sg_claims_text.specs.Reading.{in_text, is_label, read, read_bars, read_claim, read_claims, read_name, read_named, read_needs, read_kind, read_since, some_labels}
 use Rattle.sg_claims_text.specs.declared.fault.ClaimsFault.{ClaimsFault}
 use Rattle.sg_claims_text.specs.declared.fault.ClaimsFault.TheVariants.{OtherGraph}
 use Rattle.sg_claims_text.proofs.GivesLabels.{gives-labels, gives-since}
-use Rattle.sg_claims_text.proofs.TookClaims.{said_of}
+use Rattle.sg_claims_text.proofs.TookClaims.{kind_of}
 use Rattle.sg_graph.specs.Parts.{edge_names}
 use Rattle.sg_model.specs.Claims.{Claim, ClaimKind, Needs, Bars}
 use Rattle.sg_model.specs.Lists.{has_text}
@@ -60,15 +60,15 @@ module _ (names : List Name) (are : AreNames names) where
       (gives-since names are (codes "until") since (Semicolon ∷ us) s refl refl))
 
   -- what a claim says
-  gives-said : (kind : ClaimKind) (later earlier since : List ℕ) (us : List Token) → AreLabels names later → AreLabels names earlier → (since ≡ []) ⊎ AreLabels names since
-      → Gives (read_said names) (said names kind later earlier since) (Semicolon ∷ us) (record { kind = kind; later = later; earlier = earlier; since = since })
-  gives-said Needs later earlier since us l e s =
+  gives-claim_kind_tokens : (kind : ClaimKind) (later earlier since : List ℕ) (us : List Token) → AreLabels names later → AreLabels names earlier → (since ≡ []) ⊎ AreLabels names since
+      → Gives (read_kind names) (claim_kind_tokens names kind later earlier since) (Semicolon ∷ us) (record { kind = kind; later = later; earlier = earlier; since = since })
+  gives-claim_kind_tokens Needs later earlier since us l e s =
       let end : Claim = record { kind = Needs; later = later; earlier = earlier; since = since } in
       let back : List Token = named names earlier ++ since_tokens names (codes "since") since in
       gives-after (some_labels names) _ (named names later) (Word (codes "needs") ∷ back) (Semicolon ∷ us) later end (gives-labels names are later (Word (codes "needs") ∷ (back ++ Semicolon ∷ us)) l refl)
       (gives-first (is_word (codes "needs")) _ _ (Word (codes "needs") ∷ back) (Semicolon ∷ us) end (word-is (codes "needs"))
       (gives-after skip (λ _. read_needs names later) (Word (codes "needs") ∷ []) back (Semicolon ∷ us) tt end (gives-skip (Word (codes "needs")) _) (gives-needs later earlier since us e s)))
-  gives-said Bars later earlier since us l e s =
+  gives-claim_kind_tokens Bars later earlier since us l e s =
       let end : Claim = record { kind = Bars; later = later; earlier = earlier; since = since } in
       let back : List Token = named names later ++ since_tokens names (codes "until") since in
       gives-after (some_labels names) _ (named names earlier) (Word (codes "bars") ∷ back) (Semicolon ∷ us) earlier end (gives-labels names are earlier (Word (codes "bars") ∷ (back ++ Semicolon ∷ us)) e refl)
@@ -80,12 +80,12 @@ module _ (names : List Name) (are : AreNames names) where
       → Gives (read_claim names claims) (claim_tokens names c) us (claims ++ c ∷ [])
   gives-claim claims c us free new is =
       let end : List NamedClaim = claims ++ c ∷ [] in
-      let back : List Token = said_of names c.claim ++ Semicolon ∷ [] in
+      let back : List Token = kind_of names c.claim ++ Semicolon ∷ [] in
       gives-after (token (is_word (codes "claim"))) _ (Word (codes "claim") ∷ []) (Word c.name ∷ Colon ∷ back) us tt end (gives-word (codes "claim") _)
       (gives-after (new_name (claim_names claims)) _ (Word c.name ∷ []) (Colon ∷ back) us c.name end (gives-new (claim_names claims) c.name _ free new)
       (gives-after (token is_colon) _ (Colon ∷ []) back us tt end (gives-token is_colon Colon _ refl)
-      (gives-after (read_said names) _ (said_of names c.claim) (Semicolon ∷ []) us c.claim end
-      (gives-said c.claim.kind c.claim.later c.claim.earlier c.claim.since us is.later is.earlier is.since)
+      (gives-after (read_kind names) _ (kind_of names c.claim) (Semicolon ∷ []) us c.claim end
+      (gives-claim_kind_tokens c.claim.kind c.claim.later c.claim.earlier c.claim.since us is.later is.earlier is.since)
       (gives-then (token is_semicolon) (λ _. end) (Semicolon ∷ []) us tt (gives-token is_semicolon Semicolon us refl)))))
 
   -- as many statements as claims

@@ -5,9 +5,9 @@ use Rattle.std.specs.List.{list_all}
 use Rattle.std.proofs.lemmas.Bool.{and_parts}
 use Rattle.std.proofs.lemmas.List.{length-map, get_or-map}
 use Rattle.sg_claims.specs.declared.claim.NamedClaim.{NamedClaim}
-use Rattle.sg_claims_text.specs.Grammar.{AreLabels, IsClaim, claim_names, claim_tokens, head_tokens, most_claims, said, since_tokens, SpellsClaims}
-use Rattle.sg_claims_text.specs.Written.{claim_line, said_text, since_text, written}
-use Rattle.sg_claims_text.proofs.TookClaims.{said_of}
+use Rattle.sg_claims_text.specs.Grammar.{AreLabels, IsClaim, claim_names, claim_tokens, head_tokens, most_claims, claim_kind_tokens, since_tokens, SpellsClaims}
+use Rattle.sg_claims_text.specs.Written.{claim_line, kind_text, since_text, written}
+use Rattle.sg_claims_text.proofs.TookClaims.{kind_of}
 use Rattle.sg_graph.specs.NamesOfGraph.{walk_text}
 use Rattle.sg_graph.specs.Parts.{edge_name, edge_names}
 use Rattle.sg_model.specs.Claims.{ClaimKind, Needs, Bars}
@@ -75,15 +75,15 @@ module _ (g : Graph) (is : IsGraph g) where
       (lexes-as _ (32 ∷ (w ++ (walk_text g (l ∷ ls) ++ rest))) _ (ap (λ k. 32 ∷ k) (append_assoc w (walk_text g (l ∷ ls)) rest)) all.0, refl)
 
   -- what a claim says
-  lex-said : (kind : ClaimKind) (later earlier since : List ℕ) (rest : List ℕ) (ts : List Token) → AreLabels (edge_names g) later → AreLabels (edge_names g) earlier
-      → (since ≡ []) ⊎ AreLabels (edge_names g) since → Apart rest ts → Lexes (said_text g kind later earlier since ++ rest) (said (edge_names g) kind later earlier since ++ ts)
-  lex-said Needs later earlier since rest ts a b c h =
+  lex-claim_kind_tokens : (kind : ClaimKind) (later earlier since : List ℕ) (rest : List ℕ) (ts : List Token) → AreLabels (edge_names g) later → AreLabels (edge_names g) earlier
+      → (since ≡ []) ⊎ AreLabels (edge_names g) since → Apart rest ts → Lexes (kind_text g kind later earlier since ++ rest) (claim_kind_tokens (edge_names g) kind later earlier since ++ ts)
+  lex-claim_kind_tokens Needs later earlier since rest ts a b c h =
       let third = lex-since (codes "since") since rest ts refl c h in
       let second = lex-labels earlier _ _ b.there third in
       let verb = lex-next (codes "needs") _ _ refl second in
       let first = lex-labels later _ _ a.there verb in
       lexes-as _ _ _ (simp append_assoc) (subst (Lexes _) (simp append_assoc) first.0)
-  lex-said Bars later earlier since rest ts a b c h =
+  lex-claim_kind_tokens Bars later earlier since rest ts a b c h =
       let third = lex-since (codes "until") since rest ts refl c h in
       let second = lex-labels later _ _ a.there third in
       let verb = lex-next (codes "bars") _ _ refl second in
@@ -93,12 +93,12 @@ module _ (g : Graph) (is : IsGraph g) where
   -- the line of a claim
   lex-claim : (c : NamedClaim) (rest : List ℕ) (ts : List Token) → is_name c.name ≡ true → IsClaim (edge_names g) c.claim → Lexes rest ts → Lexes (claim_line g c ++ rest) (claim_tokens (edge_names g) c ++ ts)
   lex-claim c rest ts n k h =
-      let back : List ℕ = said_text g c.claim.kind c.claim.later c.claim.earlier c.claim.since in
-      let said' : Lexes (back ++ 59 ∷ 10 ∷ rest) (said_of (edge_names g) c.claim ++ Semicolon ∷ ts) =
-      lex-said c.claim.kind c.claim.later c.claim.earlier c.claim.since (59 ∷ 10 ∷ rest) (Semicolon ∷ ts) k.later k.earlier k.since (lex-ended rest ts h, refl) in
-      let name : Lexes (c.name ++ 58 ∷ (back ++ 59 ∷ 10 ∷ rest)) (Word c.name ∷ Colon ∷ (said_of (edge_names g) c.claim ++ Semicolon ∷ ts)) = lex-word c.name _ _ n refl (lex-colon _ _ said') in
-      let all : Lexes (codes "claim" ++ 32 ∷ (c.name ++ 58 ∷ (back ++ 59 ∷ 10 ∷ rest))) (Word (codes "claim") ∷ Word c.name ∷ Colon ∷ (said_of (edge_names g) c.claim ++ Semicolon ∷ ts)) = lex-word (codes "claim") _ _ refl refl (lex-space _ _ name) in
-      lexes-as _ _ _ (simp append_assoc) (subst (Lexes _) (ap (λ l. Word (codes "claim") ∷ Word c.name ∷ Colon ∷ l) (sym (append_assoc (said_of (edge_names g) c.claim) (Semicolon ∷ []) ts))) all)
+      let back : List ℕ = kind_text g c.claim.kind c.claim.later c.claim.earlier c.claim.since in
+      let said' : Lexes (back ++ 59 ∷ 10 ∷ rest) (kind_of (edge_names g) c.claim ++ Semicolon ∷ ts) =
+      lex-claim_kind_tokens c.claim.kind c.claim.later c.claim.earlier c.claim.since (59 ∷ 10 ∷ rest) (Semicolon ∷ ts) k.later k.earlier k.since (lex-ended rest ts h, refl) in
+      let name : Lexes (c.name ++ 58 ∷ (back ++ 59 ∷ 10 ∷ rest)) (Word c.name ∷ Colon ∷ (kind_of (edge_names g) c.claim ++ Semicolon ∷ ts)) = lex-word c.name _ _ n refl (lex-colon _ _ said') in
+      let all : Lexes (codes "claim" ++ 32 ∷ (c.name ++ 58 ∷ (back ++ 59 ∷ 10 ∷ rest))) (Word (codes "claim") ∷ Word c.name ∷ Colon ∷ (kind_of (edge_names g) c.claim ++ Semicolon ∷ ts)) = lex-word (codes "claim") _ _ refl refl (lex-space _ _ name) in
+      lexes-as _ _ _ (simp append_assoc) (subst (Lexes _) (ap (λ l. Word (codes "claim") ∷ Word c.name ∷ Colon ∷ l) (sym (append_assoc (kind_of (edge_names g) c.claim) (Semicolon ∷ []) ts))) all)
 
   -- the lines of claims
   lex-claims : (cs : List NamedClaim) → list_all (λ n. is_name n && not (has_text n reserved)) (claim_names cs) ≡ true → All (λ c. IsClaim (edge_names g) c.claim) cs

@@ -7,8 +7,8 @@ use Rattle.std.proofs.lemmas.List.{map-append}
 use Rattle.std.proofs.lemmas.List.Folds.{list_all-append}
 use Rattle.std.proofs.lemmas.Slice.Eq.{bytes_eq-Decides}
 use Rattle.sg_claims.specs.declared.claim.NamedClaim.{NamedClaim}
-use Rattle.sg_claims_text.specs.Grammar.{AreLabels, IsClaim, claim_names, claim_tokens, head_tokens, most_claims, said, since_tokens, SpellsClaims}
-use Rattle.sg_claims_text.specs.Reading.{in_text, read, read_bars, read_claim, read_claims, read_name, read_named, read_needs, read_said, read_since, some_labels}
+use Rattle.sg_claims_text.specs.Grammar.{AreLabels, IsClaim, claim_names, claim_tokens, head_tokens, most_claims, claim_kind_tokens, since_tokens, SpellsClaims}
+use Rattle.sg_claims_text.specs.Reading.{in_text, read, read_bars, read_claim, read_claims, read_name, read_named, read_needs, read_kind, read_since, some_labels}
 use Rattle.sg_claims_text.specs.declared.fault.ClaimsFault.TheVariants.{OtherGraph}
 use Rattle.sg_claims_text.proofs.TookLabels.{took-labels, took-since}
 use Rattle.sg_graph.specs.Parts.{edge_names}
@@ -33,15 +33,15 @@ use Rattle.sg_parse.proofs.TookGraph.{took-end, whole-inv}
 use Rattle.sg_parse.proofs.Indices.{repeat-there, repeat-away, repeat-none}
 
 -- what the claim says
-abbrev pub said_of : List Name → Claim → List Token
-said_of names c = said names c.kind c.later c.earlier c.since
+abbrev pub kind_of : List Name → Claim → List Token
+kind_of names c = claim_kind_tokens names c.kind c.later c.earlier c.since
 
 -- the rest of a claim was taken, behind its first labels
 abbrev Rest : List Name → List ℕ → List TokenAt → Parsed Claim → Type 0
-Rest names first ps o = (ts : List Token) × Took ps o ts × (named names first ++ ts ≡ said_of names o.value) × IsClaim names o.value
+Rest names first ps o = (ts : List Token) × Took ps o ts × (named names first ++ ts ≡ kind_of names o.value) × IsClaim names o.value
 
 took-needs : (names : List Name) (later : List ℕ) (ps : List TokenAt) (o : Parsed Claim) → Sound ps → AreLabels names later → read_needs names later ps ≡ Ok o
-    → (ts : List Token) × Took ps o ts × (named names later ++ Word (codes "needs") ∷ ts ≡ said_of names o.value) × IsClaim names o.value
+    → (ts : List Token) × Took ps o ts × (named names later ++ Word (codes "needs") ∷ ts ≡ kind_of names o.value) × IsClaim names o.value
 took-needs names later ps o s are h =
     let a = on-inv (some_labels names ps) _ o h in
     let e = took-labels names ps a.0 s a.1 in
@@ -52,12 +52,12 @@ took-needs names later ps o s are h =
     let back : List Token = since_tokens names (codes "since") (b.0).value in (
       named names (a.0).value ++ (back ++ []),
       took-both ps a.0 o (named names (a.0).value) (back ++ []) e.0 (took-both (a.0).rest b.0 o back [] f.0 end.1),
-      ap (λ l. named names later ++ Word (codes "needs") ∷ (named names (a.0).value ++ l)) (append-nil back) ∙ ap (said_of names) end.0,
+      ap (λ l. named names later ++ Word (codes "needs") ∷ (named names (a.0).value ++ l)) (append-nil back) ∙ ap (kind_of names) end.0,
       subst (IsClaim names) end.0 (record { later = are; earlier = e.1; since = f.1 }),
     )
 
 took-bars : (names : List Name) (earlier : List ℕ) (ps : List TokenAt) (o : Parsed Claim) → Sound ps → AreLabels names earlier → read_bars names earlier ps ≡ Ok o
-    → (ts : List Token) × Took ps o ts × (named names earlier ++ Word (codes "bars") ∷ ts ≡ said_of names o.value) × IsClaim names o.value
+    → (ts : List Token) × Took ps o ts × (named names earlier ++ Word (codes "bars") ∷ ts ≡ kind_of names o.value) × IsClaim names o.value
 took-bars names earlier ps o s are h =
     let a = on-inv (some_labels names ps) _ o h in
     let e = took-labels names ps a.0 s a.1 in
@@ -68,7 +68,7 @@ took-bars names earlier ps o s are h =
     let back : List Token = since_tokens names (codes "until") (b.0).value in (
       named names (a.0).value ++ (back ++ []),
       took-both ps a.0 o (named names (a.0).value) (back ++ []) e.0 (took-both (a.0).rest b.0 o back [] f.0 end.1),
-      ap (λ l. named names earlier ++ Word (codes "bars") ∷ (named names (a.0).value ++ l)) (append-nil back) ∙ ap (said_of names) end.0,
+      ap (λ l. named names earlier ++ Word (codes "bars") ∷ (named names (a.0).value ++ l)) (append-nil back) ∙ ap (kind_of names) end.0,
       subst (IsClaim names) end.0 (record { later = e.1; earlier = are; since = f.1 }),
     )
 
@@ -91,8 +91,8 @@ took-rest names first ps o s are h = pick (branch-inv (is_word (codes "needs")) 
         (Word (codes "bars") ∷ r.0, took-both ps a.0 o (Word (codes "bars") ∷ []) r.0 t r.1, r.2, r.3)
 
 -- what a claim says
-took-said : (names : List Name) (ps : List TokenAt) (o : Parsed Claim) → Sound ps → read_said names ps ≡ Ok o → Took ps o (said_of names o.value) × IsClaim names o.value
-took-said names ps o s h =
+took-claim_kind_tokens : (names : List Name) (ps : List TokenAt) (o : Parsed Claim) → Sound ps → read_kind names ps ≡ Ok o → Took ps o (kind_of names o.value) × IsClaim names o.value
+took-claim_kind_tokens names ps o s h =
     let a = on-inv (some_labels names ps) _ o h in
     let first = took-labels names ps a.0 s a.1 in
     let r = took-rest names (a.0).value (a.0).rest o (first.0).sound first.1 a.2 in
@@ -108,8 +108,8 @@ took-claim names claims ps o s h =
     let n = took-new (claim_names claims) (a.0).rest b.0 first.sound b.1 in
     let c = on-inv (token is_colon (b.0).rest) _ o b.2 in
     let colon = took-token is_colon Colon (b.0).rest c.0 only-colon (n.0).sound c.1 in
-    let d = on-inv (read_said names (c.0).rest) _ o c.2 in
-    let said' = took-said names (c.0).rest d.0 colon.sound d.1 in
+    let d = on-inv (read_kind names (c.0).rest) _ o c.2 in
+    let said' = took-claim_kind_tokens names (c.0).rest d.0 colon.sound d.1 in
     let e = on-inv (token is_semicolon (d.0).rest) _ o d.2 in
     let last = took-token is_semicolon Semicolon (d.0).rest e.0 only-semicolon (said'.0).sound e.1 in
     let claim : NamedClaim = record { name = (b.0).value; claim = (d.0).value } in
@@ -121,7 +121,7 @@ took-claim names claims ps o s h =
       took-both ps a.0 o (Word (codes "claim") ∷ []) _ first
           (took-both (a.0).rest b.0 o (Word (b.0).value ∷ []) _ n.0
           (took-both (b.0).rest c.0 o (Colon ∷ []) _ colon
-          (took-both (c.0).rest d.0 o (said_of names (d.0).value) _ said'.0 (took-both (d.0).rest e.0 o (Semicolon ∷ []) [] last end.1)))),
+          (took-both (c.0).rest d.0 o (kind_of names (d.0).value) _ said'.0 (took-both (d.0).rest e.0 o (Semicolon ∷ []) [] last end.1)))),
     )
 
 -- names with one more

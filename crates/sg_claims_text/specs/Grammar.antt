@@ -38,13 +38,13 @@ since_tokens names word [] = []
 since_tokens names word (l ∷ ls) = Word word ∷ named names (l ∷ ls)
 
 -- what a claim says: A needs B since C, or B bars A until C, where A is `later`, B `earlier` and C `since`
-abbrev pub said : List Name → ClaimKind → (later earlier since : List ℕ) → List Token
-said names Needs later earlier since = named names later ++ Word (codes "needs") ∷ (named names earlier ++ since_tokens names (codes "since") since)
-said names Bars later earlier since = named names earlier ++ Word (codes "bars") ∷ (named names later ++ since_tokens names (codes "until") since)
+abbrev pub claim_kind_tokens : List Name → ClaimKind → (later earlier since : List ℕ) → List Token
+claim_kind_tokens names Needs later earlier since = named names later ++ Word (codes "needs") ∷ (named names earlier ++ since_tokens names (codes "since") since)
+claim_kind_tokens names Bars later earlier since = named names earlier ++ Word (codes "bars") ∷ (named names later ++ since_tokens names (codes "until") since)
 
 -- the statement of a claim
 abbrev pub claim_tokens : List Name → NamedClaim → List Token
-claim_tokens names c = Word (codes "claim") ∷ Word c.name ∷ Colon ∷ said names c.claim.kind c.claim.later c.claim.earlier c.claim.since ++ Semicolon ∷ []
+claim_tokens names c = Word (codes "claim") ∷ Word c.name ∷ Colon ∷ claim_kind_tokens names c.claim.kind c.claim.later c.claim.earlier c.claim.since ++ Semicolon ∷ []
 
 -- the statement of the graph's name
 abbrev pub head_tokens : Name → List Token

@@ -52,8 +52,8 @@ read_bars names earlier =
     give (record { kind = Bars; later = later; earlier = earlier; since = since })
 
 -- what a claim says
-abbrev pub read_said : List Name → Parser Claim
-read_said names =
+abbrev pub read_kind : List Name → Parser Claim
+read_kind names =
     after (some_labels names) λ first.
     branch (is_word (codes "needs")) (after skip λ _. read_needs names first) (after (token (is_word (codes "bars"))) λ _. read_bars names first)
 
@@ -63,7 +63,7 @@ read_claim names claims =
     after (token (is_word (codes "claim"))) λ _.
     after (new_name (claim_names claims)) λ n.
     after (token is_colon) λ _.
-    after (read_said names) λ claim.
+    after (read_kind names) λ claim.
     after (token is_semicolon) λ _.
     give (claims ++ record { name = n; claim = claim } ∷ [])
 

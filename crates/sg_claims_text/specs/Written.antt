@@ -11,13 +11,13 @@ since_text g word [] = []
 since_text g word (l ∷ ls) = word ++ walk_text g (l ∷ ls)
 
 -- what a claim says
-abbrev pub said_text : Graph → ClaimKind → (later earlier since : List ℕ) → List ℕ
-said_text g Needs later earlier since = walk_text g later ++ codes " needs" ++ walk_text g earlier ++ since_text g (codes " since") since
-said_text g Bars later earlier since = walk_text g earlier ++ codes " bars" ++ walk_text g later ++ since_text g (codes " until") since
+abbrev pub kind_text : Graph → ClaimKind → (later earlier since : List ℕ) → List ℕ
+kind_text g Needs later earlier since = walk_text g later ++ codes " needs" ++ walk_text g earlier ++ since_text g (codes " since") since
+kind_text g Bars later earlier since = walk_text g earlier ++ codes " bars" ++ walk_text g later ++ since_text g (codes " until") since
 
 -- the statement of a claim
 abbrev pub claim_line : Graph → NamedClaim → List ℕ
-claim_line g c = ended (codes "claim " ++ c.name ++ codes ":" ++ said_text g c.claim.kind c.claim.later c.claim.earlier c.claim.since)
+claim_line g c = ended (codes "claim " ++ c.name ++ codes ":" ++ kind_text g c.claim.kind c.claim.later c.claim.earlier c.claim.since)
 
 -- the text
 abbrev pub written : Graph → List NamedClaim → List ℕ

@@ -1,7 +1,7 @@
 //! The statements of claims.
 ghost use Rattle.std.specs.Prelude.{◌≡◌, IfOk, false};
 ghost use Rattle.sg_claims_text.specs.Grammar.{claim_names};
-ghost use Rattle.sg_claims_text.specs.Reading.{read_bars, read_claim, read_needs, read_said};
+ghost use Rattle.sg_claims_text.specs.Reading.{read_bars, read_claim, read_needs, read_kind};
 ghost use Rattle.sg_model.specs.Lists.{has_text};
 ghost use Rattle.sg_parse.specs.Owed.{Reads, ReadsInto};
 ghost use Rattle.sg_parse.specs.Reading.{new_name};
@@ -26,7 +26,7 @@ pub fn read_claim(
     scanner.word(b"claim")?;
     let name = new_claim(scanner, claims)?;
     scanner.colon()?;
-    let claim = read_said(alloc, scanner, names)?;
+    let claim = read_kind(alloc, scanner, names)?;
     scanner.semicolon()?;
     match claims.push(NamedClaim { name, claim }) {
         Ok(()) => Ok(()),
@@ -47,8 +47,8 @@ fn new_claim(scanner: &mut Scanner, claims: &ClaimList) -> Result<Name, ParseFau
 }
 
 // What a claim says.
-fn read_said(alloc: Global, scanner: &mut Scanner, names: &LabelNames) -> Result<Claim, ParseFault>
-    ensures { Reads (read_said names.now) scanner.old scanner.new result }
+fn read_kind(alloc: Global, scanner: &mut Scanner, names: &LabelNames) -> Result<Claim, ParseFault>
+    ensures { Reads (read_kind names.now) scanner.old scanner.new result }
 {
     let first = some_labels(alloc, scanner, names)?;
     if scanner.at_word(b"needs") {

@@ -4,7 +4,7 @@ ghost use Rattle.sg_claims.specs.Suggestions.{AreSuggested};
 ghost use Rattle.sg_claims.specs.declared.claim.NamedClaim as Seen;
 ghost use Rattle.sg_claims_text.specs.Grammar.{IsClaim, SpellsClaims, claim_names, most_claims};
 ghost use Rattle.sg_claims_text.specs.Reading.{read};
-ghost use Rattle.sg_claims_text.specs.Written.{claim_line, said_text, since_text, written};
+ghost use Rattle.sg_claims_text.specs.Written.{claim_line, kind_text, since_text, written};
 ghost use Rattle.sg_graph.specs.Parts.{edge_names};
 ghost use Rattle.sg_protocol.specs.Graph.{AreNames, Graph as GraphValue, IsGraph, ended};
 
@@ -50,12 +50,12 @@ fn put_claim(out: &mut ByteOut, graph: &Graph, claim: &NamedClaim) -> Result<(),
     out.bytes(b"claim ")?;
     out.bytes(claim.name.as_bytes())?;
     out.bytes(b":")?;
-    put_said(out, graph, &claim.claim)?;
+    put_kind(out, graph, &claim.claim)?;
     put_end(out)
 }
 
-fn put_said(out: &mut ByteOut, graph: &Graph, claim: &Claim) -> Result<(), OutOfMemory>
-    ensures { OnOk result (out.new ≡ out.old ++ said_text graph.now claim.now.kind claim.now.later claim.now.earlier claim.now.since) }
+fn put_kind(out: &mut ByteOut, graph: &Graph, claim: &Claim) -> Result<(), OutOfMemory>
+    ensures { OnOk result (out.new ≡ out.old ++ kind_text graph.now claim.now.kind claim.now.later claim.now.earlier claim.now.since) }
 {
     let later = claim.later.as_slice();
     let earlier = claim.earlier.as_slice();

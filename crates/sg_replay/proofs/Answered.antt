@@ -38,6 +38,6 @@ walk_of_yes g logs known (Clash time) walk h e = let no : ⊥ = cc in absurd no
 walk_of_yes g logs known No walk h e = let no : ⊥ = cc in absurd no
 
 -- what is said, and then the walk
-pub said_and_walk : {A E : Type 0} (r : Result A E) (old one new said line other : List ℕ) → one ≡ old ++ said → line ≡ other → OnOk r (new ≡ one ++ line) → OnOk r (new ≡ old ++ (said ++ other))
-said_and_walk (Ok x) old one new said line other e f h = h ∙ ap (λ l. l ++ line) e ∙ append_assoc old said line ∙ ap (λ l. old ++ (said ++ l)) f
-said_and_walk (Err x) old one new said line other e f h = tt
+pub reply_and_walk : {A E : Type 0} (r : Result A E) (old one new reply line other : List ℕ) → one ≡ old ++ reply → line ≡ other → OnOk r (new ≡ one ++ line) → OnOk r (new ≡ old ++ (reply ++ other))
+reply_and_walk (Ok x) old one new reply line other e f h = h ∙ ap (λ l. l ++ line) e ∙ append_assoc old reply line ∙ ap (λ l. old ++ (reply ++ l)) f
+reply_and_walk (Err x) old one new reply line other e f h = tt

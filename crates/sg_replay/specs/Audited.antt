@@ -18,22 +18,22 @@ abbrev pub has_log : Session → ℕ → Bool
 has_log s r = is_in r (roles_of s.logs)
 
 -- what is said of a session
-abbrev pub said_text : Name → List ℕ → List ℕ
-said_text name said = codes "audit " ++ name ++ said
+abbrev pub reply_text : Name → List ℕ → List ℕ
+reply_text name reply = codes "audit " ++ name ++ reply
 
 -- two logs claim this time
 abbrev pub clash_text : Name → ℕ → List ℕ
-clash_text name time = said_text name (codes " clash at time ") ++ decimal time ++ 10 ∷ []
+clash_text name time = reply_text name (codes " clash at time ") ++ decimal time ++ 10 ∷ []
 
 -- the logs agree with this walk, which is written as in a report, with * before the steps of roles that have no log
 abbrev pub yes_text : Graph → Session → List StoredStep → List ℕ
-yes_text g s steps = said_text s.name (codes " yes\n") ++ walk_line s.name g (has_log s) steps
+yes_text g s steps = reply_text s.name (codes " yes\n") ++ walk_line s.name g (has_log s) steps
 
 -- the lines of an answer
 abbrev pub answer_text : Graph → Session → Audit → List ℕ
 answer_text g s (Yes walk) = yes_text g s (steps_of walk)
 answer_text g s (Clash time) = clash_text s.name time
-answer_text g s No = said_text s.name (codes " no\n")
+answer_text g s No = reply_text s.name (codes " no\n")
 
 -- the text is the lines of the answer for the session
 pub record Answered (g : Graph) (s : Session) (text : List ℕ) : Type 0 where

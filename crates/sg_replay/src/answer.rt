@@ -6,7 +6,7 @@ ghost use Rattle.sg_audit.specs.Model.{logs_of, reported_of};
 ghost use Rattle.sg_audit.specs.TakingLines.{session_of};
 ghost use Rattle.sg_protocol.specs.Walk.{IsStoredWalk};
 ghost use Rattle.sg_walk.specs.Model.{steps_of};
-ghost use Rattle.sg_replay.specs.Audited.{AllAnswered, Answered, answer_text, clash_text, said_text, yes_text};
+ghost use Rattle.sg_replay.specs.Audited.{AllAnswered, Answered, answer_text, clash_text, reply_text, yes_text};
 
 use sg_audit::{Audit, SessionLog, audit, roles_of};
 use sg_base::{ByteOut, Name, OutOfMemory, Time};
@@ -60,7 +60,7 @@ fn put_answer(
     match answer {
         Audit::Yes(walk) => put_yes(out, graph, session, walk),
         Audit::Clash { time } => put_clash(out, &session.name, *time),
-        Audit::No => put_said(out, &session.name, b" no\n"),
+        Audit::No => put_reply(out, &session.name, b" no\n"),
     }
 }
 
@@ -78,24 +78,24 @@ fn put_yes(
     // What the type says of a graph: there are at most 16 roles, and its edges have its variables.
     let _roles = graph.roles();
     let honest = roles_of(session.logs.as_slice());
-    put_said(out, &session.name, b" yes\n")?;
+    put_reply(out, &session.name, b" yes\n")?;
     put_walk(out, session.name.as_bytes(), graph, honest, walk)
 }
 
 // Writes what is said of the session of this name.
-fn put_said(out: &mut ByteOut, name: &Name, said: &[u8]) -> Result<(), OutOfMemory>
-    ensures { OnOk result (out.new ≡ out.old ++ said_text name.now said.now) }
+fn put_reply(out: &mut ByteOut, name: &Name, reply: &[u8]) -> Result<(), OutOfMemory>
+    ensures { OnOk result (out.new ≡ out.old ++ reply_text name.now reply.now) }
 {
     out.bytes(b"audit ")?;
     out.bytes(name.as_bytes())?;
-    out.bytes(said)
+    out.bytes(reply)
 }
 
 // Writes at which time the logs clash.
 fn put_clash(out: &mut ByteOut, name: &Name, time: Time) -> Result<(), OutOfMemory>
     ensures { OnOk result (out.new ≡ out.old ++ clash_text name.now time) }
 {
-    put_said(out, name, b" clash at time ")?;
+    put_reply(out, name, b" clash at time ")?;
     out.decimal(time.0 as u64)?;
     out.bytes(b"\n")
 }

@@ -191,14 +191,14 @@ ending e j know items = after opened λ openings. λ ws. option_map (λ seal. Ma
 record Sealed (e : Ends) (j : Option CraftJoin) (know : List Committed) (items : List ItemContent) (openings : List Committed) (ws : WordsLeft) (s : LineContent) : Type 0 where
   pub seal : TagSource
   pub is : SealIs ws seal
-  pub said : Some (MakeLine (made e j know items openings seal)) ≡ Some s
+  pub statement : Some (MakeLine (made e j know items openings seal)) ≡ Some s
 
 sealed : (e : Ends) (j : Option CraftJoin) (know : List Committed) (items : List ItemContent) (openings : List Committed) (ws : WordsLeft) (s : LineContent) → option_map (λ seal. MakeLine (made e j know items openings seal)) (seal_form ws) ≡ Some s → Sealed e j know items openings ws s
 sealed e j know items openings ws s h = by (seal_form ws) refl h
   where
     by : (o : Option TagSource) → seal_form ws ≡ o → option_map (λ seal. MakeLine (made e j know items openings seal)) o ≡ Some s → Sealed e j know items openings ws s
     by None q h = none_some h
-    by (Some seal) q h = record { seal = seal; is = seal_is ws seal q; said = h }
+    by (Some seal) q h = record { seal = seal; is = seal_is ws seal q; statement = h }
 
 some_there : (items : List ItemContent) (next : WordsLeft → Option LineContent) (ws : WordsLeft) (s : LineContent) → some_items items next ws ≡ Some s → (nat_le 1 (length items) ≡ true) × (next ws ≡ Some s)
 some_there [] next ws s h = none_some h
@@ -223,4 +223,4 @@ craft_sound ws s h =
     kc.words ∙ ap (λ (r : WordsLeft). list_words (codes "know") c.value ++ r) (id.words ∙ ap (λ (r : WordsLeft). flat_map item_words d.value ++ r) (of.words ∙ ap (λ (r : WordsLeft). list_words (codes "open") f.value ++ r) g.is.words)) in
     fits {s = MakeLine (made a.value b.value c.value d.value f.value g.seal)}
     (ap (λ (r : WordsLeft). codes "craft" ∷ r) (ea.words ∙ ap (λ (r : WordsLeft). ends_print a.value ++ r) (jb.words ∙ ap (λ (r : WordsLeft). join_words b.value ++ r) tail)))
-    (both (both (both (both (both (both (both ea.form jb.form) kc.form) n.0) (le-leb (length d.value) 65535 id.few)) id.form) of.form) g.is.form) g.said
+    (both (both (both (both (both (both (both ea.form jb.form) kc.form) n.0) (le-leb (length d.value) 65535 id.few)) id.form) of.form) g.is.form) g.statement

@@ -20,10 +20,10 @@ record Gives (who : Name) (ws : WordsLeft) (s : LineContent) : Type 0 where
   pub what : Delivered
   pub words : ws ≡ delivered_words what
   pub form : is_delivered what ≡ true
-  pub said : DeliverLine who what ≡ s
+  pub statement : DeliverLine who what ≡ s
 
 gives : {who : Name} {ws : WordsLeft} {s : LineContent} (what : Delivered) → ws ≡ delivered_words what → is_delivered what ≡ true → Some (DeliverLine who what) ≡ Some s → Gives who ws s
-gives what w f h = record { what = what; words = w; form = f; said = some_same h }
+gives what w f h = record { what = what; words = w; form = f; statement = some_same h }
 
 -- flip I and cut I
 change_is : (who : Name) (n : ℕ) (make : ℕ → Delivered) (w mark : Word) (ws : WordsLeft) (s : LineContent) → ((i : ℕ) → frame_word n ∷ mark ∷ decimal i ∷ [] ≡ delivered_words (make i)) → ((i : ℕ) → is_short i ≡ true → is_delivered (make i) ≡ true) → w ≡ mark
@@ -80,7 +80,7 @@ deliver_sound ws s h =
     let a = step name what_form ws s h in
     let n = name_is a.first a.value a.was in
     let g = what_gives a.value a.rest s a.more in
-    fits {s = DeliverLine a.value g.what} (ap (λ r. codes "deliver" ∷ r) (line_up a.all n.same g.words)) (both n.name g.form) (ap Some g.said)
+    fits {s = DeliverLine a.value g.what} (ap (λ r. codes "deliver" ∷ r) (line_up a.all n.same g.words)) (both n.name g.form) (ap Some g.statement)
 
 -- ---- nothing is left out
 

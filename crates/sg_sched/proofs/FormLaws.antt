@@ -43,9 +43,9 @@ step {A} {B} read next (w ∷ ws) y h = by (read w) refl h
     by (Some x) e h = record { first = w; value = x; rest = ws; all = refl; was = e; more = h }
 
 -- no word was left
-pub ended_is : {A : Type 0} (said : Option A) (ws : WordsLeft) (y : A) → ended said ws ≡ Some y → (ws ≡ []) × (said ≡ Some y)
-ended_is said [] y h = (refl, h)
-ended_is said (w ∷ ws) y h = let some : (length (w ∷ ws) == 0) ≡ false = grind (arith, common_steps) in none_some (sym (ap (λ b. if b then said else None) some) ∙ h)
+pub ended_is : {A : Type 0} (statement : Option A) (ws : WordsLeft) (y : A) → ended statement ws ≡ Some y → (ws ≡ []) × (statement ≡ Some y)
+ended_is statement [] y h = (refl, h)
+ended_is statement (w ∷ ws) y h = let some : (length (w ∷ ws) == 0) ≡ false = grind (arith, common_steps) in none_some (sym (ap (λ b. if b then statement else None) some) ∙ h)
 
 -- the words, one more in front
 pub line_up : {w x : Word} {ws rest others : WordsLeft} → ws ≡ w ∷ rest → w ≡ x → rest ≡ others → ws ≡ x ∷ others

@@ -66,16 +66,16 @@ ok_err p q = differ (sym p ∙ q)
 -- lines that add items are not wrong
 pub add_or_wrong : (before : List Item) (more these rest rest' : List Line) (new : List Item) (kind : Kind) → Add before more new → IsWrong before these rest' kind → more ++ rest ≡ these ++ rest' → ⊥
 add_or_wrong before _ _ rest rest' _ kind (Skip {line = l} s) (OfNoForm {line = m} no_skip none) e = contradicts s (ap is_skipped (head_same e) ∙ no_skip)
-add_or_wrong before _ _ rest rest' _ kind (Say {line = l} {said = t} says right makes) (OfNoForm {line = m} no_skip none) e = none t (subst (λ l. SaysLine l t) (head_same e) says)
+add_or_wrong before _ _ rest rest' _ kind (Say {line = l} {statement = t} says right makes) (OfNoForm {line = m} no_skip none) e = none t (subst (λ l. SaysLine l t) (head_same e) says)
 add_or_wrong before more _ rest rest' _ kind (Show {text = text} b spells fresh) (OfNoForm {line = m} no_skip none) e =
     none BlockLine (subst (λ l. SaysLine l BlockLine) (head_same (sym (laid before more rest text b) ∙ e)) b.opened.opens)
-add_or_wrong before _ _ rest rest' _ kind (Skip {line = l} s) (OfAForm {line = m} {said = t} says wrong) e = not_skipped m t says (subst (λ l. is_skipped l ≡ true) (head_same e) s)
-add_or_wrong before _ _ rest rest' _ kind (Say {line = l} {said = s} says right makes) (OfAForm {line = m} {said = t} says' wrong) e =
+add_or_wrong before _ _ rest rest' _ kind (Skip {line = l} s) (OfAForm {line = m} {statement = t} says wrong) e = not_skipped m t says (subst (λ l. is_skipped l ≡ true) (head_same e) s)
+add_or_wrong before _ _ rest rest' _ kind (Say {line = l} {statement = s} says right makes) (OfAForm {line = m} {statement = t} says' wrong) e =
     no_fault wrong (ap (fault before) (sym (says_one m s t (subst (λ l. SaysLine l s) (head_same e) says) says')) ∙ right)
-add_or_wrong before more _ rest rest' _ kind (Show {text = text} b spells fresh) (OfAForm {line = m} {said = t} says' wrong) e =
+add_or_wrong before more _ rest rest' _ kind (Show {text = text} b spells fresh) (OfAForm {line = m} {statement = t} says' wrong) e =
     no_fault wrong (ap (fault before) (sym (says_one m BlockLine t (subst (λ l. SaysLine l BlockLine) (head_same (sym (laid before more rest text b) ∙ e)) b.opened.opens) says')) ∙ b.opened.in_group)
 add_or_wrong before _ _ rest _ _ _ (Skip {line = l} s) (NotClosed {opening = o} {inner = i} op) e = not_skipped o BlockLine op.opens (subst (λ l. is_skipped l ≡ true) (head_same e) s)
-add_or_wrong before _ _ rest _ _ _ (Say {line = l} {said = s} says right makes) (NotClosed {opening = o} {inner = i} op) e =
+add_or_wrong before _ _ rest _ _ _ (Say {line = l} {statement = s} says right makes) (NotClosed {opening = o} {inner = i} op) e =
     none_some (ap (made before) (sym (says_one o s BlockLine (subst (λ l. SaysLine l s) (head_same e) says) op.opens)) ∙ makes)
   where
     none_some : {i : Item} → None ≡ Some i → ⊥
@@ -83,11 +83,11 @@ add_or_wrong before _ _ rest _ _ _ (Say {line = l} {said = s} says right makes) 
 add_or_wrong before more _ rest _ _ _ (Show {text = text} b spells fresh) (NotClosed {opening = o} {inner = i} op) e =
     never_closed i b.inner b.closing rest op.open_yet b.closed (sym (append-nil i) ∙ sym (tail_same (sym (laid before more rest text b) ∙ e)))
 add_or_wrong before _ these rest rest' _ _ (Skip {line = l} s) (NoGraph {text = text} b bad) e = skip_or_show before l these rest rest' text s b e
-add_or_wrong before _ these rest rest' _ _ (Say {line = l} {said = s} {item = i} says right makes) (NoGraph {text = text} b bad) e = say_or_show before l s i these rest rest' text says makes b e
+add_or_wrong before _ these rest rest' _ _ (Say {line = l} {statement = s} {item = i} says right makes) (NoGraph {text = text} b bad) e = say_or_show before l s i these rest rest' text says makes b e
 add_or_wrong before more these rest rest' _ _ (Show {text = t} {g = g} b spells fresh) (NoGraph {text = t'} b' bad) e =
     ok_err (spells-read t g spells) (ap read (one_text before more these rest rest' t t' b b' e) ∙ bad)
 add_or_wrong before _ these rest rest' _ _ (Skip {line = l} s) (SameGraph {text = text} b spells same) e = skip_or_show before l these rest rest' text s b e
-add_or_wrong before _ these rest rest' _ _ (Say {line = l} {said = s} {item = i} says right makes) (SameGraph {text = text} b spells same) e = say_or_show before l s i these rest rest' text says makes b e
+add_or_wrong before _ these rest rest' _ _ (Say {line = l} {statement = s} {item = i} says right makes) (SameGraph {text = text} b spells same) e = say_or_show before l s i these rest rest' text says makes b e
 add_or_wrong before more these rest rest' _ _ (Show {text = t} {g = g} b spells fresh) (SameGraph {text = t'} {g = g'} b' spells' same) e =
     let graphs_same : g ≡ g' = ok_same g g' (read t) (spells-read t g spells) (ap read (one_text before more these rest rest' t t' b b' e) ∙ spells-read t' g' spells') in
     contradicts (block_among before g'.name same) (ap (λ (h : Graph). has_text h.name (graph_names (graphs before))) (sym graphs_same) ∙ fresh)

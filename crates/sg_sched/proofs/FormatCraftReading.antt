@@ -48,11 +48,11 @@ digits_lack (c ∷ cs) d = both (by (c == 35) refl) (digits_lack cs d.1)
     by true e = let same : c ≡ 35 = eqb-true c 35 e in absurd (omega (arith, digit_from_value c d.0))
 
 -- the word as VAR=VALUE#K
-abbrev pub committed_said : Word → Option Committed
-committed_said w = option_and_then (λ (p : Word × Word). option_and_then (λ (q : Word × Word).
+abbrev pub committed_statement : Word → Option Committed
+committed_statement w = option_and_then (λ (p : Word × Word). option_and_then (λ (q : Word × Word).
     option_map (λ k. record { variable = p.0; value = q.0; step = k }) (number_word q.1)) (hash_split p.1)) (equal_split w)
 
-pub committed_complete : (c : Committed) → is_committed c ≡ true → committed_said (committed_word c) ≡ Some c
+pub committed_complete : (c : Committed) → is_committed c ≡ true → committed_statement (committed_word c) ≡ Some c
 committed_complete c h =
     let names = and_left (is_name c.variable) (is_value c.value) (and_left (is_name c.variable && is_value c.value) (is_wide c.step) h) in
     let small = wide c.step (and_right (is_name c.variable && is_value c.value) (is_wide c.step) h) in
@@ -70,7 +70,7 @@ run_step w ws (Some c) r = (c ∷ r.0, r.1)
 -- the commitments that stand first, and the words behind them
 abbrev pub run : List Word → List Committed × List Word
 run [] = ([], [])
-run (w ∷ ws) = run_step w ws (committed_said w) (run ws)
+run (w ∷ ws) = run_step w ws (committed_statement w) (run ws)
 
 pub run_complete : (cs : List Committed) (rest : List Word) → list_all is_committed cs ≡ true → run rest ≡ ([], rest) → run (map committed_word cs ++ rest) ≡ (cs, rest)
 run_complete [] rest h e = e
@@ -79,9 +79,9 @@ run_complete (c ∷ cs) rest h e = rw (committed_complete c (and_left (is_commit
 -- ---- SOURCE
 
 -- copy fN I ROLE, from behind I
-abbrev pub copy_said : ℕ → Word → List Word → Option (TagSource × List Word)
-copy_said n i [] = None
-copy_said n i (r ∷ ws) = option_map (λ k. (FromItem n k r, ws)) (number_word i)
+abbrev pub copy_statement : ℕ → Word → List Word → Option (TagSource × List Word)
+copy_statement n i [] = None
+copy_statement n i (r ∷ ws) = option_map (λ k. (FromItem n k r, ws)) (number_word i)
 
 -- a source, from behind its first word
 abbrev pub key_from : List Word → Option (TagSource × List Word)
@@ -90,13 +90,13 @@ key_from other = None
 
 -- copy, from behind it
 abbrev pub copy_from : List Word → Option (TagSource × List Word)
-copy_from (f ∷ x ∷ ws) = option_and_then (λ n. if bytes_eq x (codes "seal") then Some (FromSeal n, ws) else copy_said n x ws) (frame_number f)
+copy_from (f ∷ x ∷ ws) = option_and_then (λ n. if bytes_eq x (codes "seal") then Some (FromSeal n, ws) else copy_statement n x ws) (frame_number f)
 copy_from other = None
 
 -- a source and the words behind it
-abbrev pub source_said : List Word → Option (TagSource × List Word)
-source_said [] = None
-source_said (w ∷ ws) = if bytes_eq w (codes "zero") then Some (FromZero, ws) else if bytes_eq w (codes "key") then key_from ws
+abbrev pub source_statement : List Word → Option (TagSource × List Word)
+source_statement [] = None
+source_statement (w ∷ ws) = if bytes_eq w (codes "zero") then Some (FromZero, ws) else if bytes_eq w (codes "key") then key_from ws
     else if bytes_eq w (codes "copy") then copy_from ws else None
 
 pub digits_no_seal : (w : Word) → AllDigits 10 w → bytes_eq w (codes "seal") ≡ false
@@ -107,7 +107,7 @@ digits_no_seal (c ∷ cs) d = by (c == 115) refl
     by false e = rw e
     by true e = let same : c ≡ 115 = eqb-true c 115 e in absurd (omega (arith, digit_from_value c d.0))
 
-pub source_complete : (s : TagSource) (rest : List Word) → is_source s ≡ true → source_said (from_words s ++ rest) ≡ Some (s, rest)
+pub source_complete : (s : TagSource) (rest : List Word) → is_source s ≡ true → source_statement (from_words s ++ rest) ≡ Some (s, rest)
 source_complete FromZero rest h = refl
 source_complete (FromKey one two) rest h = refl
 source_complete (FromSeal n) rest h = rw (number_decimal n (frame_is_wide n h))
@@ -121,16 +121,16 @@ source_complete (FromItem n i role) rest h =
 -- a role, its source and the tags that follow
 abbrev pub tag_then : (List Word → Option (List (Name × TagSource) × List Word)) → List Word → Option (List (Name × TagSource) × List Word)
 tag_then more [] = None
-tag_then more (r ∷ ws) = option_and_then (λ (p : TagSource × List Word). option_map (λ (q : List (Name × TagSource) × List Word). ((r, p.0) ∷ q.0, q.1)) (more p.1)) (source_said ws)
+tag_then more (r ∷ ws) = option_and_then (λ (p : TagSource × List Word). option_map (λ (q : List (Name × TagSource) × List Word). ((r, p.0) ∷ q.0, q.1)) (more p.1)) (source_statement ws)
 
 -- up to n tags, and the words behind them
-abbrev pub tags_said : ℕ → List Word → Option (List (Name × TagSource) × List Word)
-tags_said zero ws = Some ([], ws)
-tags_said (suc n) [] = Some ([], [])
-tags_said (suc n) (w ∷ ws) = if bytes_eq w (codes "tag") then tag_then (tags_said n) ws else Some ([], w ∷ ws)
+abbrev pub tags_statement : ℕ → List Word → Option (List (Name × TagSource) × List Word)
+tags_statement zero ws = Some ([], ws)
+tags_statement (suc n) [] = Some ([], [])
+tags_statement (suc n) (w ∷ ws) = if bytes_eq w (codes "tag") then tag_then (tags_statement n) ws else Some ([], w ∷ ws)
 
-pub tags_complete : (n : ℕ) (ts : List (Name × TagSource)) (rest : List Word) → length ts ≤ n → list_all is_tag ts ≡ true → ((m : ℕ) → tags_said m rest ≡ Some ([], rest))
-    → tags_said n (flat_map tag_words ts ++ rest) ≡ Some (ts, rest)
+pub tags_complete : (n : ℕ) (ts : List (Name × TagSource)) (rest : List Word) → length ts ≤ n → list_all is_tag ts ≡ true → ((m : ℕ) → tags_statement m rest ≡ Some ([], rest))
+    → tags_statement n (flat_map tag_words ts ++ rest) ≡ Some (ts, rest)
 tags_complete n [] rest l h e = e n
 tags_complete zero (t ∷ ts) rest l h e = absurd (omega arith)
 tags_complete (suc n) ((r, s) ∷ ts) rest l h e =

@@ -32,7 +32,7 @@ forged : Add alice_carl (codes "craft s1 from p to c item Offer 3 price=1#99 tag
       seal = Key (codes "alice") (codes "bob");
     })) ∷ [])
 unfolding on_literals
-forged = Say {said = MakeLine (record {
+forged = Say {statement = MakeLine (record {
   session = codes "s1";
   from = codes "p";
   to = codes "c";
@@ -57,7 +57,7 @@ copied : Add alice_carl (codes "craft s1 from p to w join item Order 1 q=\"tea\"
       seal = Key (codes "bob") (codes "carl");
     })) ∷ [])
 unfolding on_literals
-copied = Say {said = MakeLine (record {
+copied = Say {statement = MakeLine (record {
   session = codes "s1";
   from = codes "p";
   to = codes "w";
@@ -82,7 +82,7 @@ two_tags : Add (head_r (codes "ann" ∷ codes "bea" ∷ [])) (codes "craft s1 fr
       seal = Key (codes "ann") (codes "cat");
     })) ∷ [])
 unfolding on_literals
-two_tags = Say {said = MakeLine (record {
+two_tags = Say {statement = MakeLine (record {
   session = codes "s1";
   from = codes "c";
   to = codes "a";
@@ -107,7 +107,7 @@ three_items : Add (head_r (codes "ann" ∷ codes "bea" ∷ [])) (codes "craft s1
       seal = Key (codes "bea") (codes "dan");
     })) ∷ [])
 unfolding on_literals
-three_items = Say {said = MakeLine (record {
+three_items = Say {statement = MakeLine (record {
   session = codes "s1";
   from = codes "d";
   to = codes "b";
@@ -133,7 +133,7 @@ last_time : Add (head_p (codes "b" ∷ [])) (codes "craft s1 from a to b join it
       seal = Key (codes "a") (codes "b");
     })) ∷ [])
 unfolding on_literals
-last_time = Say {said = MakeLine (record {
+last_time = Say {statement = MakeLine (record {
   session = codes "s1";
   from = codes "a";
   to = codes "b";
@@ -157,7 +157,7 @@ other_cast : Add (head_p (codes "b" ∷ [])) (codes "craft s1 from a to b join n
       seal = Key (codes "a") (codes "b");
     })) ∷ [])
 unfolding on_literals
-other_cast = Say {said = MakeLine (record {
+other_cast = Say {statement = MakeLine (record {
   session = codes "s1";
   from = codes "a";
   to = codes "b";
@@ -181,7 +181,7 @@ known_first : Add alice_carl (codes "craft s1 from p to c know q=7#1 item Pass 4
       seal = CopySeal 2;
     })) ∷ [])
 unfolding on_literals
-known_first = Say {said = MakeLine (record {
+known_first = Say {statement = MakeLine (record {
   session = codes "s1";
   from = codes "p";
   to = codes "c";

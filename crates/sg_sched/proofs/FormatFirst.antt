@@ -29,8 +29,8 @@ third_line = AtIt (record {
   rest = codes "honest 9\n" ∷ [];
   items = _;
   all = refl;
-  declared = Next (Next Nothing (Say {line = codes "honest a\n"} {said = HonestLine (codes "a")} (record { spelled = refl; form = refl }) refl refl)) (Skip {line = codes "\n"} refl);
-  wrong = OfAForm {said = StartLine (codes "b") (codes "s1")} (record { spelled = refl; form = refl }) refl;
+  declared = Next (Next Nothing (Say {line = codes "honest a\n"} {statement = HonestLine (codes "a")} (record { spelled = refl; form = refl }) refl refl)) (Skip {line = codes "\n"} refl);
+  wrong = OfAForm {statement = StartLine (codes "b") (codes "s1")} (record { spelled = refl; form = refl }) refl;
   number = refl;
 })
 
@@ -143,7 +143,7 @@ pair_behind = AtEdge (record {
   from = 0;
   to = 1;
   is_edge = record { spelled = refl; form = refl };
-  declared_later = Next (Next Nothing (Skip {line = codes "# edges\n"} refl)) (Say {line = codes "edge L 0 1\n"} {said = EdgeLine (codes "L") 0 1} (record { spelled = refl; form = refl }) refl refl);
+  declared_later = Next (Next Nothing (Skip {line = codes "# edges\n"} refl)) (Say {line = codes "edge L 0 1\n"} {statement = EdgeLine (codes "L") 0 1} (record { spelled = refl; form = refl }) refl refl);
   is_block = record {
     opening = codes "graph {\n";
     inner = pair_text ∷ [];

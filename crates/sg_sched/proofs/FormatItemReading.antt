@@ -8,12 +8,12 @@ use Rattle.sg_model.proofs.Small.{and_left, and_right}
 use Rattle.sg_sched.specs.Format.LineContents.{Word, Committed, TagSource, ItemContent, committed_word, tag_words, item_words}
 use Rattle.sg_sched.specs.Format.Forms.{is_committed, are_committed, is_tag, is_item}
 use Rattle.sg_sched.proofs.FormatWords.{number_word, number_decimal, time_is_wide}
-use Rattle.sg_sched.proofs.FormatCraftReading.{committed_said, run, run_complete, tags_said, tags_complete}
+use Rattle.sg_sched.proofs.FormatCraftReading.{committed_statement, run, run_complete, tags_statement, tags_complete}
 
 -- an item with its tags, and the items that follow
 abbrev pub item_behind : (List Word → Option (List ItemContent × List Word)) → Name → ℕ → List Committed × List Word → Option (List ItemContent × List Word)
 item_behind more label time r = option_and_then (λ (ts : List (Name × TagSource) × List Word). option_map (λ (is : List ItemContent × List Word).
-    (record { label = label; time = time; delta = r.0; tags = ts.0 } ∷ is.0, is.1)) (more ts.1)) (tags_said 14 r.1)
+    (record { label = label; time = time; delta = r.0; tags = ts.0 } ∷ is.0, is.1)) (more ts.1)) (tags_statement 14 r.1)
 
 -- LABEL TIME and what follows
 abbrev pub item_then : (List Word → Option (List ItemContent × List Word)) → List Word → Option (List ItemContent × List Word)
@@ -21,14 +21,14 @@ item_then more (label ∷ t ∷ ws) = option_and_then (λ time. item_behind more
 item_then more other = None
 
 -- up to n items, and the words behind them
-abbrev pub items_said : ℕ → List Word → Option (List ItemContent × List Word)
-items_said zero ws = Some ([], ws)
-items_said (suc n) [] = Some ([], [])
-items_said (suc n) (w ∷ ws) = if bytes_eq w (codes "item") then item_then (items_said n) ws else Some ([], w ∷ ws)
+abbrev pub items_statement : ℕ → List Word → Option (List ItemContent × List Word)
+items_statement zero ws = Some ([], ws)
+items_statement (suc n) [] = Some ([], [])
+items_statement (suc n) (w ∷ ws) = if bytes_eq w (codes "item") then item_then (items_statement n) ws else Some ([], w ∷ ws)
 
 -- no commitment, no tag and no item begins with this word
 pub record Stops (k : Word) : Type 0 where
-  pub no_commitment : committed_said k ≡ None
+  pub no_commitment : committed_statement k ≡ None
   pub no_tag : bytes_eq k (codes "tag") ≡ false
   pub no_item : bytes_eq k (codes "item") ≡ false
 
@@ -40,7 +40,7 @@ run_items : (is : List ItemContent) (k : Word) (ks : List Word) → Stops k → 
 run_items [] k ks e = rw e.no_commitment
 run_items (i ∷ is) k ks e = refl
 
-tags_items : (is : List ItemContent) (k : Word) (ks : List Word) → Stops k → (m : ℕ) → tags_said m (flat_map item_words is ++ k ∷ ks) ≡ Some ([], flat_map item_words is ++ k ∷ ks)
+tags_items : (is : List ItemContent) (k : Word) (ks : List Word) → Stops k → (m : ℕ) → tags_statement m (flat_map item_words is ++ k ∷ ks) ≡ Some ([], flat_map item_words is ++ k ∷ ks)
 tags_items is k ks e zero = refl
 tags_items [] k ks e (suc m) = rw e.no_tag
 tags_items (i ∷ is) k ks e (suc m) = refl
@@ -63,7 +63,7 @@ item_facts i h =
     record { time = time_is_wide i.time time; delta = and_right (nat_le (length i.delta) 32) (list_all is_committed i.delta) delta; count = leb-true (length i.tags) 14 count; tags = tags }
 
 pub items_complete : (n : ℕ) (is : List ItemContent) (k : Word) (ks : List Word) → length is ≤ n → list_all is_item is ≡ true → Stops k
-    → items_said n (flat_map item_words is ++ k ∷ ks) ≡ Some (is, k ∷ ks)
+    → items_statement n (flat_map item_words is ++ k ∷ ks) ≡ Some (is, k ∷ ks)
 items_complete zero [] k ks l h e = refl
 items_complete (suc n) [] k ks l h e = rw e.no_item
 items_complete zero (i ∷ is) k ks l h e = absurd (omega arith)

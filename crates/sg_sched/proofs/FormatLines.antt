@@ -97,33 +97,33 @@ late_comment = refl
 
 edge_line : Add [] (codes "edge Request 0 1\r\n" ∷ []) (EdgeItem (edge (codes "Request") 0 1) ∷ [])
 unfolding on_literals
-edge_line = Say {said = EdgeLine (codes "Request") 0 1} (record { spelled = refl; form = refl }) refl refl
+edge_line = Say {statement = EdgeLine (codes "Request") 0 1} (record { spelled = refl; form = refl }) refl refl
 
 block_line : SaysLine (codes "graph {\n") BlockLine
 block_line = record { spelled = refl; form = refl }
 
 honest_line : Add pair_items (codes "  honest   a\n" ∷ []) (HonestItem (codes "a") ∷ [])
-honest_line = Say {said = HonestLine (codes "a")} (record { spelled = refl; form = refl }) refl refl
+honest_line = Say {statement = HonestLine (codes "a")} (record { spelled = refl; form = refl }) refl refl
 
 key_line : Add pair_items ((codes "key a b " ++ sixty_four 49) ∷ []) (key_item (codes "a") (codes "b") 17 ∷ [])
 unfolding on_literals
-key_line = Say {said = KeyLine (codes "a") (codes "b") (sixty_four 49)} (record { spelled = refl; form = refl }) refl refl
+key_line = Say {statement = KeyLine (codes "a") (codes "b") (sixty_four 49)} (record { spelled = refl; form = refl }) refl refl
 
 upper_key : Add pair_items ((codes "key a b " ++ sixty_four 65) ∷ []) (key_item (codes "a") (codes "b") 170 ∷ [])
 unfolding on_literals
-upper_key = Say {said = KeyLine (codes "a") (codes "b") (sixty_four 65)} (record { spelled = refl; form = refl }) refl refl
+upper_key = Say {statement = KeyLine (codes "a") (codes "b") (sixty_four 65)} (record { spelled = refl; form = refl }) refl refl
 
 session_line : Add pair_items (codes "session s1 pair 1 a,b\n" ∷ []) (session_item (codes "s1") 1 (codes "a" ∷ codes "b" ∷ []) ∷ [])
 unfolding on_literals
-session_line = Say {said = SessionLine (codes "s1") (codes "pair") 1 (codes "a" ∷ codes "b" ∷ []) 1} (record { spelled = refl; form = refl }) refl refl
+session_line = Say {statement = SessionLine (codes "s1") (codes "pair") 1 (codes "a" ∷ codes "b" ∷ []) 1} (record { spelled = refl; form = refl }) refl refl
 
 session_v2 : Add (head_p []) (codes "session s2 pair 1 a,b v2\n" ∷ []) (SessionItem (record { name = codes "s2"; graph = 0; nonce = 1; names = codes "a" ∷ codes "b" ∷ []; version = 2 }) ∷ [])
 unfolding on_literals
-session_v2 = Say {said = SessionLine (codes "s2") (codes "pair") 1 (codes "a" ∷ codes "b" ∷ []) 2} (record { spelled = refl; form = refl }) refl refl
+session_v2 = Say {statement = SessionLine (codes "s2") (codes "pair") 1 (codes "a" ∷ codes "b" ∷ []) 2} (record { spelled = refl; form = refl }) refl refl
 
 last_nonce : Add (head_p []) (codes "session s2 pair 18446744073709551615 a,b" ∷ []) (session_item (codes "s2") 18446744073709551615 (codes "a" ∷ codes "b" ∷ []) ∷ [])
 unfolding on_literals
-last_nonce = Say {said = SessionLine (codes "s2") (codes "pair") 18446744073709551615 (codes "a" ∷ codes "b" ∷ []) 1} (record { spelled = refl; form = refl }) refl refl
+last_nonce = Say {statement = SessionLine (codes "s2") (codes "pair") 18446744073709551615 (codes "a" ∷ codes "b" ∷ []) 1} (record { spelled = refl; form = refl }) refl refl
 
 -- ---- steps
 
@@ -131,32 +131,32 @@ both : List Item
 both = head_p (codes "a" ∷ codes "b" ∷ [])
 
 start_line : Add (head_p (codes "a" ∷ [])) (codes "start a s1\n" ∷ []) (StepItem (StartStep (codes "a") 0) ∷ [])
-start_line = Say {said = StartLine (codes "a") (codes "s1")} (record { spelled = refl; form = refl }) refl refl
+start_line = Say {statement = StartLine (codes "a") (codes "s1")} (record { spelled = refl; form = refl }) refl refl
 
 act_line : Add alice_carl (codes "act alice s1 Order q=\"tea\"\n" ∷ []) (StepItem (ActStep (codes "alice") 0 0 ((0, TextValue (codes "tea")) ∷ [])) ∷ [])
 unfolding on_literals
-act_line = Say {said = ActLine (codes "alice") (codes "s1") (codes "Order") (given (codes "q") (codes "\"tea\"") ∷ [])} (record { spelled = refl; form = refl }) refl refl
+act_line = Say {statement = ActLine (codes "alice") (codes "s1") (codes "Order") (given (codes "q") (codes "\"tea\"") ∷ [])} (record { spelled = refl; form = refl }) refl refl
 
 -- values in any order are handed on in rising number, of whichever type
 act_two : Add alice_carl (codes "act carl s1 Offer price=40 q=-5\n" ∷ []) (StepItem (ActStep (codes "carl") 0 2 ((0, IntValue (negsuc 4)) ∷ (1, IntValue (pos 40)) ∷ [])) ∷ [])
 unfolding on_literals
-act_two = Say {said = ActLine (codes "carl") (codes "s1") (codes "Offer") (given (codes "price") (codes "40") ∷ given (codes "q") (codes "-5") ∷ [])} (record { spelled = refl; form = refl }) refl refl
+act_two = Say {statement = ActLine (codes "carl") (codes "s1") (codes "Offer") (given (codes "price") (codes "40") ∷ given (codes "q") (codes "-5") ∷ [])} (record { spelled = refl; form = refl }) refl refl
 
 abandon_line : Add (head_p (codes "a" ∷ [])) (codes "abandon a s1\n" ∷ []) (StepItem (AbandonStep (codes "a") 0) ∷ [])
-abandon_line = Say {said = AbandonLine (codes "a") (codes "s1")} (record { spelled = refl; form = refl }) refl refl
+abandon_line = Say {statement = AbandonLine (codes "a") (codes "s1")} (record { spelled = refl; form = refl }) refl refl
 
 deliver_line : Add (head_p (codes "b" ∷ [])) (codes "deliver b f1\n" ∷ []) (StepItem (DeliverStep (codes "b") (Whole 1)) ∷ [])
 unfolding on_literals
-deliver_line = Say {said = DeliverLine (codes "b") (TheFrame 1)} (record { spelled = refl; form = refl }) refl refl
+deliver_line = Say {statement = DeliverLine (codes "b") (TheFrame 1)} (record { spelled = refl; form = refl }) refl refl
 
 flip_line : Add (head_p (codes "b" ∷ [])) (codes "deliver b f1 flip 0\n" ∷ []) (StepItem (DeliverStep (codes "b") (Flipped 1 0)) ∷ [])
 unfolding on_literals
-flip_line = Say {said = DeliverLine (codes "b") (TheFlipped 1 0)} (record { spelled = refl; form = refl }) refl refl
+flip_line = Say {statement = DeliverLine (codes "b") (TheFlipped 1 0)} (record { spelled = refl; form = refl }) refl refl
 
 cut_line : Add (head_p (codes "b" ∷ [])) (codes "deliver b f4294967295 cut 4294967295\n" ∷ []) (StepItem (DeliverStep (codes "b") (Cut 4294967295 4294967295)) ∷ [])
 unfolding on_literals
-cut_line = Say {said = DeliverLine (codes "b") (TheCut 4294967295 4294967295)} (record { spelled = refl; form = refl }) refl refl
+cut_line = Say {statement = DeliverLine (codes "b") (TheCut 4294967295 4294967295)} (record { spelled = refl; form = refl }) refl refl
 
 hex_line : Add (head_p (codes "b" ∷ [])) (codes "deliver b hex 5aFf\n" ∷ []) (StepItem (DeliverStep (codes "b") (Bytes (90 ∷ 255 ∷ []))) ∷ [])
 unfolding on_literals
-hex_line = Say {said = DeliverLine (codes "b") (TheBytes (codes "5aFf"))} (record { spelled = refl; form = refl }) refl refl
+hex_line = Say {statement = DeliverLine (codes "b") (TheBytes (codes "5aFf"))} (record { spelled = refl; form = refl }) refl refl

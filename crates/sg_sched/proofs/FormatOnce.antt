@@ -20,7 +20,7 @@ first_hash [] = false
 first_hash ([] ∷ ws) = false
 first_hash ((c ∷ cs) ∷ ws) = c == 35
 
-no_hash : (said : LineContent) → first_hash (line_words said) ≡ false
+no_hash : (statement : LineContent) → first_hash (line_words statement) ≡ false
 no_hash BlockLine = refl
 no_hash (EdgeLine label from to) = refl
 no_hash (HonestLine who) = refl
@@ -48,7 +48,7 @@ empty_is : (ws : List Word) → (length ws == 0) ≡ true → is_empty ws ≡ tr
 empty_is [] e = refl
 empty_is (w ∷ ws) e = absurd (contradicts e (suc_zero (length ws)))
 
-some_word : (said : LineContent) → is_empty (line_words said) ≡ false
+some_word : (statement : LineContent) → is_empty (line_words statement) ≡ false
 some_word BlockLine = refl
 some_word (EdgeLine label from to) = refl
 some_word (HonestLine who) = refl
@@ -68,8 +68,8 @@ hash_first (c ∷ cs) h = subst (λ (b : ℕ). first_hash (words (b ∷ cs)) ≡
     by [] = refl
     by (p ∷ ps) = rw (zero_less (length p))
 
-pub not_skipped : (line : Line) (said : LineContent) → SaysLine line said → is_skipped line ≡ true → ⊥
-not_skipped line said says skipped = by (is_comment (content line)) refl
+pub not_skipped : (line : Line) (statement : LineContent) → SaysLine line statement → is_skipped line ≡ true → ⊥
+not_skipped line statement says skipped = by (is_comment (content line)) refl
   where
     comment_or_blank : (is_comment (content line) || length (words (content line)) == 0) ≡ true
     comment_or_blank = and_right (list_all (λ b. nat_lt b 128) (content line)) (is_comment (content line) || length (words (content line)) == 0) skipped
@@ -79,8 +79,8 @@ not_skipped line said says skipped = by (is_comment (content line)) refl
     blank false b p q = p
 
     by : (b : Bool) → is_comment (content line) ≡ b → ⊥
-    by true e = contradicts (hash_first (content line) e) (ap first_hash says.spelled ∙ no_hash said)
-    by false e = contradicts (empty_is (words (content line)) (blank (is_comment (content line)) (length (words (content line)) == 0) comment_or_blank e)) (ap is_empty says.spelled ∙ some_word said)
+    by true e = contradicts (hash_first (content line) e) (ap first_hash says.spelled ∙ no_hash statement)
+    by false e = contradicts (empty_is (words (content line)) (blank (is_comment (content line)) (length (words (content line)) == 0) comment_or_blank e)) (ap is_empty says.spelled ∙ some_word statement)
 
 -- ---- a block ends at its first closing line
 

@@ -81,7 +81,7 @@ edge_then before all _ more line label from to Done says e = absurd (never e)
 edge_then before all _ more line label from to (More {rest = r} (Skip {line = l} s) f) says e = absurd (not_skipped line (EdgeLine label from to) says (subst (λ l. is_skipped l ≡ true) (head_same e) s))
 edge_then before all _ more line label from to (More {rest = r} (Show {block = block} {text = text} b spells fresh) f) says e =
     absurd (say_or_show before line (EdgeLine label from to) (EdgeItem (edge label from to)) block more r text says refl b (sym e))
-edge_then before all _ more line label from to (More {rest = r} (Say {line = l} {said = t} {item = i} says' right makes) f) says e =
+edge_then before all _ more line label from to (More {rest = r} (Say {line = l} {statement = t} {item = i} says' right makes) f) says e =
     let same : t ≡ EdgeLine label from to = says_one line t (EdgeLine label from to) (subst (λ l. SaysLine l t) (head_same e) says') says in
     let item : Some i ≡ Some (EdgeItem (edge label from to)) = sym makes ∙ ap (made before) same in
     prefix_edge f (ap (λ o. some_edge (before ++ inside i o ∷ [])) item ∙ edge_last before (edge label from to))
@@ -97,7 +97,7 @@ no_pair before all _ block rest text g Done h b spells named e = never (e ∙ la
     never : {x : Line} {xs : List Line} → [] ≡ x ∷ xs → ⊥
     never p = cc
 no_pair before all _ block rest text g (More {rest = r} (Skip {line = l} s) f) h b spells named e = skip_or_show before l block r rest text s b e
-no_pair before all _ block rest text g (More {rest = r} (Say {line = l} {said = t} {item = i} says right makes) f) h b spells named e = say_or_show before l t i block r rest text says makes b e
+no_pair before all _ block rest text g (More {rest = r} (Say {line = l} {statement = t} {item = i} says right makes) f) h b spells named e = say_or_show before l t i block r rest text says makes b e
 no_pair before all _ block rest text g (More {rest = r} (Show {block = block'} {text = text'} {g = g'} b' spells' fresh) f) h b spells named e =
     let same : g' ≡ g = ok_same g' g (read text') (spells-read text' g' spells') (ap read (one_text before block' block r rest text' text b' b e) ∙ spells-read text g spells) in
     contradicts (pair_named before h) (ap (λ n. has_text n (graph_names (graphs before))) (sym (ap (λ (x : Graph). x.name) same ∙ named)) ∙ fresh)

@@ -50,11 +50,11 @@ two_blocks before block block' rest rest' text text' g g' b b' s s' e =
     }
 
 -- a line of a form that isn't `graph {` doesn't open a block
-pub say_or_show : (before : List Item) (line : Line) (said : LineContent) (item : Item) (block rest rest' : List Line) (text : List ℕ) → SaysLine line said → made before said ≡ Some item → IsBlock before block text
+pub say_or_show : (before : List Item) (line : Line) (statement : LineContent) (item : Item) (block rest rest' : List Line) (text : List ℕ) → SaysLine line statement → made before statement ≡ Some item → IsBlock before block text
     → line ∷ rest ≡ block ++ rest' → ⊥
-say_or_show before line said item block rest rest' text says makes b e =
+say_or_show before line statement item block rest rest' text says makes b e =
     let opens : line ≡ b.opening = head_same (e ∙ laid before block rest' text b) in
-    let same : said ≡ BlockLine = says_one b.opening said BlockLine (subst (λ l. SaysLine l said) opens says) b.opened.opens in
+    let same : statement ≡ BlockLine = says_one b.opening statement BlockLine (subst (λ l. SaysLine l statement) opens says) b.opened.opens in
     none_some (ap (made before) (sym same) ∙ makes)
 
 -- a skipped line doesn't open a block
@@ -67,13 +67,13 @@ skip_or_show before line block rest rest' text skipped b e =
 pub one_add : (before : List Item) (these those : List Line) (new new' : List Item) (rest rest' : List Line) → Add before these new → Add before those new' → these ++ rest ≡ those ++ rest'
     → SameAdd these those new new' rest rest'
 one_add before _ _ _ _ rest rest' (Skip s) (Skip s') e = record { lines = ap (λ l. l ∷ []) (head_same e); items = refl; behind = tail_same e }
-one_add before _ _ _ _ rest rest' (Skip {line = l} s) (Say {line = m} {said = t} says right makes) e = absurd (not_skipped m t says (subst (λ l. is_skipped l ≡ true) (head_same e) s))
-one_add before _ _ _ _ rest rest' (Say {line = m} {said = t} says right makes) (Skip s) e = absurd (not_skipped m t says (subst (λ l. is_skipped l ≡ true) (sym (head_same e)) s))
-one_add before _ _ _ _ rest rest' (Say {line = l} {said = s} {item = i} says right makes) (Say {line = m} {said = t} {item = j} says' right' makes') e =
+one_add before _ _ _ _ rest rest' (Skip {line = l} s) (Say {line = m} {statement = t} says right makes) e = absurd (not_skipped m t says (subst (λ l. is_skipped l ≡ true) (head_same e) s))
+one_add before _ _ _ _ rest rest' (Say {line = m} {statement = t} says right makes) (Skip s) e = absurd (not_skipped m t says (subst (λ l. is_skipped l ≡ true) (sym (head_same e)) s))
+one_add before _ _ _ _ rest rest' (Say {line = l} {statement = s} {item = i} says right makes) (Say {line = m} {statement = t} {item = j} says' right' makes') e =
     let same : s ≡ t = says_one m s t (subst (λ l. SaysLine l s) (head_same e) says) says' in
     record { lines = ap (λ l. l ∷ []) (head_same e); items = ap (λ i. i ∷ []) (some_same (sym makes ∙ ap (made before) same ∙ makes')); behind = tail_same e }
 one_add before _ those _ _ rest rest' (Skip {line = l} s) (Show {text = text} b spells fresh) e = absurd (skip_or_show before l those rest rest' text s b e)
 one_add before these _ _ _ rest rest' (Show {text = text} b spells fresh) (Skip {line = l} s) e = absurd (skip_or_show before l these rest' rest text s b (sym e))
-one_add before _ those _ _ rest rest' (Say {line = l} {said = s} {item = i} says right makes) (Show {text = text} b spells fresh) e = absurd (say_or_show before l s i those rest rest' text says makes b e)
-one_add before these _ _ _ rest rest' (Show {text = text} b spells fresh) (Say {line = l} {said = s} {item = i} says right makes) e = absurd (say_or_show before l s i these rest' rest text says makes b (sym e))
+one_add before _ those _ _ rest rest' (Say {line = l} {statement = s} {item = i} says right makes) (Show {text = text} b spells fresh) e = absurd (say_or_show before l s i those rest rest' text says makes b e)
+one_add before these _ _ _ rest rest' (Show {text = text} b spells fresh) (Say {line = l} {statement = s} {item = i} says right makes) e = absurd (say_or_show before l s i these rest' rest text says makes b (sym e))
 one_add before these those _ _ rest rest' (Show {text = t} {g = g} b s fresh) (Show {text = t'} {g = g'} b' s' fresh') e = two_blocks before these those rest rest' t t' g g' b b' s s' e

@@ -10,94 +10,94 @@ use Rattle.sg_model.proofs.Small.{and_left, and_right}
 use Rattle.sg_sched.specs.Text.{content, words}
 use Rattle.sg_sched.specs.Format.LineContents.{Word, LineContent, BlockLine, EdgeLine, HonestLine, KeyLine, SessionLine, StartLine, ActLine, AbandonLine, DeliverLine, MakeLine, Delivered, TheFrame, TheFlipped, TheCut, TheBytes, line_words, joined_names, delivered_words, version_words}
 use Rattle.sg_sched.specs.Format.Forms.{is_form, SaysLine, is_wide, is_short, is_frame, is_assignment, is_delivered, are_names}
-use Rattle.sg_sched.proofs.FormatWholeCraft.{craft_said, craft_complete}
-use Rattle.sg_sched.proofs.FormatWords.{number_word, number_decimal, name_list, name_list-joined, assignments_said, assignments_complete, frame_number, short_is_wide, frame_is_wide, byte_is_wide, wide}
+use Rattle.sg_sched.proofs.FormatWholeCraft.{craft_statement, craft_complete}
+use Rattle.sg_sched.proofs.FormatWords.{number_word, number_decimal, name_list, name_list-joined, assignments_statement, assignments_complete, frame_number, short_is_wide, frame_is_wide, byte_is_wide, wide}
 
 -- ---- the forms, from behind the first word
 
 -- graph {
-abbrev pub block_said : List Word → Option LineContent
-block_said (b ∷ []) = if bytes_eq b (codes "{") then Some BlockLine else None
-block_said other = None
+abbrev pub block_statement : List Word → Option LineContent
+block_statement (b ∷ []) = if bytes_eq b (codes "{") then Some BlockLine else None
+block_statement other = None
 
 -- edge LABEL FROM TO
-abbrev pub edge_said : List Word → Option LineContent
-edge_said (label ∷ a ∷ b ∷ []) = option_and_then (λ x. option_map (λ y. EdgeLine label x y) (number_word b)) (number_word a)
-edge_said other = None
+abbrev pub edge_statement : List Word → Option LineContent
+edge_statement (label ∷ a ∷ b ∷ []) = option_and_then (λ x. option_map (λ y. EdgeLine label x y) (number_word b)) (number_word a)
+edge_statement other = None
 
 -- honest NAME
-abbrev pub honest_said : List Word → Option LineContent
-honest_said (who ∷ []) = Some (HonestLine who)
-honest_said other = None
+abbrev pub honest_statement : List Word → Option LineContent
+honest_statement (who ∷ []) = Some (HonestLine who)
+honest_statement other = None
 
 -- key NAME NAME HEX
-abbrev pub key_said : List Word → Option LineContent
-key_said (one ∷ two ∷ ds ∷ []) = Some (KeyLine one two ds)
-key_said other = None
+abbrev pub key_statement : List Word → Option LineContent
+key_statement (one ∷ two ∷ ds ∷ []) = Some (KeyLine one two ds)
+key_statement other = None
 
 -- session NAME GRAPH NONCE NAME,NAME,.. and v2
-abbrev pub session_said : List Word → Option LineContent
-session_said (name ∷ graph ∷ n ∷ names ∷ []) = option_map (λ n. SessionLine name graph n (name_list names) 1) (number_word n)
-session_said (name ∷ graph ∷ n ∷ names ∷ v ∷ []) = if bytes_eq v (codes "v2") then option_map (λ n. SessionLine name graph n (name_list names) 2) (number_word n) else None
-session_said other = None
+abbrev pub session_statement : List Word → Option LineContent
+session_statement (name ∷ graph ∷ n ∷ names ∷ []) = option_map (λ n. SessionLine name graph n (name_list names) 1) (number_word n)
+session_statement (name ∷ graph ∷ n ∷ names ∷ v ∷ []) = if bytes_eq v (codes "v2") then option_map (λ n. SessionLine name graph n (name_list names) 2) (number_word n) else None
+session_statement other = None
 
 -- start NAME SESSION
-abbrev pub start_said : List Word → Option LineContent
-start_said (who ∷ session ∷ []) = Some (StartLine who session)
-start_said other = None
+abbrev pub start_statement : List Word → Option LineContent
+start_statement (who ∷ session ∷ []) = Some (StartLine who session)
+start_statement other = None
 
 -- act NAME SESSION LABEL VAR=VALUE ..
-abbrev pub act_said : List Word → Option LineContent
-act_said (who ∷ session ∷ label ∷ ws) = option_map (λ vs. ActLine who session label vs) (assignments_said ws)
-act_said other = None
+abbrev pub act_statement : List Word → Option LineContent
+act_statement (who ∷ session ∷ label ∷ ws) = option_map (λ vs. ActLine who session label vs) (assignments_statement ws)
+act_statement other = None
 
 -- abandon NAME SESSION
-abbrev pub abandon_said : List Word → Option LineContent
-abandon_said (who ∷ session ∷ []) = Some (AbandonLine who session)
-abandon_said other = None
+abbrev pub abandon_statement : List Word → Option LineContent
+abandon_statement (who ∷ session ∷ []) = Some (AbandonLine who session)
+abandon_statement other = None
 
 -- a frame that is changed
-abbrev pub changed_said : Name → Word → ℕ → ℕ → Option LineContent
-changed_said who change n i =
+abbrev pub changed_statement : Name → Word → ℕ → ℕ → Option LineContent
+changed_statement who change n i =
     if bytes_eq change (codes "flip") then Some (DeliverLine who (TheFlipped n i))
     else if bytes_eq change (codes "cut") then Some (DeliverLine who (TheCut n i))
     else None
 
 -- deliver NAME fN, deliver NAME fN flip I, deliver NAME fN cut I, deliver NAME hex HEX
-abbrev pub deliver_said : List Word → Option LineContent
-deliver_said (who ∷ f ∷ []) = option_map (λ n. DeliverLine who (TheFrame n)) (frame_number f)
-deliver_said (who ∷ f ∷ ds ∷ []) = if bytes_eq f (codes "hex") then Some (DeliverLine who (TheBytes ds)) else None
-deliver_said (who ∷ f ∷ change ∷ i ∷ []) = option_and_then (λ n. option_and_then (λ i. changed_said who change n i) (number_word i)) (frame_number f)
-deliver_said other = None
+abbrev pub deliver_statement : List Word → Option LineContent
+deliver_statement (who ∷ f ∷ []) = option_map (λ n. DeliverLine who (TheFrame n)) (frame_number f)
+deliver_statement (who ∷ f ∷ ds ∷ []) = if bytes_eq f (codes "hex") then Some (DeliverLine who (TheBytes ds)) else None
+deliver_statement (who ∷ f ∷ change ∷ i ∷ []) = option_and_then (λ n. option_and_then (λ i. changed_statement who change n i) (number_word i)) (frame_number f)
+deliver_statement other = None
 
 -- the forms by their first word
-abbrev pub said_by : Word → List Word → Option LineContent
-said_by w ws =
-    if bytes_eq w (codes "graph") then block_said ws
-    else if bytes_eq w (codes "edge") then edge_said ws
-    else if bytes_eq w (codes "honest") then honest_said ws
-    else if bytes_eq w (codes "key") then key_said ws
-    else if bytes_eq w (codes "session") then session_said ws
-    else if bytes_eq w (codes "start") then start_said ws
-    else if bytes_eq w (codes "act") then act_said ws
-    else if bytes_eq w (codes "abandon") then abandon_said ws
-    else if bytes_eq w (codes "deliver") then deliver_said ws
-    else if bytes_eq w (codes "craft") then craft_said 65535 ws
+abbrev pub statement_by : Word → List Word → Option LineContent
+statement_by w ws =
+    if bytes_eq w (codes "graph") then block_statement ws
+    else if bytes_eq w (codes "edge") then edge_statement ws
+    else if bytes_eq w (codes "honest") then honest_statement ws
+    else if bytes_eq w (codes "key") then key_statement ws
+    else if bytes_eq w (codes "session") then session_statement ws
+    else if bytes_eq w (codes "start") then start_statement ws
+    else if bytes_eq w (codes "act") then act_statement ws
+    else if bytes_eq w (codes "abandon") then abandon_statement ws
+    else if bytes_eq w (codes "deliver") then deliver_statement ws
+    else if bytes_eq w (codes "craft") then craft_statement 65535 ws
     else None
 
 -- what the words of a line say
-abbrev pub said_of : List Word → Option LineContent
-said_of [] = None
-said_of (w ∷ ws) = said_by w ws
+abbrev pub statement_of : List Word → Option LineContent
+statement_of [] = None
+statement_of (w ∷ ws) = statement_by w ws
 
 -- ---- nothing is left out
 
 session_complete : (name graph n : Word) (nonce : ℕ) (ns : List Name) (version : ℕ) → nonce < 2 ^ 64 → nat_le 1 (length ns) ≡ true → list_all is_name ns ≡ true → (version == 1 || version == 2) ≡ true
-    → session_said (name ∷ graph ∷ decimal nonce ∷ joined_names ns ∷ version_words version) ≡ Some (SessionLine name graph nonce ns version)
+    → session_statement (name ∷ graph ∷ decimal nonce ∷ joined_names ns ∷ version_words version) ≡ Some (SessionLine name graph nonce ns version)
 session_complete name graph n nonce [] version small some names v = absurd (cc)
 session_complete name graph n nonce (m ∷ ms) version small some names v = by (version == 2) refl
   where
-    by : (b : Bool) → (version == 2) ≡ b → session_said (name ∷ graph ∷ decimal nonce ∷ joined_names (m ∷ ms) ∷ (if b then codes "v2" ∷ [] else [])) ≡ Some (SessionLine name graph nonce (m ∷ ms) version)
+    by : (b : Bool) → (version == 2) ≡ b → session_statement (name ∷ graph ∷ decimal nonce ∷ joined_names (m ∷ ms) ∷ (if b then codes "v2" ∷ [] else [])) ≡ Some (SessionLine name graph nonce (m ∷ ms) version)
     by true e = rw (number_decimal nonce small, name_list-joined m ms names, eqb-true version 2 e)
     by false e = rw (number_decimal nonce small, name_list-joined m ms names, eqb-true version 1 (first (version == 1) (version == 2) v e))
       where
@@ -105,14 +105,14 @@ session_complete name graph n nonce (m ∷ ms) version small some names v = by (
         first true b p q = refl
         first false b p q = cc
 
-deliver_complete : (who : Name) (what : Delivered) → is_delivered what ≡ true → deliver_said (who ∷ delivered_words what) ≡ Some (DeliverLine who what)
+deliver_complete : (who : Name) (what : Delivered) → is_delivered what ≡ true → deliver_statement (who ∷ delivered_words what) ≡ Some (DeliverLine who what)
 deliver_complete who (TheFrame n) h = rw (number_decimal n (frame_is_wide n h))
 deliver_complete who (TheFlipped n i) h = rw (number_decimal n (frame_is_wide n (and_left (is_frame n) (is_short i) h)), number_decimal i (short_is_wide i (and_right (is_frame n) (is_short i) h)))
 deliver_complete who (TheCut n i) h = rw (number_decimal n (frame_is_wide n (and_left (is_frame n) (is_short i) h)), number_decimal i (short_is_wide i (and_right (is_frame n) (is_short i) h)))
 deliver_complete who (TheBytes ds) h = refl
 
 -- a line of a form is found by its words
-pub complete : (said : LineContent) → is_form said ≡ true → said_of (line_words said) ≡ Some said
+pub complete : (statement : LineContent) → is_form statement ≡ true → statement_of (line_words statement) ≡ Some statement
 complete BlockLine h = refl
 complete (EdgeLine label a b) h =
     let ends = and_left (is_name label && not (has_text label reserved) && nat_le a 255 && nat_le b 255) (not (a % 2 == b % 2)) h in
@@ -139,11 +139,11 @@ complete (MakeLine c) h = craft_complete c h
 -- the words say nothing that is of a form
 abbrev pub rejects : Option LineContent → Bool
 rejects None = true
-rejects (Some said) = not (is_form said)
+rejects (Some statement) = not (is_form statement)
 
 -- a line whose words say nothing that is of a form is of no form
-pub no_form : (line : List ℕ) → rejects (said_of (words (content line))) ≡ true → (said : LineContent) → SaysLine line said → ⊥
-no_form line bad said says = formless (ap rejects (sym (complete said says.form)) ∙ ap (λ ws. rejects (said_of ws)) (sym says.spelled) ∙ bad)
+pub no_form : (line : List ℕ) → rejects (statement_of (words (content line))) ≡ true → (statement : LineContent) → SaysLine line statement → ⊥
+no_form line bad statement says = formless (ap rejects (sym (complete statement says.form)) ∙ ap (λ ws. rejects (statement_of ws)) (sym says.spelled) ∙ bad)
   where
     clash : {b : Bool} → b ≡ false → b ≡ true → ⊥
     clash p q = false_true (sym p ∙ q)
@@ -151,12 +151,12 @@ no_form line bad said says = formless (ap rejects (sym (complete said says.form)
         false_true : false ≡ true → ⊥
         false_true e = cc
 
-    formless : not (is_form said) ≡ true → ⊥
-    formless e = clash (not-true (is_form said) e) says.form
+    formless : not (is_form statement) ≡ true → ⊥
+    formless e = clash (not-true (is_form statement) e) says.form
 
 -- a line says one thing at most
 pub says_one : (line : List ℕ) (s t : LineContent) → SaysLine line s → SaysLine line t → s ≡ t
-says_one line s t p q = same (sym (complete s p.form) ∙ ap said_of (sym p.spelled) ∙ ap said_of q.spelled ∙ complete t q.form)
+says_one line s t p q = same (sym (complete s p.form) ∙ ap statement_of (sym p.spelled) ∙ ap statement_of q.spelled ∙ complete t q.form)
   where
     inside : Option LineContent → LineContent
     inside None = s

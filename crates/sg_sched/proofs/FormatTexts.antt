@@ -25,17 +25,17 @@ exchange_lines : Declare (lines exchange) (head_p (codes "a" ∷ codes "b" ∷ [
 unfolding on_literals exchange
 exchange_lines =
     Next (Next (Next (Next (Next (Next (Next (Next (Next (Next (Next Nothing
-    (Say {line = codes "edge Request 0 1\n"} {said = EdgeLine (codes "Request") 0 1} (record { spelled = refl; form = refl }) refl refl))
-    (Say {line = codes "edge Reply 1 2\n"} {said = EdgeLine (codes "Reply") 1 2} (record { spelled = refl; form = refl }) refl refl))
-    (Say {line = codes "honest a\n"} {said = HonestLine (codes "a")} (record { spelled = refl; form = refl }) refl refl))
-    (Say {line = codes "honest b\n"} {said = HonestLine (codes "b")} (record { spelled = refl; form = refl }) refl refl))
-    (Say {line = codes "key a b " ++ sixty_four 49 ++ 10 ∷ []} {said = KeyLine (codes "a") (codes "b") (sixty_four 49)} (record { spelled = refl; form = refl }) refl refl))
-    (Say {line = codes "session s1 pair 1 a,b\n"} {said = SessionLine (codes "s1") (codes "pair") 1 (codes "a" ∷ codes "b" ∷ []) 1} (record { spelled = refl; form = refl }) refl refl))
+    (Say {line = codes "edge Request 0 1\n"} {statement = EdgeLine (codes "Request") 0 1} (record { spelled = refl; form = refl }) refl refl))
+    (Say {line = codes "edge Reply 1 2\n"} {statement = EdgeLine (codes "Reply") 1 2} (record { spelled = refl; form = refl }) refl refl))
+    (Say {line = codes "honest a\n"} {statement = HonestLine (codes "a")} (record { spelled = refl; form = refl }) refl refl))
+    (Say {line = codes "honest b\n"} {statement = HonestLine (codes "b")} (record { spelled = refl; form = refl }) refl refl))
+    (Say {line = codes "key a b " ++ sixty_four 49 ++ 10 ∷ []} {statement = KeyLine (codes "a") (codes "b") (sixty_four 49)} (record { spelled = refl; form = refl }) refl refl))
+    (Say {line = codes "session s1 pair 1 a,b\n"} {statement = SessionLine (codes "s1") (codes "pair") 1 (codes "a" ∷ codes "b" ∷ []) 1} (record { spelled = refl; form = refl }) refl refl))
     (Skip {line = codes "\n"} refl))
     (Skip {line = codes "# the steps\n"} refl))
-    (Say {line = codes "start a s1\n"} {said = StartLine (codes "a") (codes "s1")} (record { spelled = refl; form = refl }) refl refl))
-    (Say {line = codes "act a s1 Request\n"} {said = ActLine (codes "a") (codes "s1") (codes "Request") []} (record { spelled = refl; form = refl }) refl refl))
-    (Say {line = codes "deliver b f1"} {said = DeliverLine (codes "b") (TheFrame 1)} (record { spelled = refl; form = refl }) refl refl)
+    (Say {line = codes "start a s1\n"} {statement = StartLine (codes "a") (codes "s1")} (record { spelled = refl; form = refl }) refl refl))
+    (Say {line = codes "act a s1 Request\n"} {statement = ActLine (codes "a") (codes "s1") (codes "Request") []} (record { spelled = refl; form = refl }) refl refl))
+    (Say {line = codes "deliver b f1"} {statement = DeliverLine (codes "b") (TheFrame 1)} (record { spelled = refl; form = refl }) refl refl)
 
 -- the graph of its edge lines
 abbrev pair : Graph

@@ -11,8 +11,8 @@ use Rattle.sg_protocol.specs.Schedule.{CraftJoin}
 use Rattle.sg_sched.specs.Format.LineContents.{Word, Committed, TagSource, ItemContent, CraftContent, LineContent, MakeLine, committed_word, from_words, item_words, join_words, list_words, option_words, joined_names}
 use Rattle.sg_sched.specs.Format.Forms.{is_committed, are_committed, is_source, is_item, is_join, is_wide, are_names, is_craft}
 use Rattle.sg_sched.proofs.FormatWords.{same_self, number_word, number_decimal, name_list, name_list-joined, wide}
-use Rattle.sg_sched.proofs.FormatCraftReading.{committed_said, run, run_complete, source_said, source_complete}
-use Rattle.sg_sched.proofs.FormatItemReading.{items_said, items_complete}
+use Rattle.sg_sched.proofs.FormatCraftReading.{committed_statement, run, run_complete, source_statement, source_complete}
+use Rattle.sg_sched.proofs.FormatItemReading.{items_statement, items_complete}
 
 -- ---- the end
 
@@ -22,12 +22,12 @@ none_left s [] = Some s
 none_left s (w ∷ ws) = None
 
 -- seal SOURCE, and no more
-abbrev pub end_said : List Word → Option TagSource
-end_said [] = None
-end_said (w ∷ ws) = if bytes_eq w (codes "seal") then option_and_then (λ (p : TagSource × List Word). none_left p.0 p.1) (source_said ws) else None
+abbrev pub end_statement : List Word → Option TagSource
+end_statement [] = None
+end_statement (w ∷ ws) = if bytes_eq w (codes "seal") then option_and_then (λ (p : TagSource × List Word). none_left p.0 p.1) (source_statement ws) else None
 
-end_complete : (s : TagSource) → is_source s ≡ true → end_said (codes "seal" ∷ from_words s) ≡ Some s
-end_complete s h = ap (λ o. option_and_then (λ (p : TagSource × List Word). none_left p.0 p.1) o) (ap source_said (sym (append-nil (from_words s))) ∙ source_complete s [] h)
+end_complete : (s : TagSource) → is_source s ≡ true → end_statement (codes "seal" ∷ from_words s) ≡ Some s
+end_complete s h = ap (λ o. option_and_then (λ (p : TagSource × List Word). none_left p.0 p.1) o) (ap source_statement (sym (append-nil (from_words s))) ∙ source_complete s [] h)
 
 -- ---- a word and commitments
 
@@ -37,35 +37,35 @@ some_run [] ws = None
 some_run (c ∷ cs) ws = Some (c ∷ cs, ws)
 
 -- the word and commitments behind it, or nothing
-abbrev pub list_said : List ℕ → List Word → Option (List Committed × List Word)
-list_said first [] = Some ([], [])
-list_said first (w ∷ ws) = if bytes_eq w first then some_run (run ws).0 (run ws).1 else Some ([], w ∷ ws)
+abbrev pub list_statement : List ℕ → List Word → Option (List Committed × List Word)
+list_statement first [] = Some ([], [])
+list_statement first (w ∷ ws) = if bytes_eq w first then some_run (run ws).0 (run ws).1 else Some ([], w ∷ ws)
 
-list_complete : (first : List ℕ) (cs : List Committed) (k : Word) (ks : List Word) → list_all is_committed cs ≡ true → bytes_eq k first ≡ false → committed_said k ≡ None
-    → list_said first (list_words first cs ++ k ∷ ks) ≡ Some (cs, k ∷ ks)
+list_complete : (first : List ℕ) (cs : List Committed) (k : Word) (ks : List Word) → list_all is_committed cs ≡ true → bytes_eq k first ≡ false → committed_statement k ≡ None
+    → list_statement first (list_words first cs ++ k ∷ ks) ≡ Some (cs, k ∷ ks)
 list_complete first [] k ks h e n = rw e
 list_complete first (c ∷ cs) k ks h e n = rw (same_self first, run_complete (c ∷ cs) (k ∷ ks) h (stopped k ks n))
   where
-    stopped : (k : Word) (ks : List Word) → committed_said k ≡ None → run (k ∷ ks) ≡ ([], k ∷ ks)
+    stopped : (k : Word) (ks : List Word) → committed_statement k ≡ None → run (k ∷ ks) ≡ ([], k ∷ ks)
     stopped k ks n = rw n
 
 -- ---- join
 
 -- [cast NAME,..]
-abbrev pub cast_said : Option ℕ → List Word → Option (Option CraftJoin × List Word)
-cast_said n' (w ∷ names ∷ ws) = if bytes_eq w (codes "cast") then Some (Some (record { nonce = n'; names = Some (name_list names) }), ws)
+abbrev pub cast_statement : Option ℕ → List Word → Option (Option CraftJoin × List Word)
+cast_statement n' (w ∷ names ∷ ws) = if bytes_eq w (codes "cast") then Some (Some (record { nonce = n'; names = Some (name_list names) }), ws)
     else Some (Some (record { nonce = n'; names = None }), w ∷ names ∷ ws)
-cast_said n' other = None
+cast_statement n' other = None
 
 -- [nonce N] [cast NAME,..]
-abbrev pub nonce_said : List Word → Option (Option CraftJoin × List Word)
-nonce_said (w ∷ n ∷ ws) = if bytes_eq w (codes "nonce") then option_and_then (λ n. cast_said (Some n) ws) (number_word n) else cast_said None (w ∷ n ∷ ws)
-nonce_said other = None
+abbrev pub nonce_statement : List Word → Option (Option CraftJoin × List Word)
+nonce_statement (w ∷ n ∷ ws) = if bytes_eq w (codes "nonce") then option_and_then (λ n. cast_statement (Some n) ws) (number_word n) else cast_statement None (w ∷ n ∷ ws)
+nonce_statement other = None
 
 -- [join [nonce N] [cast NAME,..]]
-abbrev pub join_said : List Word → Option (Option CraftJoin × List Word)
-join_said [] = None
-join_said (w ∷ ws) = if bytes_eq w (codes "join") then nonce_said ws else Some (None, w ∷ ws)
+abbrev pub join_statement : List Word → Option (Option CraftJoin × List Word)
+join_statement [] = None
+join_statement (w ∷ ws) = if bytes_eq w (codes "join") then nonce_statement ws else Some (None, w ∷ ws)
 
 -- no part of a join begins with this word
 pub record Behind (k : Word) : Type 0 where
@@ -74,19 +74,19 @@ pub record Behind (k : Word) : Type 0 where
   pub no_cast : bytes_eq k (codes "cast") ≡ false
 
 cast_complete : (nonce : Option ℕ) (names : Option (List Name)) (k l : Word) (ks : List Word) → Behind k → option_map_or (λ ns. nat_le 2 (length ns) && nat_le (length ns) 16 && are_names ns) names true ≡ true
-    → cast_said nonce (option_words (codes "cast") (option_map joined_names names) ++ k ∷ l ∷ ks) ≡ Some (Some (record { nonce = nonce; names = names }), k ∷ l ∷ ks)
+    → cast_statement nonce (option_words (codes "cast") (option_map joined_names names) ++ k ∷ l ∷ ks) ≡ Some (Some (record { nonce = nonce; names = names }), k ∷ l ∷ ks)
 cast_complete n' None k l ks e h = rw e.no_cast
 cast_complete n' (Some []) k l ks e h = absurd (cc)
 cast_complete n' (Some (n ∷ ns)) k l ks e h = rw (name_list-joined n ns (and_right (nat_le 2 (length (n ∷ ns)) && nat_le (length (n ∷ ns)) 16) (are_names (n ∷ ns)) h))
 
 nonce_complete : (nonce : Option ℕ) (names : Option (List Name)) (k l : Word) (ks : List Word) → Behind k → option_map_or is_wide nonce true ≡ true
     → option_map_or (λ ns. nat_le 2 (length ns) && nat_le (length ns) 16 && are_names ns) names true ≡ true
-    → nonce_said (option_words (codes "nonce") (option_map decimal nonce) ++ option_words (codes "cast") (option_map joined_names names) ++ k ∷ l ∷ ks) ≡ Some (Some (record { nonce = nonce; names = names }), k ∷ l ∷ ks)
+    → nonce_statement (option_words (codes "nonce") (option_map decimal nonce) ++ option_words (codes "cast") (option_map joined_names names) ++ k ∷ l ∷ ks) ≡ Some (Some (record { nonce = nonce; names = names }), k ∷ l ∷ ks)
 nonce_complete (Some n) names k l ks e w h = rw (number_decimal n (wide n w), cast_complete (Some n) names k l ks e h)
 nonce_complete None None k l ks e w h = rw (e.no_nonce, e.no_cast)
 nonce_complete None (Some ns) k l ks e w h = cast_complete None (Some ns) k l ks e h
 
-join_complete : (j : Option CraftJoin) (k l : Word) (ks : List Word) → Behind k → option_map_or is_join j true ≡ true → join_said (join_words j ++ k ∷ l ∷ ks) ≡ Some (j, k ∷ l ∷ ks)
+join_complete : (j : Option CraftJoin) (k l : Word) (ks : List Word) → Behind k → option_map_or is_join j true ≡ true → join_statement (join_words j ++ k ∷ l ∷ ks) ≡ Some (j, k ∷ l ∷ ks)
 join_complete None k l ks e h = rw e.no_join
 join_complete (Some j) k l ks e h = nonce_complete j.nonce j.names k l ks e
     (and_left (option_map_or is_wide j.nonce true) (option_map_or (λ ns. nat_le 2 (length ns) && nat_le (length ns) 16 && are_names ns) j.names true) h)
@@ -101,28 +101,28 @@ behind_join n session from to join ws =
     option_and_then (λ (is : List ItemContent × List Word).
     option_and_then (λ (opened : List Committed × List Word).
     option_map (λ seal. MakeLine (record { session = session; from = from; to = to; join = join; know = know.0; items = is.0; openings = opened.0; seal = seal }))
-    (end_said opened.1)) (list_said (codes "open") is.1)) (items_said n know.1)) (list_said (codes "know") ws)
+    (end_statement opened.1)) (list_statement (codes "open") is.1)) (items_statement n know.1)) (list_statement (codes "know") ws)
 
 -- SESSION from ROLE to ROLE and what follows, with up to n items
-abbrev pub craft_said : ℕ → List Word → Option LineContent
-craft_said n (session ∷ f ∷ from ∷ t ∷ to ∷ ws) = if bytes_eq f (codes "from") && bytes_eq t (codes "to")
-    then option_and_then (λ (j : Option CraftJoin × List Word). behind_join n session from to j.0 j.1) (join_said ws) else None
-craft_said n other = None
+abbrev pub craft_statement : ℕ → List Word → Option LineContent
+craft_statement n (session ∷ f ∷ from ∷ t ∷ to ∷ ws) = if bytes_eq f (codes "from") && bytes_eq t (codes "to")
+    then option_and_then (λ (j : Option CraftJoin × List Word). behind_join n session from to j.0 j.1) (join_statement ws) else None
+craft_statement n other = None
 
 -- behind the items: the openings and the seal
 after_items : (n : ℕ) (is : List ItemContent) (cs : List Committed) (seal : List Word) → length is ≤ n → list_all is_item is ≡ true
-    → items_said n (flat_map item_words is ++ (list_words (codes "open") cs ++ codes "seal" ∷ seal)) ≡ Some (is, list_words (codes "open") cs ++ codes "seal" ∷ seal)
+    → items_statement n (flat_map item_words is ++ (list_words (codes "open") cs ++ codes "seal" ∷ seal)) ≡ Some (is, list_words (codes "open") cs ++ codes "seal" ∷ seal)
 after_items n is [] seal l h = items_complete n is (codes "seal") seal l h (record { no_commitment = refl; no_tag = refl; no_item = refl })
 after_items n is (c ∷ cs) seal l h = items_complete n is (codes "open") (map committed_word (c ∷ cs) ++ codes "seal" ∷ seal) l h (record { no_commitment = refl; no_tag = refl; no_item = refl })
 
 -- what is known, before at least one item
 after_know : (know : List Committed) (i : ItemContent) (is : List ItemContent) (rest : List Word) → list_all is_committed know ≡ true
-    → list_said (codes "know") (list_words (codes "know") know ++ (flat_map item_words (i ∷ is) ++ rest)) ≡ Some (know, flat_map item_words (i ∷ is) ++ rest)
+    → list_statement (codes "know") (list_words (codes "know") know ++ (flat_map item_words (i ∷ is) ++ rest)) ≡ Some (know, flat_map item_words (i ∷ is) ++ rest)
 after_know know i is rest h = list_complete (codes "know") know (codes "item") _ h refl refl
 
 -- the join, before what is known and at least one item
 after_join : (j : Option CraftJoin) (know : List Committed) (i : ItemContent) (is : List ItemContent) (rest : List Word) → option_map_or is_join j true ≡ true
-    → join_said (join_words j ++ (list_words (codes "know") know ++ (flat_map item_words (i ∷ is) ++ rest))) ≡ Some (j, list_words (codes "know") know ++ (flat_map item_words (i ∷ is) ++ rest))
+    → join_statement (join_words j ++ (list_words (codes "know") know ++ (flat_map item_words (i ∷ is) ++ rest))) ≡ Some (j, list_words (codes "know") know ++ (flat_map item_words (i ∷ is) ++ rest))
 after_join j [] i is rest h = join_complete j (codes "item") i.label _ (record { no_join = refl; no_nonce = refl; no_cast = refl }) h
 after_join j (c ∷ cs) i is rest h = join_complete j (codes "know") (committed_word c) _ (record { no_join = refl; no_nonce = refl; no_cast = refl }) h
 
@@ -170,7 +170,7 @@ craft_facts c h =
 
 -- a craft of a form, with up to n items, is found by its words
 found_of : (n : ℕ) (c : CraftContent) (is : List ItemContent) → CraftFacts c → nat_le 1 (length is) ≡ true → length is ≤ n → list_all is_item is ≡ true
-    → craft_said n (craft_rest (record c { items = is })) ≡ Some (MakeLine (record c { items = is }))
+    → craft_statement n (craft_rest (record c { items = is })) ≡ Some (MakeLine (record c { items = is }))
 found_of n c [] f s l a = absurd (cc)
 found_of n c (i ∷ is) f s l a =
     rw (
@@ -182,5 +182,5 @@ found_of n c (i ∷ is) f s l a =
     )
 
 -- a craft of a form is found by its words
-pub craft_complete : (c : CraftContent) → is_craft c ≡ true → craft_said 65535 (craft_rest c) ≡ Some (MakeLine c)
+pub craft_complete : (c : CraftContent) → is_craft c ≡ true → craft_statement 65535 (craft_rest c) ≡ Some (MakeLine c)
 craft_complete c h = let f = craft_facts c h in found_of 65535 c c.items f f.some f.count f.items

@@ -117,11 +117,11 @@ abbrev pub assignment_read : Word → Option Assignment
 assignment_read w = option_map (λ (p : Word × Word). record { variable = p.0; value = p.1 }) (equal_split w)
 
 -- every word as VAR=VALUE
-abbrev pub assignments_said : List Word → Option (List Assignment)
-assignments_said [] = Some []
-assignments_said (w ∷ ws) = option_and_then (λ v. option_map (λ vs. v ∷ vs) (assignments_said ws)) (assignment_read w)
+abbrev pub assignments_statement : List Word → Option (List Assignment)
+assignments_statement [] = Some []
+assignments_statement (w ∷ ws) = option_and_then (λ v. option_map (λ vs. v ∷ vs) (assignments_statement ws)) (assignment_read w)
 
-pub assignments_complete : (vs : List Assignment) → list_all is_assignment vs ≡ true → assignments_said (map assignment_word vs) ≡ Some vs
+pub assignments_complete : (vs : List Assignment) → list_all is_assignment vs ≡ true → assignments_statement (map assignment_word vs) ≡ Some vs
 assignments_complete [] h = refl
 assignments_complete (v ∷ vs) h = rw (
   equal_split-at v.variable v.value (name_lacks 61 v.variable refl (and_left (is_name v.variable) _ (and_left (is_assignment v) _ h))),

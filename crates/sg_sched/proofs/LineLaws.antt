@@ -4,7 +4,7 @@ use Rattle.std.proofs.Common.{sym, ◌∙◌, ap}
 use Rattle.std.proofs.lemmas.Slice.Eq.{bytes_eq-Decides}
 use Rattle.sg_sched.specs.Format.LineContents.{Word, LineContent, BlockLine, EdgeLine, HonestLine, KeyLine, SessionLine, StartLine, ActLine, AbandonLine, DeliverLine, MakeLine, line_words}
 use Rattle.sg_sched.specs.Format.Forms.{is_form, SaysLine}
-use Rattle.sg_sched.specs.Format.Model.{said}
+use Rattle.sg_sched.specs.Format.Model.{statement}
 use Rattle.sg_sched.specs.declared.line.Line.{Line}
 use Rattle.sg_sched.specs.Text.{words, content}
 use Rattle.sg_sched.specs.Format.Reading.{WordsLeft, block_form, edge_form, honest_form, key_form, session_form, start_form, act_form, abandon_form, deliver_form}
@@ -68,6 +68,6 @@ pub says_some : (line : List ℕ) (s : LineContent) → form (words (content lin
 says_some line s h = let f = form_sound (words (content line)) s h in record { spelled = f.words; form = f.form }
 
 -- what the reader of a line answers, in either case
-pub says : (line : List ℕ) (o : Option Line) → option_map said o ≡ form (words (content line)) → MatchOption o ((s : LineContent) → SaysLine line s → ⊥) (λ l. SaysLine line (said l))
+pub says : (line : List ℕ) (o : Option Line) → option_map statement o ≡ form (words (content line)) → MatchOption o ((s : LineContent) → SaysLine line s → ⊥) (λ l. SaysLine line (statement l))
 says line None h = says_none line (sym h)
-says line (Some l) h = says_some line (said l) (sym h)
+says line (Some l) h = says_some line (statement l) (sym h)

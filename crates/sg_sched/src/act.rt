@@ -1,7 +1,7 @@
 //! The form of an act.
 ghost use Rattle.std.specs.Prelude.{◌≡◌, IfOk, IfSome, option_copied, option_map, Some, None, MatchOption, ◌<◌, length};
 ghost use Rattle.sg_sched.specs.Format.Reading.{split_at, given, assignments, act_form};
-ghost use Rattle.sg_sched.specs.Format.Model.{said};
+ghost use Rattle.sg_sched.specs.Format.Model.{statement};
 
 use crate::form::take_name;
 use crate::line::{Assignment, Line};
@@ -64,7 +64,7 @@ pub fn read_assignments<'a>(
 /// `NAME SESSION LABEL VAR=VALUE ..` of an act.
 #[tactic(auto, unfolding(crate::specs::Format::Reading::act_form))]
 pub(crate) fn act<'a>(alloc: Global, words: &mut Words<'a>) -> Result<Option<Line<'a>>, OutOfMemory>
-    ensures { IfOk result (λ line. option_map said line ≡ act_form words.old) }
+    ensures { IfOk result (λ line. option_map statement line ≡ act_form words.old) }
 {
     let Some(who) = take_name(words) else {
         return Ok(None);

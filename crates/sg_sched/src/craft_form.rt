@@ -5,7 +5,7 @@ ghost use Rattle.sg_sched.specs.Words.{frame};
 ghost use Rattle.sg_sched.specs.Format.Reading.{word};
 ghost use Rattle.sg_sched.specs.Format.CraftReading.{split_last, committed, name_list, cast, exactly, time, run, few, listed, copy_source, source, repeated, tag, item, is_next, optional, join_parts, join, opened, seal_form, ends, craft_form};
 ghost use Rattle.sg_sched.specs.Format.Sources.{from_of};
-ghost use Rattle.sg_sched.specs.Format.Model.{said, taken};
+ghost use Rattle.sg_sched.specs.Format.Model.{statement, taken};
 
 use crate::act::split_at;
 use crate::craft::CraftJoin;
@@ -413,7 +413,7 @@ pub(crate) fn craft<'a>(
     alloc: Global,
     words: &mut Words<'a>,
 ) -> Result<Option<Line<'a>>, OutOfMemory>
-    ensures { IfOk result (λ line. option_map said line ≡ craft_form words.old) }
+    ensures { IfOk result (λ line. option_map statement line ≡ craft_form words.old) }
 {
     let Some((session, from, to)) = take_ends(words) else {
         return Ok(None);

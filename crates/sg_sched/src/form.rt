@@ -3,7 +3,7 @@ ghost use Rattle.std.specs.Prelude.{◌≡◌, ◌≤◌, IfOk, IfSome, option_m
 ghost use Rattle.sg_base.specs.Words.{name, number};
 ghost use Rattle.sg_sched.specs.Words.{names, frame};
 ghost use Rattle.sg_sched.specs.Format.Reading.{word, hex_of, hex, short, version, given, assignments, block_form, edge_form, honest_form, key_form, session_form, start_form, act_form, abandon_form, frame_form, what_form, deliver_form};
-ghost use Rattle.sg_sched.specs.Format.Model.{said, taken, delivered};
+ghost use Rattle.sg_sched.specs.Format.Model.{statement, taken, delivered};
 
 use crate::line::{Delivered, Line};
 use crate::names::read_names;
@@ -32,7 +32,7 @@ pub(crate) fn take_number(words: &mut Words, most: u64) -> Option<u64>
 /// `{`, of a line that begins a block.
 #[tactic(auto, unfolding(crate::specs::Format::Reading::block_form))]
 pub(crate) fn block<'a>(words: &mut Words<'a>) -> Option<Line<'a>>
-    ensures { option_map said result ≡ block_form words.old }
+    ensures { option_map statement result ≡ block_form words.old }
 {
     if words.next()? == b"{".as_slice() && words.is_empty() {
         return Some(Line::Block);
@@ -43,7 +43,7 @@ pub(crate) fn block<'a>(words: &mut Words<'a>) -> Option<Line<'a>>
 /// `LABEL FROM TO` of an edge.
 #[tactic(auto, unfolding(crate::specs::Format::Reading::edge_form))]
 pub(crate) fn edge<'a>(words: &mut Words<'a>) -> Option<Line<'a>>
-    ensures { option_map said result ≡ edge_form words.old }
+    ensures { option_map statement result ≡ edge_form words.old }
 {
     let label = take_name(words)?;
     let from = take_number(words, 255)?;
@@ -67,7 +67,7 @@ pub(crate) fn edge<'a>(words: &mut Words<'a>) -> Option<Line<'a>>
 /// `NAME` of an honest principal.
 #[tactic(auto, unfolding(crate::specs::Format::Reading::honest_form))]
 pub(crate) fn honest<'a>(words: &mut Words<'a>) -> Option<Line<'a>>
-    ensures { option_map said result ≡ honest_form words.old }
+    ensures { option_map statement result ≡ honest_form words.old }
 {
     let who = take_name(words)?;
     if !words.is_empty() {
@@ -87,7 +87,7 @@ fn take_key<'a>(words: &mut Words<'a>) -> Option<&'a [u8]>
 /// `NAME NAME HEX` of a key.
 #[tactic(auto, unfolding(crate::specs::Format::Reading::key_form))]
 pub(crate) fn key<'a>(words: &mut Words<'a>) -> Option<Line<'a>>
-    ensures { option_map said result ≡ key_form words.old }
+    ensures { option_map statement result ≡ key_form words.old }
 {
     let one = take_name(words)?;
     let two = take_name(words)?;
@@ -129,7 +129,7 @@ pub(crate) fn session<'a>(
     alloc: Global,
     words: &mut Words<'a>,
 ) -> Result<Option<Line<'a>>, OutOfMemory>
-    ensures { IfOk result (λ line. option_map said line ≡ session_form words.old) }
+    ensures { IfOk result (λ line. option_map statement line ≡ session_form words.old) }
 {
     let Some(name) = take_name(words) else {
         return Ok(None);
@@ -161,7 +161,7 @@ pub(crate) fn session<'a>(
 /// `NAME SESSION` of a start.
 #[tactic(auto, unfolding(crate::specs::Format::Reading::start_form))]
 pub(crate) fn start<'a>(words: &mut Words<'a>) -> Option<Line<'a>>
-    ensures { option_map said result ≡ start_form words.old }
+    ensures { option_map statement result ≡ start_form words.old }
 {
     let who = take_name(words)?;
     let session = take_name(words)?;
@@ -174,7 +174,7 @@ pub(crate) fn start<'a>(words: &mut Words<'a>) -> Option<Line<'a>>
 /// `NAME SESSION` of an abandonment.
 #[tactic(auto, unfolding(crate::specs::Format::Reading::abandon_form))]
 pub(crate) fn abandon<'a>(words: &mut Words<'a>) -> Option<Line<'a>>
-    ensures { option_map said result ≡ abandon_form words.old }
+    ensures { option_map statement result ≡ abandon_form words.old }
 {
     let who = take_name(words)?;
     let session = take_name(words)?;
@@ -187,7 +187,7 @@ pub(crate) fn abandon<'a>(words: &mut Words<'a>) -> Option<Line<'a>>
 /// `fN` and `flip I` or `cut I` after it.
 #[tactic(auto, unfolding(crate::specs::Format::Reading::frame_form))]
 fn frame<'a>(who: Name, number: u32, words: &mut Words<'a>) -> Option<Line<'a>>
-    ensures { option_map said result ≡ frame_form who number words.old }
+    ensures { option_map statement result ≡ frame_form who number words.old }
 {
     let Some(change) = words.next() else {
         return Some(Line::Deliver {
@@ -239,7 +239,7 @@ fn what<'a>(
     who: Name,
     words: &mut Words<'a>,
 ) -> Result<Option<Line<'a>>, OutOfMemory>
-    ensures { IfOk result (λ line. option_map said line ≡ what_form who words.old) }
+    ensures { IfOk result (λ line. option_map statement line ≡ what_form who words.old) }
 {
     let Some(first) = words.next() else {
         return Ok(None);
@@ -268,7 +268,7 @@ pub(crate) fn deliver<'a>(
     alloc: Global,
     words: &mut Words<'a>,
 ) -> Result<Option<Line<'a>>, OutOfMemory>
-    ensures { IfOk result (λ line. option_map said line ≡ deliver_form words.old) }
+    ensures { IfOk result (λ line. option_map statement line ≡ deliver_form words.old) }
 {
     match take_name(words) {
         Some(who) => what(alloc, who, words),

@@ -3,7 +3,7 @@ ghost use Rattle.std.specs.Prelude.{◌≡◌, ◌==◌, ◌&&◌, ◌||◌, nat
 ghost use Rattle.std.specs.List.{list_all};
 ghost use Rattle.sg_sched.specs.Text.{words};
 ghost use Rattle.sg_sched.specs.Format.Form.{form};
-ghost use Rattle.sg_sched.specs.Format.Model.{said};
+ghost use Rattle.sg_sched.specs.Format.Model.{statement};
 ghost use Rattle.sg_sched.specs.Format.LineContents.{LineContent};
 ghost use Rattle.sg_sched.specs.Format.Forms.{SaysLine, is_comment};
 
@@ -37,7 +37,7 @@ fn is_ascii(text: &[u8]) -> bool
 /// What a line with these words says, or `None` if it is of no form.
 #[tactic(auto, unfolding(crate::specs::Format::Form::form))]
 pub fn read_line<'a>(alloc: Global, mut words: Words<'a>) -> Result<Option<Line<'a>>, OutOfMemory>
-    ensures { IfOk result (λ line. option_map said line ≡ form words.entry) }
+    ensures { IfOk result (λ line. option_map statement line ≡ form words.entry) }
 {
     let Some(first) = words.next() else {
         return Ok(None);
@@ -69,8 +69,8 @@ pub fn read_line<'a>(alloc: Global, mut words: Words<'a>) -> Result<Option<Line<
 }
 
 /// What a line says, or `None` if it is of no form: there is nothing that its words say, with each field as it may be.
-pub fn read_said<'a>(alloc: Global, line: &'a [u8]) -> Result<Option<Line<'a>>, OutOfMemory>
-    ensures { IfOk result (λ o. MatchOption o ((s : LineContent) → SaysLine line.now s → ⊥) (λ l. SaysLine line.now (said l))) }
+pub fn read_statement<'a>(alloc: Global, line: &'a [u8]) -> Result<Option<Line<'a>>, OutOfMemory>
+    ensures { IfOk result (λ o. MatchOption o ((s : LineContent) → SaysLine line.now s → ⊥) (λ l. SaysLine line.now (statement l))) }
 {
     read_line(alloc, Words::new(line_content(line)))
 }

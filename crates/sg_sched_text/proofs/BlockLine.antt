@@ -2,11 +2,11 @@
 use Rattle.std.proofs.Common.{◌≡◌, refl}
 use Rattle.sg_sched.specs.declared.line.Line.{Line}
 use Rattle.sg_sched.specs.declared.line.Line.TheVariants.{Block, Edge, Honest, Key, Session, Start, Act, Abandon, Deliver, Craft}
-use Rattle.sg_sched.specs.Format.Model.{said}
+use Rattle.sg_sched.specs.Format.Model.{statement}
 use Rattle.sg_sched.specs.Format.LineContents.{BlockLine}
 
 -- only one line begins a block
-pub only_block : (l : Line) → said l ≡ BlockLine → l ≡ Block
+pub only_block : (l : Line) → statement l ≡ BlockLine → l ≡ Block
 only_block Block e = refl
 only_block (Edge label from to) e = absurd (cc)
 only_block (Honest who) e = absurd (cc)

@@ -82,13 +82,13 @@ one_more items (StepItem s) = let i = StepItem s in λ k. record {
 -- ---- lines that are taken
 
 -- a line of a form is right, and adds an item
-pub record TookItem (items : List Item) (said : LineContent) (new : SoFar) : Type 0 where
+pub record TookItem (items : List Item) (statement : LineContent) (new : SoFar) : Type 0 where
   pub item : Item
-  pub right : fault items said ≡ None
-  pub makes : made items said ≡ Some item
+  pub right : fault items statement ≡ None
+  pub makes : made items statement ≡ Some item
   pub after : new ≡ so_far (items ++ item ∷ [])
 
-only_block : (items : List Item) (said : LineContent) → made items said ≡ None → said ≡ BlockLine
+only_block : (items : List Item) (statement : LineContent) → made items statement ≡ None → statement ≡ BlockLine
 only_block items BlockLine h = refl
 only_block items (EdgeLine label from to) h = absurd (cc)
 only_block items (HonestLine who) h = absurd (cc)
@@ -100,20 +100,20 @@ only_block items (AbandonLine who session) h = absurd (cc)
 only_block items (DeliverLine who what) h = absurd (cc)
 only_block items (MakeLine c) h = absurd (cc)
 
-pub took : (items : List Item) (said : LineContent) (new : SoFar) → (said ≡ BlockLine → ⊥) → after_line (so_far items) said ≡ Ok new → TookItem items said new
+pub took : (items : List Item) (statement : LineContent) (new : SoFar) → (statement ≡ BlockLine → ⊥) → after_line (so_far items) statement ≡ Ok new → TookItem items statement new
 unfolding after_line
-took items said new other e = by (fault items said) (made items said) refl refl e
+took items statement new other e = by (fault items statement) (made items statement) refl refl e
   where
-    by : (f : Option Kind) (m : Option Item) → fault items said ≡ f → made items said ≡ m → added (so_far items) f m ≡ Ok new → TookItem items said new
+    by : (f : Option Kind) (m : Option Item) → fault items statement ≡ f → made items statement ≡ m → added (so_far items) f m ≡ Ok new → TookItem items statement new
     by (Some k) m ef em e = absurd (cc)
     by None (Some i) ef em e = let same : plus (so_far items) i ≡ new = cc in record { item = i; right = ef; makes = em; after = sym same ∙ sym (one_more items i) }
-    by None None ef em e = absurd (other (only_block items said em))
+    by None None ef em e = absurd (other (only_block items statement em))
 
-pub stopped : (items : List Item) (said : LineContent) (kind : Kind) → after_line (so_far items) said ≡ Err kind → fault items said ≡ Some kind
+pub stopped : (items : List Item) (statement : LineContent) (kind : Kind) → after_line (so_far items) statement ≡ Err kind → fault items statement ≡ Some kind
 unfolding after_line
-stopped items said kind e = by (fault items said) (made items said) refl e
+stopped items statement kind e = by (fault items statement) (made items statement) refl e
   where
-    by : (f : Option Kind) (m : Option Item) → fault items said ≡ f → added (so_far items) f m ≡ Err kind → fault items said ≡ Some kind
+    by : (f : Option Kind) (m : Option Item) → fault items statement ≡ f → added (so_far items) f m ≡ Err kind → fault items statement ≡ Some kind
     by (Some k) m ef e = let same : k ≡ kind = cc in ef ∙ ap (λ x. Some x) same
     by None (Some i) ef e = absurd (cc)
     by None None ef e = absurd (cc)

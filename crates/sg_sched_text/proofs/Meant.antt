@@ -35,7 +35,7 @@ use Rattle.sg_sched_text.specs.Whole.{schedule_declared}
 use Rattle.sg_sched_text.proofs.CraftSpelled.{nonce_has, index_below}
 use Rattle.sg_sched_text.proofs.Growing.{one_more}
 use Rattle.sg_sched_text.proofs.RightLines.{IsRight, right, in_group}
-use Rattle.sg_sched_text.proofs.SessionsDeclared.{HasFewRoles, IsOf, Sound, sound, said_more, graph_more}
+use Rattle.sg_sched_text.proofs.SessionsDeclared.{HasFewRoles, IsOf, Sound, sound, statement_more, graph_more}
 use Rattle.sg_sched.specs.Format.Kinds.{TooManySteps}
 use Rattle.sg_sched_text.specs.Holding.{HasRoles}
 use Rattle.sg_sched.specs.Steps.{IsDeclaredIn, CanBeTaken}
@@ -53,8 +53,8 @@ room n h = by (nat_le most_steps n) refl h
     by true e h = absurd (cc)
     by false e h = leb-false most_steps n e
 
-said_meant : (p : SoFar) (m : Meant p) (said : LineContent) (i : Item) → is_form said ≡ true → IsRight p said → made_after p said ≡ Some i → Meant (plus p i)
-said_meant p m said i form r e = by said form r e (said_more p m.sound said i form r e)
+statement_meant : (p : SoFar) (m : Meant p) (statement : LineContent) (i : Item) → is_form statement ≡ true → IsRight p statement → made_after p statement ≡ Some i → Meant (plus p i)
+statement_meant p m statement i form r e = by statement form r e (statement_more p m.sound statement i form r e)
   where
     act_form : (who session label : Name) (vs : List Assignment) → is_form (ActLine who session label vs) ≡ true → list_all is_assignment vs ≡ true
     act_form who session label vs h = (and_parts (are_names (who ∷ session ∷ label ∷ [])) (list_all is_assignment vs) h).1
@@ -66,7 +66,7 @@ said_meant p m said i form r e = by said form r e (said_more p m.sound said i fo
     there : (session : Name) → has_text session (session_names p) ≡ true → index session (session_names p) < length p.sessions
     there session h = let l = length-map p.sessions (λ (s : Session). s.name) in index_below session (session_names p) (length p.sessions) (omega (arith, l)) h
 
-    by : (said : LineContent) → is_form said ≡ true → IsRight p said → made_after p said ≡ Some i → Sound (plus p i) → Meant (plus p i)
+    by : (statement : LineContent) → is_form statement ≡ true → IsRight p statement → made_after p statement ≡ Some i → Sound (plus p i) → Meant (plus p i)
     by BlockLine form r e sound = absurd (cc)
     by (EdgeLine label from to) form r e sound =
         let same : EdgeItem (edge label from to) ≡ i = cc in
@@ -109,8 +109,8 @@ meant (Next {first = first} {more = more} {items = items} {new = new} d a) = add
   where
     added : (items : List Item) (more : List Line) (new : List Item) → Add items more new → Meant (so_far items) → Meant (so_far (items ++ new))
     added items _ _ (Skip h) m = subst (λ is. Meant (so_far is)) (sym (append-nil items)) m
-    added items _ _ (Say {said = said} {item = item} says no_fault makes) m =
-        subst Meant (sym (one_more items item)) (said_meant (so_far items) m said item says.form (right (so_far items) said no_fault) makes)
+    added items _ _ (Say {statement = statement} {item = item} says no_fault makes) m =
+        subst Meant (sym (one_more items item)) (statement_meant (so_far items) m statement item says.form (right (so_far items) statement no_fault) makes)
     added items _ _ (Show {g = g} b spelled fresh) m =
         let r = right (so_far items) BlockLine b.opened.in_group in
         let early = in_group (so_far items) 0 r.form in

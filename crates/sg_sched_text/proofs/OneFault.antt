@@ -32,7 +32,7 @@ use Rattle.sg_sched_text.proofs.SamePast.{prefix, same_past, wrong_ends, edge_en
 
 -- ---- no block of the name `pair` if an edge is declared
 
-no_graph_made : (items : List Item) (said : LineContent) (g : Graph) → made items said ≡ Some (GraphItem g) → ⊥
+no_graph_made : (items : List Item) (statement : LineContent) (g : Graph) → made items statement ≡ Some (GraphItem g) → ⊥
 no_graph_made items BlockLine g e = cc
 no_graph_made items (EdgeLine label from to) g e = cc
 no_graph_made items (HonestLine who) g e = cc
@@ -48,7 +48,7 @@ no_graph_made items (MakeLine c) g e = cc
 abbrev NoPair : List Item → Type 0
 NoPair items = has_text (codes "pair") (graph_names (blocks items)) ≡ false
 
-edge_right : (items : List Item) (said : LineContent) (e : Edge) → made items said ≡ Some (EdgeItem e) → fault items said ≡ None → NoPair items
+edge_right : (items : List Item) (statement : LineContent) (e : Edge) → made items statement ≡ Some (EdgeItem e) → fault items statement ≡ None → NoPair items
 edge_right items BlockLine e m f = absurd (cc)
 edge_right items (EdgeLine label from to) e m f = (or_parts _ _ (right (so_far items) (EdgeLine label from to) f).once).1
 edge_right items (HonestLine who) e m f = absurd (cc)
@@ -68,13 +68,13 @@ module _ (items : List Item) (i : Item) where
   edges_same : edges (i ∷ []) ≡ [] → edges (items ++ i ∷ []) ≡ edges items
   edges_same none = filter_map-append as_edge items (i ∷ []) ∙ ap (λ es. edges items ++ es) none ∙ append-nil (edges items)
 
-said_no_pair : (items : List Item) (said : LineContent) (i : Item) → made items said ≡ Some i → fault items said ≡ None → ((edges items ≡ [] → ⊥) → NoPair items) → (edges (items ++ i ∷ []) ≡ [] → ⊥) → NoPair (items ++ i ∷ [])
-said_no_pair items said (GraphItem g) m f ih some = absurd (no_graph_made items said g m)
-said_no_pair items said (EdgeItem e) m f ih some = blocks_stay items (EdgeItem e) refl refl (edge_right items said e m f)
-said_no_pair items said (HonestItem who) m f ih some = blocks_stay items (HonestItem who) refl refl (ih (λ none. some (edges_same items (HonestItem who) refl ∙ none)))
-said_no_pair items said (KeyItem k) m f ih some = blocks_stay items (KeyItem k) refl refl (ih (λ none. some (edges_same items (KeyItem k) refl ∙ none)))
-said_no_pair items said (SessionItem s) m f ih some = blocks_stay items (SessionItem s) refl refl (ih (λ none. some (edges_same items (SessionItem s) refl ∙ none)))
-said_no_pair items said (StepItem s) m f ih some = blocks_stay items (StepItem s) refl refl (ih (λ none. some (edges_same items (StepItem s) refl ∙ none)))
+statement_no_pair : (items : List Item) (statement : LineContent) (i : Item) → made items statement ≡ Some i → fault items statement ≡ None → ((edges items ≡ [] → ⊥) → NoPair items) → (edges (items ++ i ∷ []) ≡ [] → ⊥) → NoPair (items ++ i ∷ [])
+statement_no_pair items statement (GraphItem g) m f ih some = absurd (no_graph_made items statement g m)
+statement_no_pair items statement (EdgeItem e) m f ih some = blocks_stay items (EdgeItem e) refl refl (edge_right items statement e m f)
+statement_no_pair items statement (HonestItem who) m f ih some = blocks_stay items (HonestItem who) refl refl (ih (λ none. some (edges_same items (HonestItem who) refl ∙ none)))
+statement_no_pair items statement (KeyItem k) m f ih some = blocks_stay items (KeyItem k) refl refl (ih (λ none. some (edges_same items (KeyItem k) refl ∙ none)))
+statement_no_pair items statement (SessionItem s) m f ih some = blocks_stay items (SessionItem s) refl refl (ih (λ none. some (edges_same items (SessionItem s) refl ∙ none)))
+statement_no_pair items statement (StepItem s) m f ih some = blocks_stay items (StepItem s) refl refl (ih (λ none. some (edges_same items (StepItem s) refl ∙ none)))
 
 shown_no_pair : (items : List Item) (g : Graph) → has_text g.name (graph_names (graphs items)) ≡ false → (edges items ≡ [] → ⊥) → NoPair items → NoPair (items ++ GraphItem g ∷ [])
 shown_no_pair items g fresh some h =
@@ -89,7 +89,7 @@ shown_no_pair items g fresh some h =
 no_pair_block : {ls : List Line} {items : List Item} → Declare ls items → (edges items ≡ [] → ⊥) → NoPair items
 no_pair_block Nothing some = absurd (some refl)
 no_pair_block (Next {items = items} d (Skip s)) some = subst NoPair (sym (append-nil items)) (no_pair_block d (λ none. some (ap edges (append-nil items) ∙ none)))
-no_pair_block (Next {items = items} d (Say {said = said} {item = i} says f m)) some = said_no_pair items said i m f (no_pair_block d) some
+no_pair_block (Next {items = items} d (Say {statement = statement} {item = i} says f m)) some = statement_no_pair items statement i m f (no_pair_block d) some
 no_pair_block (Next {items = items} d (Show {g = g} b spells fresh)) some =
     let same = edges_same items (GraphItem g) refl in
     shown_no_pair items g fresh (λ none. some (same ∙ none)) (no_pair_block d (λ none. some (same ∙ none)))
@@ -107,14 +107,14 @@ no_kind : {k : Kind} → Some k ≡ None → ⊥
 no_kind e = cc
 
 -- a line with which a block begins is of a form
-no_form : (before : List Item) (line opening : Line) (ls ls' : List Line) → ((said : LineContent) → SaysLine line said → ⊥) → SaysLine opening BlockLine → line ∷ ls ≡ opening ∷ ls' → ⊥
+no_form : (before : List Item) (line opening : Line) (ls ls' : List Line) → ((statement : LineContent) → SaysLine line statement → ⊥) → SaysLine opening BlockLine → line ∷ ls ≡ opening ∷ ls' → ⊥
 no_form before line opening ls ls' none opens e = none BlockLine (subst (λ l. SaysLine l BlockLine) (sym (head_same e)) opens)
 
 -- and right by itself
-no_fault : (before : List Item) (line opening : Line) (ls ls' : List Line) (said : LineContent) (k : Kind) → SaysLine line said → fault before said ≡ Some k → SaysLine opening BlockLine → fault before BlockLine ≡ None
+no_fault : (before : List Item) (line opening : Line) (ls ls' : List Line) (statement : LineContent) (k : Kind) → SaysLine line statement → fault before statement ≡ Some k → SaysLine opening BlockLine → fault before BlockLine ≡ None
     → line ∷ ls ≡ opening ∷ ls' → ⊥
-no_fault before line opening ls ls' said k says wrong opens in_group e =
-    no_kind (sym wrong ∙ ap (fault before) (says_one opening said BlockLine (subst (λ l. SaysLine l said) (head_same e) says) opens) ∙ in_group)
+no_fault before line opening ls ls' statement k says wrong opens in_group e =
+    no_kind (sym wrong ∙ ap (fault before) (says_one opening statement BlockLine (subst (λ l. SaysLine l statement) (head_same e) says) opens) ∙ in_group)
 
 -- a block that isn't closed is none that is
 open_or_block : (before : List Item) (opening : Line) (inner block rest : List Line) (text : List ℕ) → IsOpened before opening inner → IsBlock before block text → (opening ∷ inner) ++ [] ≡ block ++ rest → ⊥
@@ -143,9 +143,9 @@ pub record SameFault (these these' : List Line) (k j : Kind) : Type 0 where
 module _ (before : List Item) where
   same_wrong : (these these' rest rest' : List Line) (k j : Kind) → IsWrong before these rest k → IsWrong before these' rest' j → these ++ rest ≡ these' ++ rest' → SameFault these these' k j
   same_wrong _ _ rest rest' _ _ (OfNoForm no_skip none) (OfNoForm no_skip' none') e = record { count = refl; kind = refl }
-  same_wrong _ _ rest rest' _ j (OfNoForm no_skip none) (OfAForm {line = m} {said = t} says wrong) e = absurd (none t (subst (λ l. SaysLine l t) (sym (head_same e)) says))
-  same_wrong _ _ rest rest' k _ (OfAForm {line = l} {said = t} says wrong) (OfNoForm no_skip none) e = absurd (none t (subst (λ l. SaysLine l t) (head_same e) says))
-  same_wrong _ _ rest rest' k j (OfAForm {line = l} {said = s} says wrong) (OfAForm {line = m} {said = t} says' wrong') e =
+  same_wrong _ _ rest rest' _ j (OfNoForm no_skip none) (OfAForm {line = m} {statement = t} says wrong) e = absurd (none t (subst (λ l. SaysLine l t) (sym (head_same e)) says))
+  same_wrong _ _ rest rest' k _ (OfAForm {line = l} {statement = t} says wrong) (OfNoForm no_skip none) e = absurd (none t (subst (λ l. SaysLine l t) (head_same e) says))
+  same_wrong _ _ rest rest' k j (OfAForm {line = l} {statement = s} says wrong) (OfAForm {line = m} {statement = t} says' wrong') e =
       record { count = refl; kind = some_kind (sym wrong ∙ ap (fault before) (says_one m s t (subst (λ l. SaysLine l s) (head_same e) says) says') ∙ wrong') }
   same_wrong _ _ rest _ _ _ (OfNoForm {line = l} no_skip none) (NotClosed {opening = o} {inner = i} op) e = absurd (no_form before l o _ _ none op.opens e)
   same_wrong _ _ _ rest' _ _ (NotClosed {opening = o} {inner = i} op) (OfNoForm {line = l} no_skip none) e = absurd (no_form before l o _ _ none op.opens (sym e))
@@ -153,15 +153,15 @@ module _ (before : List Item) where
   same_wrong these _ rest rest' _ _ (NoGraph {text = t} b bad) (OfNoForm {line = l} no_skip none) e = absurd (no_form before l b.opening _ _ none b.opened.opens (sym e ∙ laid before these rest t b))
   same_wrong _ these' rest rest' _ _ (OfNoForm {line = l} no_skip none) (SameGraph {text = t} b spells same) e = absurd (no_form before l b.opening _ _ none b.opened.opens (e ∙ laid before these' rest' t b))
   same_wrong these _ rest rest' _ _ (SameGraph {text = t} b spells same) (OfNoForm {line = l} no_skip none) e = absurd (no_form before l b.opening _ _ none b.opened.opens (sym e ∙ laid before these rest t b))
-  same_wrong _ _ rest _ k _ (OfAForm {line = l} {said = t} says wrong) (NotClosed {opening = o} op) e = absurd (no_fault before l o _ _ t k says wrong op.opens op.in_group e)
-  same_wrong _ _ _ rest' _ j (NotClosed {opening = o} op) (OfAForm {line = l} {said = t} says wrong) e = absurd (no_fault before l o _ _ t j says wrong op.opens op.in_group (sym e))
-  same_wrong _ these' rest rest' k _ (OfAForm {line = l} {said = t} says wrong) (NoGraph {text = x} b bad) e =
+  same_wrong _ _ rest _ k _ (OfAForm {line = l} {statement = t} says wrong) (NotClosed {opening = o} op) e = absurd (no_fault before l o _ _ t k says wrong op.opens op.in_group e)
+  same_wrong _ _ _ rest' _ j (NotClosed {opening = o} op) (OfAForm {line = l} {statement = t} says wrong) e = absurd (no_fault before l o _ _ t j says wrong op.opens op.in_group (sym e))
+  same_wrong _ these' rest rest' k _ (OfAForm {line = l} {statement = t} says wrong) (NoGraph {text = x} b bad) e =
       absurd (no_fault before l b.opening _ _ t k says wrong b.opened.opens b.opened.in_group (e ∙ laid before these' rest' x b))
-  same_wrong these _ rest rest' _ j (NoGraph {text = x} b bad) (OfAForm {line = l} {said = t} says wrong) e =
+  same_wrong these _ rest rest' _ j (NoGraph {text = x} b bad) (OfAForm {line = l} {statement = t} says wrong) e =
       absurd (no_fault before l b.opening _ _ t j says wrong b.opened.opens b.opened.in_group (sym e ∙ laid before these rest x b))
-  same_wrong _ these' rest rest' k _ (OfAForm {line = l} {said = t} says wrong) (SameGraph {text = x} b spells same) e =
+  same_wrong _ these' rest rest' k _ (OfAForm {line = l} {statement = t} says wrong) (SameGraph {text = x} b spells same) e =
       absurd (no_fault before l b.opening _ _ t k says wrong b.opened.opens b.opened.in_group (e ∙ laid before these' rest' x b))
-  same_wrong these _ rest rest' _ j (SameGraph {text = x} b spells same) (OfAForm {line = l} {said = t} says wrong) e =
+  same_wrong these _ rest rest' _ j (SameGraph {text = x} b spells same) (OfAForm {line = l} {statement = t} says wrong) e =
       absurd (no_fault before l b.opening _ _ t j says wrong b.opened.opens b.opened.in_group (sym e ∙ laid before these rest x b))
   same_wrong _ _ _ _ _ _ (NotClosed {opening = o} {inner = i} op) (NotClosed {opening = o'} {inner = i'} op') e =
       record { count = ap (λ ls. length ls) (sym (append-nil (o ∷ i)) ∙ e ∙ append-nil (o' ∷ i')); kind = refl }
@@ -183,7 +183,7 @@ module _ (before : List Item) where
   wrong_or_pair : (these rest block rest' : List Line) (k : Kind) (text : List ℕ) (g : Graph) → IsWrong before these rest k → IsBlock before block text → SpellsGraph text g → g.name ≡ codes "pair" → NoPair before
       → these ++ rest ≡ block ++ rest' → ⊥
   wrong_or_pair _ rest block rest' _ text g (OfNoForm {line = l} no_skip none) b spells named free e = no_form before l b.opening _ _ none b.opened.opens (e ∙ laid before block rest' text b)
-  wrong_or_pair _ rest block rest' k text g (OfAForm {line = l} {said = t} says wrong) b spells named free e =
+  wrong_or_pair _ rest block rest' k text g (OfAForm {line = l} {statement = t} says wrong) b spells named free e =
       no_fault before l b.opening _ _ t k says wrong b.opened.opens b.opened.in_group (e ∙ laid before block rest' text b)
   wrong_or_pair _ _ block rest' _ text g (NotClosed {opening = o} {inner = i} op) b spells named free e = open_or_block before o i block rest' text op b e
   wrong_or_pair these rest block rest' _ text g (NoGraph {text = t} b' bad) b spells named free e =

@@ -66,13 +66,13 @@ one_edge : (items : List Item) (i : Item) → edges (items ++ i ∷ []) ≡ (plu
 one_edge items i = ap (λ (p : SoFar). p.edges) (one_more items i)
 
 -- the words of an edge line
-record SaysEdge (said : LineContent) : Type 0 where
+record SaysEdge (statement : LineContent) : Type 0 where
   label : Name
   from : ℕ
   to : ℕ
-  is : said ≡ EdgeLine label from to
+  is : statement ≡ EdgeLine label from to
 
-says_edge : (items : List Item) (said : LineContent) (e : Edge) → made items said ≡ Some (EdgeItem e) → SaysEdge said
+says_edge : (items : List Item) (statement : LineContent) (e : Edge) → made items statement ≡ Some (EdgeItem e) → SaysEdge statement
 says_edge items BlockLine e h = absurd (cc)
 says_edge items (EdgeLine label from to) e h = record { label = label; from = from; to = to; is = refl }
 says_edge items (HonestLine who) e h = absurd (cc)
@@ -84,13 +84,13 @@ says_edge items (AbandonLine who session) e h = absurd (cc)
 says_edge items (DeliverLine who what) e h = absurd (cc)
 says_edge items (MakeLine c) e h = absurd (cc)
 
-module _ (right : List Line) (items : List Item) (line : Line) (said : LineContent) (says : SaysLine line said) (d : Declare right items) where
+module _ (right : List Line) (items : List Item) (line : Line) (statement : LineContent) (says : SaysLine line statement) (d : Declare right items) where
   -- the line is the first edge line, if it is one
-  first : (i : Item) → made items said ≡ Some i → edges items ≡ [] → EdgeOf (right ++ line ∷ []) (items ++ i ∷ []) (suc (length right))
+  first : (i : Item) → made items statement ≡ Some i → edges items ≡ [] → EdgeOf (right ++ line ∷ []) (items ++ i ∷ []) (suc (length right))
   first (GraphItem g) m none = inl (one_edge items (GraphItem g) ∙ none)
   first (EdgeItem e) m none = inr (
     (λ h. right_empty (edges items) e (sym (one_edge items (EdgeItem e)) ∙ h)),
-    (let s = says_edge items said e m in record {
+    (let s = says_edge items statement e m in record {
       right = right;
       edge_line = line;
       more = [];
@@ -163,10 +163,10 @@ module _ (bytes rest after : List ℕ) (line : Line) (r : ScheduleReader) (s : H
   }
 
   -- a line of a form that is taken
-  pub says : (said : LineContent) (new : ScheduleReader) → SaysLine line said → (said ≡ BlockLine → ⊥) → after_line r.past said ≡ Ok new.past → new.number ≡ r.number + 1
+  pub says : (statement : LineContent) (new : ScheduleReader) → SaysLine line statement → (statement ≡ BlockLine → ⊥) → after_line r.past statement ≡ Ok new.past → new.number ≡ r.number + 1
       → new.first_edge ≡ (if length r.past.edges == 0 then r.number + 1 else r.first_edge) → HasRead bytes new after
-  says said new is other taken number first_edge =
-      let t : TookItem s.items said new.past = took s.items said new.past other (ap (λ p. after_line p said) (sym s.keeps.past) ∙ taken) in
+  says statement new is other taken number first_edge =
+      let t : TookItem s.items statement new.past = took s.items statement new.past other (ap (λ p. after_line p statement) (sym s.keeps.past) ∙ taken) in
       record {
         right = s.right ++ line ∷ [];
         items = s.items ++ t.item ∷ [];
@@ -182,14 +182,14 @@ module _ (bytes rest after : List ℕ) (line : Line) (r : ScheduleReader) (s : H
       kept : r.past.edges ≡ edges s.items
       kept = ap (λ (p : SoFar). p.edges) s.keeps.past
 
-      by : (i : Item) → made s.items said ≡ Some i → EdgeOf s.right s.items r.first_edge → EdgeOf (s.right ++ line ∷ []) (s.items ++ i ∷ []) new.first_edge
+      by : (i : Item) → made s.items statement ≡ Some i → EdgeOf s.right s.items r.first_edge → EdgeOf (s.right ++ line ∷ []) (s.items ++ i ∷ []) new.first_edge
       by i m (inl none) =
           let at : r.number + 1 ≡ suc (length s.right) = let b = s.number in omega (arith, b) in
           let same : suc (length s.right) ≡ new.first_edge = sym (first_edge ∙ ap (λ b. if b then r.number + 1 else r.first_edge) (none_counted r.past.edges (kept ∙ none)) ∙ at) in
-          subst (EdgeOf (s.right ++ line ∷ []) (s.items ++ i ∷ [])) same (first s.right s.items line said is s.keeps.declared i m none)
+          subst (EdgeOf (s.right ++ line ∷ []) (s.items ++ i ∷ [])) same (first s.right s.items line statement is s.keeps.declared i m none)
       by i m (inr some) =
           let same : r.first_edge ≡ new.first_edge = sym (first_edge ∙ ap (λ b. if b then r.number + 1 else r.first_edge) (some_counted r.past.edges (λ h. some.0 (sym kept ∙ h)))) in
-          subst (EdgeOf (s.right ++ line ∷ []) (s.items ++ i ∷ [])) same (not_first s.right s.items line said is s.keeps.declared i r.first_edge some.0 some.1)
+          subst (EdgeOf (s.right ++ line ∷ []) (s.items ++ i ∷ [])) same (not_first s.right s.items line statement is s.keeps.declared i r.first_edge some.0 some.1)
 
   -- a line with which a block begins
   pub opens : (new : ScheduleReader) → SaysLine line BlockLine → after_line r.past BlockLine ≡ Ok new.past → new.number ≡ r.number + 1
@@ -214,7 +214,7 @@ module _ (bytes rest after : List ℕ) (line : Line) (r : ScheduleReader) (s : H
           subst (EdgeOf s.right s.items) (sym (first_edge ∙ ap (λ b. if b then r.number + 1 else r.first_edge) (some_counted r.past.edges (λ h. some.0 (sym kept ∙ h))))) (inr some)
 
   -- a line of no form
-  pub no_form : (n : ℕ) → n ≡ r.number + 1 → is_skipped line ≡ false → ((said : LineContent) → SaysLine line said → ⊥) → IsFirstFault bytes n Form
+  pub no_form : (n : ℕ) → n ≡ r.number + 1 → is_skipped line ≡ false → ((statement : LineContent) → SaysLine line statement → ⊥) → IsFirstFault bytes n Form
   no_form n number no_skip none = AtIt record {
     right = s.right;
     these = line ∷ [];
@@ -227,22 +227,22 @@ module _ (bytes rest after : List ℕ) (line : Line) (r : ScheduleReader) (s : H
   }
 
   -- a line of a form that is wrong
-  pub wrong : (said : LineContent) (n : ℕ) (kind : Kind) → n ≡ r.number + 1 → SaysLine line said → after_line r.past said ≡ Err kind → IsFirstFault bytes n kind
-  wrong said n kind number is bad = AtIt record {
+  pub wrong : (statement : LineContent) (n : ℕ) (kind : Kind) → n ≡ r.number + 1 → SaysLine line statement → after_line r.past statement ≡ Err kind → IsFirstFault bytes n kind
+  wrong statement n kind number is bad = AtIt record {
     right = s.right;
     these = line ∷ [];
     rest = lines after;
     items = s.items;
     all = s.all ∙ ap (λ ls. s.right ++ ls) e;
     declared = s.keeps.declared;
-    wrong = OfAForm is (stopped s.items said kind (ap (λ p. after_line p said) (sym s.keeps.past) ∙ bad));
+    wrong = OfAForm is (stopped s.items statement kind (ap (λ p. after_line p statement) (sym s.keeps.past) ∙ bad));
     number = let b = s.number in omega (arith, b, number);
   }
 
   -- a line that isn't taken
-  pub not_taken : (said : LineContent) (fault : LineFault) → SaysLine line said → IsAt (after_line r.past said) (r.number + 1) fault → IsFault bytes fault
-  not_taken said (AtLine n kind) is h = wrong said n (kind_of kind) h.0 is h.1
-  not_taken said NoMemory is h = tt
+  pub not_taken : (statement : LineContent) (fault : LineFault) → SaysLine line statement → IsAt (after_line r.past statement) (r.number + 1) fault → IsFault bytes fault
+  not_taken statement (AtLine n kind) is h = wrong statement n (kind_of kind) h.0 is h.1
+  not_taken statement NoMemory is h = tt
 
 -- ---- blocks
 

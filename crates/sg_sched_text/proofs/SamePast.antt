@@ -68,7 +68,7 @@ edges_stay (More {before = b} {new = n} a f) h e = edges_stay f (λ none. h (lef
 -- if no edge is declared, a way ends at an edge line
 pub edge_ends : (items : List Item) (line : Line) (rest : List Line) (label : Name) (from to : ℕ) → SaysLine line (EdgeLine label from to) → (all : List Item) → edges all ≡ [] → Ends items (line ∷ rest) all
 edge_ends items line rest label from to says all none new _ later (Skip {line = l} s) e ls f = not_skipped line (EdgeLine label from to) says (subst (λ l. is_skipped l ≡ true) (sym (head_same e)) s)
-edge_ends items line rest label from to says all none _ _ later (Say {line = l} {said = t} {item = i} says' right makes) e ls f =
+edge_ends items line rest label from to says all none _ _ later (Say {line = l} {statement = t} {item = i} says' right makes) e ls f =
     let same : t ≡ EdgeLine label from to = says_one line t (EdgeLine label from to) (subst (λ l. SaysLine l t) (sym (head_same e)) says') says in
     let item : i ≡ EdgeItem (edge label from to) = some_same (sym makes ∙ ap (made items) same) in
     edges_stay (subst (λ i. Prefix (items ++ i ∷ []) ls all) item f) (λ h. right_empty (edges items) (edge label from to) (sym (filter_map-append as_edge items (EdgeItem (edge label from to) ∷ [])) ∙ h)) none
@@ -107,7 +107,7 @@ pair_named items h = ap (has_text (codes "pair")) (names_append (blocks items) (
 pub pair_ends : (items : List Item) (block rest : List Line) (text : List ℕ) (g : Graph) → (edges items ≡ [] → ⊥) → IsBlock items block text → SpellsGraph text g → g.name ≡ codes "pair" → (all : List Item)
     → Ends items (block ++ rest) all
 pair_ends items block rest text g some b spells named all new _ later (Skip {line = l} s) e ls f = skip_or_show items l block later rest text s b (sym e)
-pair_ends items block rest text g some b spells named all _ _ later (Say {line = l} {said = t} {item = i} says right makes) e ls f = say_or_show items l t i block later rest text says makes b (sym e)
+pair_ends items block rest text g some b spells named all _ _ later (Say {line = l} {statement = t} {item = i} says right makes) e ls f = say_or_show items l t i block later rest text says makes b (sym e)
 pair_ends items block rest text g some b spells named all _ more later (Show {text = text'} {g = g'} b' spells' fresh) e ls f =
     let same : g' ≡ g = ok_same g' g (read text') (spells-read text' g' spells') (ap read (one_text items more block later rest text' text b' b (sym e)) ∙ spells-read text g spells) in
     contradicts (pair_named items some) (ap (λ n. has_text n (graph_names (graphs items))) (sym (ap (λ (x : Graph). x.name) same ∙ named)) ∙ fresh)

@@ -159,26 +159,26 @@ module _ (p : SoFar) (s : Sound p) where
   step_more x i same = subst (λ i. Sound (plus p i)) same (other_more (plus p (StepItem x)) refl refl (omega arith))
 
   -- a line that is right
-  pub said_more : (said : LineContent) (i : Item) → is_form said ≡ true → IsRight p said → made_after p said ≡ Some i → Sound (plus p i)
-  said_more BlockLine i form r m = absurd (cc)
-  said_more (EdgeLine label from to) i form r m =
+  pub statement_more : (statement : LineContent) (i : Item) → is_form statement ≡ true → IsRight p statement → made_after p statement ≡ Some i → Sound (plus p i)
+  statement_more BlockLine i form r m = absurd (cc)
+  statement_more (EdgeLine label from to) i form r m =
       let same : EdgeItem (edge label from to) ≡ i = cc in
       let late = (or_parts (nat_lt 0 p.group) _ r.form).0 in
       subst (λ i. Sound (plus p i)) same (edge_more (edge label from to) (in_group p 0 late))
-  said_more (HonestLine who) i form r m = let same : HonestItem who ≡ i = cc in subst (λ i. Sound (plus p i)) same (other_more (plus p (HonestItem who)) refl refl (omega arith))
-  said_more (KeyLine one two digits) i form r m =
+  statement_more (HonestLine who) i form r m = let same : HonestItem who ≡ i = cc in subst (λ i. Sound (plus p i)) same (other_more (plus p (HonestItem who)) refl refl (omega arith))
+  statement_more (KeyLine one two digits) i form r m =
       let k : Item = KeyItem (record { one = one; two = two; key = bytes_of digits }) in
       let same : k ≡ i = cc in
       subst (λ i. Sound (plus p i)) same (other_more (plus p k) refl refl (omega arith))
-  said_more (SessionLine name graph nonce names version) i form r m =
+  statement_more (SessionLine name graph nonce names version) i form r m =
       let s : Item = SessionItem (record { name = name; graph = index graph (graph_names (graphs_declared p)); nonce = nonce; names = names; version = version }) in
       let same : s ≡ i = cc in
       subst (λ i. Sound (plus p i)) same (session_more name graph nonce names version form r)
-  said_more (StartLine who session) i form r m = step_more (StartStep who (index session (session_names p))) i (cc)
-  said_more (ActLine who session label vs) i form r m = step_more (ActStep who (index session (session_names p)) (index label (labels_of (graph_for session p))) (values (graph_for session p) vs)) i (cc)
-  said_more (AbandonLine who session) i form r m = step_more (AbandonStep who (index session (session_names p))) i (cc)
-  said_more (DeliverLine who what) i form r m = step_more (DeliverStep who (what_of what)) i (cc)
-  said_more (MakeLine c) i form r m = step_more (CraftStep (craft p (graph_for c.session p) c)) i (cc)
+  statement_more (StartLine who session) i form r m = step_more (StartStep who (index session (session_names p))) i (cc)
+  statement_more (ActLine who session label vs) i form r m = step_more (ActStep who (index session (session_names p)) (index label (labels_of (graph_for session p))) (values (graph_for session p) vs)) i (cc)
+  statement_more (AbandonLine who session) i form r m = step_more (AbandonStep who (index session (session_names p))) i (cc)
+  statement_more (DeliverLine who what) i form r m = step_more (DeliverStep who (what_of what)) i (cc)
+  statement_more (MakeLine c) i form r m = step_more (CraftStep (craft p (graph_for c.session p) c)) i (cc)
 
 -- ---- lines
 
@@ -192,8 +192,8 @@ sound (Next {first = first} {more = more} {items = items} {new = new} d a) = add
 
     added : (items : List Item) (more : List Line) (new : List Item) → Add items more new → Sound (so_far items) → Sound (so_far (items ++ new))
     added items _ _ (Skip h) s = subst (λ is. Sound (so_far is)) (sym (nil items)) s
-    added items _ _ (Say {said = said} {item = item} says no_fault makes) s =
-        subst Sound (sym (one_more items item)) (said_more (so_far items) s said item says.form (right (so_far items) said no_fault) makes)
+    added items _ _ (Say {statement = statement} {item = item} says no_fault makes) s =
+        subst Sound (sym (one_more items item)) (statement_more (so_far items) s statement item says.form (right (so_far items) statement no_fault) makes)
     added items _ _ (Show {g = g} b spelled fresh) s =
         let r = right (so_far items) BlockLine b.opened.in_group in
         subst Sound (sym (one_more items (GraphItem g))) (graph_more (so_far items) s g (in_group (so_far items) 0 r.form) (record { some = spelled.two_roles; few = spelled.is_graph.sizes.0 }))

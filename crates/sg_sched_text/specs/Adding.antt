@@ -30,7 +30,7 @@ added past None None = Ok past
 
 -- what is declared after a line of a form
 unfoldable pub after_line : SoFar → LineContent → Added
-after_line past said = added past (fault_after past said) (made_after past said)
+after_line past statement = added past (fault_after past statement) (made_after past statement)
 
 -- ---- declarations
 

@@ -2,7 +2,7 @@
 ghost use Rattle.std.specs.Prelude.{◌≡◌, ℕ, List, ◌+◌, ◌<◌, ◌≤◌, ◌^◌, [], length, IfOk, IsTrue, MatchResult, Ok, Err};
 ghost use Rattle.sg_parse.specs.Grammar.{SpellsGraph};
 ghost use Rattle.sg_sched.specs.Format.Forms.{is_form};
-ghost use Rattle.sg_sched.specs.Format.Model.{said};
+ghost use Rattle.sg_sched.specs.Format.Model.{statement};
 ghost use Rattle.sg_sched_text.specs.Adding.{after_line};
 ghost use Rattle.sg_sched_text.specs.Plus.{nothing};
 ghost use Rattle.sg_sched_text.specs.ReadSoFar.{HasRead, Opens, Says, Shows, IsFault};
@@ -14,7 +14,7 @@ use crate::stop::Stop;
 use sg_graph::Graph;
 use sg_parse::{ParseFault, parse_graph};
 use sg_sched::line::Line;
-use sg_sched::read_line::read_said;
+use sg_sched::read_line::read_statement;
 use sg_sched::{Kind, LineFault, is_skipped, line_content, split_line};
 use std::alloc::Global;
 
@@ -54,8 +54,8 @@ impl ScheduleReader {
         if is_skipped(line_content(line)) {
             return Ok(after);
         }
-        match read_said(self.past.alloc, line) {
-            Ok(Some(said)) => match said {
+        match read_statement(self.past.alloc, line) {
+            Ok(Some(statement)) => match statement {
                 Line::Block => {
                     self.say(Line::Block)?;
                     self.block(after)
@@ -72,8 +72,8 @@ impl ScheduleReader {
 
     // Takes what the line of the reader's number says. One with which a block begins adds nothing by itself.
     fn say(&mut self, line: Line<'_>) -> Result<(), LineFault>
-        requires { IsTrue (is_form (said line)) }
-        ensures { Says (after_line self.old.past (said line.entry)) self.old self.new result }
+        requires { IsTrue (is_form (statement line)) }
+        ensures { Says (after_line self.old.past (statement line.entry)) self.old self.new result }
     {
         let none = self.past.has_no_edges();
         if let Err(stop) = self.past.take(line) {

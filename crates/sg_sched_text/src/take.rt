@@ -1,7 +1,7 @@
 //! How one more line is taken.
 ghost use Rattle.std.specs.Prelude.{◌≡◌, IsTrue};
 ghost use Rattle.sg_sched.specs.Format.Forms.{is_form};
-ghost use Rattle.sg_sched.specs.Format.Model.{said};
+ghost use Rattle.sg_sched.specs.Format.Model.{statement};
 ghost use Rattle.sg_sched.specs.Format.LineContents.{BlockLine};
 ghost use Rattle.sg_sched_text.specs.Adding.{after_line};
 ghost use Rattle.sg_sched_text.specs.TakingLines.{Takes};
@@ -14,8 +14,8 @@ use sg_sched::line::Line;
 impl Declared {
     /// Takes what a line says. One with which a block begins adds nothing by itself.
     pub fn take(&mut self, line: Line<'_>) -> Result<(), Stop>
-        requires { IsTrue (is_form (said line)) }
-        ensures { Takes (after_line self.old (said line.entry)) self.new result }
+        requires { IsTrue (is_form (statement line)) }
+        ensures { Takes (after_line self.old (statement line.entry)) self.new result }
     {
         match line {
             Line::Block => self.block(),

@@ -105,21 +105,21 @@ eight_of_play : IsOfPlay 8
 eight_of_play = inr (inr (inr refl))
 
 -- the status of a command that may have played
-status_said : (c : Option Command) (work : Ending) (old new : Output) (status : ℕ) → HasPlayed c work → Says work old new status → PlaysWith c status
-status_said (Some (Run keys script most programs)) work old new status h says = of_says IsOfPlay six_of_play eight_of_play work old new status (of_play work h) says
-status_said (Some (Keep file keys script most programs)) work old new status h says = of_says IsOfKeep (inl six_of_play) (inl eight_of_play) work old new status (of_keep work h) says
-status_said (Some (Stream keys script most programs)) work old new status h says = of_says IsOfPlay six_of_play eight_of_play work old new status (of_play work h) says
-status_said (Some (Check file)) work old new status h says = absurd h
-status_said (Some (Compile file role)) work old new status h says = absurd h
-status_said (Some (Replay file)) work old new status h says = absurd h
-status_said (Some (Drive seed sessions file)) work old new status h says = absurd h
-status_said (Some (Ledger file)) work old new status h says = absurd h
-status_said (Some (Audit file)) work old new status h says = absurd h
-status_said (Some (Compose file)) work old new status h says = absurd h
-status_said (Some (Suggest file)) work old new status h says = absurd h
-status_said (Some (Claims graph claims)) work old new status h says = absurd h
-status_said (Some (Serve over_tcp ledger keys programs)) work old new status h says = of_says IsOfServe (inl (inl six_of_play)) (inl (inl eight_of_play)) work old new status (of_serve work h) says
-status_said None work old new status h says = absurd h
+status_reported : (c : Option Command) (work : Ending) (old new : Output) (status : ℕ) → HasPlayed c work → Says work old new status → PlaysWith c status
+status_reported (Some (Run keys script most programs)) work old new status h says = of_says IsOfPlay six_of_play eight_of_play work old new status (of_play work h) says
+status_reported (Some (Keep file keys script most programs)) work old new status h says = of_says IsOfKeep (inl six_of_play) (inl eight_of_play) work old new status (of_keep work h) says
+status_reported (Some (Stream keys script most programs)) work old new status h says = of_says IsOfPlay six_of_play eight_of_play work old new status (of_play work h) says
+status_reported (Some (Check file)) work old new status h says = absurd h
+status_reported (Some (Compile file role)) work old new status h says = absurd h
+status_reported (Some (Replay file)) work old new status h says = absurd h
+status_reported (Some (Drive seed sessions file)) work old new status h says = absurd h
+status_reported (Some (Ledger file)) work old new status h says = absurd h
+status_reported (Some (Audit file)) work old new status h says = absurd h
+status_reported (Some (Compose file)) work old new status h says = absurd h
+status_reported (Some (Suggest file)) work old new status h says = absurd h
+status_reported (Some (Claims graph claims)) work old new status h says = absurd h
+status_reported (Some (Serve over_tcp ledger keys programs)) work old new status h says = of_says IsOfServe (inl (inl six_of_play)) (inl (inl eight_of_play)) work old new status (of_serve work h) says
+status_reported None work old new status h says = absurd h
 
 -- a run over one link leaves the others as they are, and what it doesn't read
 pub over_link : {Played Link Stream Port Input Words : Type 0} → Stream → Port → Input → Played ⊎ (Link × Words) → Played ⊎ (Link × Stream × Port × Input × Words)
@@ -133,5 +133,5 @@ over_stream link port input (inr rest) = inr (link, rest.0, port, input, rest.1)
 -- a command that may have played ends with one of its statuses; or the rest holds
 pub may_play : {Rest : Type 0} (args : List (List ℕ)) (c : Option Command) (work : Ending) (old new : Output) (status : ℕ) → c ≡ command_of args → HasPlayed c work ⊎ Rest
     → Says work old new status → MayPlay args status ⊎ Rest
-may_play args c work old new status same (inl h) says = inl (subst (λ (x : Option Command). PlaysWith x status) same (status_said c work old new status h says))
+may_play args c work old new status same (inl h) says = inl (subst (λ (x : Option Command). PlaysWith x status) same (status_reported c work old new status h says))
 may_play args c work old new status same (inr rest) says = inr rest

@@ -186,4 +186,4 @@ fault_after past l = first_some (where' (is_wrong past l) Form ∷ too_many past
 
 -- what is wrong with a line of a form, after what the items before it declare
 abbrev pub fault : List Item → LineContent → Option Kind
-fault items said = fault_after (so_far items) said
+fault items statement = fault_after (so_far items) statement

@@ -96,6 +96,6 @@ abbrev pub is_skipped : List ℕ → Bool
 is_skipped line = list_all (λ b. nat_lt b 128) (content line) && (is_comment (content line) || length (words (content line)) == 0)
 
 -- the words of the line are those of what it says, and each field holds what it may hold
-pub record SaysLine (line : List ℕ) (said : LineContent) : Type 0 where
-  pub spelled : words (content line) ≡ line_words said
-  pub form : IsTrue (is_form said)
+pub record SaysLine (line : List ℕ) (statement : LineContent) : Type 0 where
+  pub spelled : words (content line) ≡ line_words statement
+  pub form : IsTrue (is_form statement)

@@ -16,17 +16,17 @@ delivered (Cut number len) = TheCut number len
 delivered (Bytes digits) = TheBytes digits.now
 
 -- what a line that is held says
-abbrev pub said : Line → LineContent
-said Block = BlockLine
-said (Edge label from to) = EdgeLine label from to
-said (Honest who) = HonestLine who
-said (Key one two digits) = KeyLine one two digits.now
-said (Session name graph nonce names version) = SessionLine name graph nonce names version
-said (Start who session) = StartLine who session
-said (Act who session label values) = ActLine who session label values
-said (Abandon who session) = AbandonLine who session
-said (Deliver who what) = DeliverLine who (delivered what)
-said (Craft c) = MakeLine c
+abbrev pub statement : Line → LineContent
+statement Block = BlockLine
+statement (Edge label from to) = EdgeLine label from to
+statement (Honest who) = HonestLine who
+statement (Key one two digits) = KeyLine one two digits.now
+statement (Session name graph nonce names version) = SessionLine name graph nonce names version
+statement (Start who session) = StartLine who session
+statement (Act who session label values) = ActLine who session label values
+statement (Abandon who session) = AbandonLine who session
+statement (Deliver who what) = DeliverLine who (delivered what)
+statement (Craft c) = MakeLine c
 
 -- what was taken, and the words that are left
 abbrev pub taken : {A : Type 0} → Option A → WordsLeft → Option (A × WordsLeft)

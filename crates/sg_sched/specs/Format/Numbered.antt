@@ -77,4 +77,4 @@ made_after past (MakeLine c) = Some (StepItem (CraftStep (craft past (graph_for 
 
 -- what a line adds to what the items before it declare
 abbrev pub made : List Item → LineContent → Option Item
-made items said = made_after (so_far items) said
+made items statement = made_after (so_far items) statement

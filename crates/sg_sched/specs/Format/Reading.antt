@@ -28,7 +28,7 @@ after {A} take next ws = option_and_then (λ (p : A × WordsLeft). next p.0 p.1)
 
 -- no word is left
 abbrev pub ended : {A : Type 0} → Option A → WordsLeft → Option A
-ended said ws = if length ws == 0 then said else None
+ended statement ws = if length ws == 0 then statement else None
 
 -- ---- words
 

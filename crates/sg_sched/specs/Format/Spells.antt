@@ -47,7 +47,7 @@ pub record IsBlock (before : List Item) (block : List Line) (text : List ℕ) : 
 -- after what is declared before them, these lines add these items: a line that is skipped, a line of a form, or a block of a graph whose name is new
 pub data Add (before : List Item) : List Line → List Item → Type 0 where
   Skip : {line : Line} → IsTrue (is_skipped line) → Add before (line ∷ []) []
-  Say : {line : Line} {said : LineContent} {item : Item} → SaysLine line said → fault before said ≡ None → made before said ≡ Some item → Add before (line ∷ []) (item ∷ [])
+  Say : {line : Line} {statement : LineContent} {item : Item} → SaysLine line statement → fault before statement ≡ None → made before statement ≡ Some item → Add before (line ∷ []) (item ∷ [])
   Show : {block : List Line} {text : List ℕ} {g : AGraph} → IsBlock before block text → SpellsGraph text g → IsFalse (has_text g.name (graph_names (graphs before)))
       → Add before block (GraphItem g ∷ [])
 
@@ -66,8 +66,8 @@ pub record SpellsSchedule (sha : Hash) (bytes : List ℕ) (s : Schedule) : Type 
 
 -- after what is declared before them, the last of these lines is wrong in this way, whatever the rest is
 pub data IsWrong (before : List Item) : (these rest : List Line) → Kind → Type 0 where
-  OfNoForm : {line : Line} {rest : List Line} → IsFalse (is_skipped line) → ((said : LineContent) → SaysLine line said → ⊥) → IsWrong before (line ∷ []) rest Form
-  OfAForm : {line : Line} {rest : List Line} {said : LineContent} {kind : Kind} → SaysLine line said → fault before said ≡ Some kind → IsWrong before (line ∷ []) rest kind
+  OfNoForm : {line : Line} {rest : List Line} → IsFalse (is_skipped line) → ((statement : LineContent) → SaysLine line statement → ⊥) → IsWrong before (line ∷ []) rest Form
+  OfAForm : {line : Line} {rest : List Line} {statement : LineContent} {kind : Kind} → SaysLine line statement → fault before statement ≡ Some kind → IsWrong before (line ∷ []) rest kind
   NotClosed : {opening : Line} {inner : List Line} → IsOpened before opening inner → IsWrong before (opening ∷ inner) [] Form
   NoGraph : {block rest : List Line} {text : List ℕ} {e : ParseFault} → IsBlock before block text → read text ≡ Err e → IsWrong before block rest (Graph e)
   SameGraph : {block rest : List Line} {text : List ℕ} {g : AGraph} → IsBlock before block text → SpellsGraph text g → IsTrue (has_text g.name (graph_names (blocks before)))

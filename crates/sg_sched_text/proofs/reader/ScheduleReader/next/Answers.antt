@@ -1,7 +1,7 @@
 -- A line or a block, and what follows it.
 use Rattle.std.proofs.Common.{◌≡◌, ap, sym, subst, refl, rules, arith, Err, true, false}
 use Rattle.sg_sched.specs.Format.Forms.{SaysLine, is_skipped}
-use Rattle.sg_sched.specs.Format.Model.{said}
+use Rattle.sg_sched.specs.Format.Model.{statement}
 use Rattle.sg_sched.specs.Format.LineContents.{BlockLine}
 use Rattle.sg_sched_text.specs.declared.reader.ScheduleReader.{ScheduleReader}
 use Rattle.sg_sched_text.specs.ReadSoFar.{HasRead}
@@ -35,27 +35,27 @@ returns-in_ok-say-in-Block-clause-has_read c = λ bytes s.
 pub returns-in_err-say-in_default : goal.returns-in_err-say-in_default
 returns-in_err-say-in_default c =
     let line = c.split_line.result.0.now in
-    let is : SaysLine line (said c.in-Ok-Some.said) = rw c.in-Ok-Some.field-0-is at c.in-Ok-Some.ensures in
+    let is : SaysLine line (statement c.in-Ok-Some.statement) = rw c.in-Ok-Some.field-0-is at c.in-Ok-Some.ensures in
     let same : c.from_residual-in_err-say-in_default.result ≡ Err c.in_err-say-in_default.field-0.0 = search rules in
     record {
       has_read = λ bytes s.
           let at = subst (λ (r : ScheduleReader). HasRead bytes r c.args.rest.now) (sym c.self.view_is) s in
-          rw same (not_taken bytes c.args.rest.now c.split_line.result.1.now line _ at c.split_line.ensures.split (said c.in-Ok-Some.said) c.in_err-say-in_default.field-0.0 is c.in_err-say-in_default.ensures.wrong);
+          rw same (not_taken bytes c.args.rest.now c.split_line.result.1.now line _ at c.split_line.ensures.split (statement c.in-Ok-Some.statement) c.in_err-say-in_default.field-0.0 is c.in_err-say-in_default.ensures.wrong);
       shorter = rw same tt;
     }
 
 pub returns-in_ok-say-in_default : goal.returns-in_ok-say-in_default
 returns-in_ok-say-in_default c =
     let line = c.split_line.result.0.now in
-    let is : SaysLine line (said c.in-Ok-Some.said) = rw c.in-Ok-Some.field-0-is at c.in-Ok-Some.ensures in
+    let is : SaysLine line (statement c.in-Ok-Some.statement) = rw c.in-Ok-Some.field-0-is at c.in-Ok-Some.ensures in
     let e = c.in_ok-say-in_default.ensures in
     let n = ap (λ (r : ScheduleReader). r.number) c.self.view_is in
     let k = e.number in
-    let none : said c.in-Ok-Some.said ≡ BlockLine → ⊥ = λ b. c.in_default.not-Block (only_block c.in-Ok-Some.said b) in
+    let none : statement c.in-Ok-Some.statement ≡ BlockLine → ⊥ = λ b. c.in_default.not-Block (only_block c.in-Ok-Some.statement b) in
     record {
       has_read = λ bytes s.
           let at = subst (λ (r : ScheduleReader). HasRead bytes r c.args.rest.now) (sym c.self.view_is) s in
-          says bytes c.args.rest.now c.split_line.result.1.now line _ at c.split_line.ensures.split (said c.in-Ok-Some.said) c.say-in_default.new.self is none e.taken e.number e.edge;
+          says bytes c.args.rest.now c.split_line.result.1.now line _ at c.split_line.ensures.split (statement c.in-Ok-Some.statement) c.say-in_default.new.self is none e.taken e.number e.edge;
       shorter = (c.split_line.ensures.shorter, omega (arith, n, k));
     }
 

@@ -3,7 +3,7 @@ use Rattle.std.proofs.lemmas.Result.{IfOk-weaker}
 use Rattle.sg_sched.specs.Format.Form.{form}
 use Rattle.sg_sched.specs.Text.{words}
 use Rattle.sg_sched.proofs.LineLaws.{says}
-use Rattle.sg_sched.proofs.read_line.read_said.Goals as goal
+use Rattle.sg_sched.proofs.read_line.read_statement.Goals as goal
 
 pub returns : goal.returns
 returns c =
