@@ -18,17 +18,17 @@ use Rattle.sg_report.specs.Lines.{graph_or_none, line_text}
 use Rattle.sg_report.specs.Reported.{Reported, reported_answer, session_reported, sid_left, sid_reported}
 use Rattle.sg_play.specs.declared.player.Player.{Player}
 use Rattle.sg_play.specs.Asking.{IsAsked, IsAskedWithFrames, sealed_in}
-use Rattle.sg_play.specs.Meeting.{met_more}
+use Rattle.sg_play.specs.Meeting.{known_more}
 use Rattle.sg_play.specs.Played.{Play, answer_in, called, sid_given, step_in}
 use Rattle.sg_play.specs.Posting.{frames_made}
 use Rattle.sg_play.specs.Representation.{HasAsked, RepresentsPlay}
-use Rattle.sg_play.specs.Steps.{frames_in, frames_of, met_in}
+use Rattle.sg_play.specs.Steps.{frames_in, frames_of, known_in}
 use Rattle.sg_play.proofs.Called.{is_addressed}
 use Rattle.sg_play.proofs.Endings.{frames_more}
 
 -- ---- names
 
-sids_more : (calls : List AnsweredCall) (c : AnsweredCall) → (met_in (calls ++ c ∷ [])).events ≡ (met_in calls).events ++ map sid_of (events_of_answer c.answer)
+sids_more : (calls : List AnsweredCall) (c : AnsweredCall) → (known_in (calls ++ c ∷ [])).events ≡ (known_in calls).events ++ map sid_of (events_of_answer c.answer)
 sids_more calls c =
     ap (map sid_of) (flat_map-append (λ (c : AnsweredCall). events_of_answer c.answer) calls (c ∷ []) ∙ ap (λ l. flat_map (λ (c : AnsweredCall). events_of_answer c.answer) calls ++ l) (append-nil (events_of_answer c.answer)))
     ∙ map-append sid_of (flat_map (λ (c : AnsweredCall). events_of_answer c.answer) calls) (events_of_answer c.answer)
@@ -36,18 +36,18 @@ sids_more calls c =
 abbrev with_events : List (List ℕ) → KnownSessions
 with_events l = record { declared = []; events = l }
 
-met_by : (m : List (List ℕ)) (k : ℕ) (a : Answer) → with_events (m ++ map sid_of (events_of_answer a)) ≡ met_more (with_events m) (reported_answer k a)
-met_by m k (Protocol.Happened e) = refl
-met_by m k (Protocol.Sends e to f) = refl
-met_by m k Protocol.Abandoned = ap with_events (append-nil m)
-met_by m k (Protocol.NotStarted x) = ap with_events (append-nil m)
-met_by m k (Protocol.NotActed x) = ap with_events (append-nil m)
-met_by m k Protocol.NotAbandoned = ap with_events (append-nil m)
-met_by m k (Protocol.NotDelivered x) = ap with_events (append-nil m)
+known_by : (m : List (List ℕ)) (k : ℕ) (a : Answer) → with_events (m ++ map sid_of (events_of_answer a)) ≡ known_more (with_events m) (reported_answer k a)
+known_by m k (Protocol.Happened e) = refl
+known_by m k (Protocol.Sends e to f) = refl
+known_by m k Protocol.Abandoned = ap with_events (append-nil m)
+known_by m k (Protocol.NotStarted x) = ap with_events (append-nil m)
+known_by m k (Protocol.NotActed x) = ap with_events (append-nil m)
+known_by m k Protocol.NotAbandoned = ap with_events (append-nil m)
+known_by m k (Protocol.NotDelivered x) = ap with_events (append-nil m)
 
 -- the sessions after a call, by what is reported of it
-pub met_after : (calls : List AnsweredCall) (c : AnsweredCall) (k : ℕ) → met_in (calls ++ c ∷ []) ≡ met_more (met_in calls) (reported_answer k c.answer)
-met_after calls c k = ap with_events (sids_more calls c) ∙ met_by (met_in calls).events k c.answer
+pub known_after : (calls : List AnsweredCall) (c : AnsweredCall) (k : ℕ) → known_in (calls ++ c ∷ []) ≡ known_more (known_in calls) (reported_answer k c.answer)
+known_after calls c k = ap with_events (sids_more calls c) ∙ known_by (known_in calls).events k c.answer
 
 -- the session in which something happened
 pub reported_given : (k : ℕ) (a : Answer) → sid_reported (reported_answer k a) ≡ sid_given a
@@ -119,30 +119,30 @@ abbrev pub reported_in : Play → Call → Reported
 reported_in p c = reported_answer (length (frames_of p.steps) + 1) (answer_in p c)
 
 -- the sessions that are met with it
-met_with : (p : Play) (c : Call) → met_more (met_in p.past.calls) (reported_in p c) ≡ met_in (past_after real p.past c).calls
-met_with p c = sym (met_after p.past.calls (record { call = c; answer = answer_in p c }) (length (frames_of p.steps) + 1))
+known_with : (p : Play) (c : Call) → known_more (known_in p.past.calls) (reported_in p c) ≡ known_in (past_after real p.past c).calls
+known_with p c = sym (known_after p.past.calls (record { call = c; answer = answer_in p c }) (length (frames_of p.steps) + 1))
 
 -- what reporting a step leaves of a player
-pub reported_rest : (old met : Player) (number : ℕ) → met ≡ record old { names = met.names } → number ≡ met.steps + 1 → record met { steps = number } ≡ record old { names = met.names; steps = old.steps + 1 }
-reported_rest old met number is next = (λ i. record (is i) { steps = next i }) ∙ (λ i. record old { names = met.names; steps = (is i).steps + 1 })
+pub reported_rest : (old known : Player) (number : ℕ) → known ≡ record old { names = known.names } → number ≡ known.steps + 1 → record known { steps = number } ≡ record old { names = known.names; steps = old.steps + 1 }
+reported_rest old known number is next = (λ i. record (is i) { steps = next i }) ∙ (λ i. record old { names = known.names; steps = (is i).steps + 1 })
 
 -- the line is that of the step
 pub line_is : (pl : Player) (p : Play) (c : Call) (reported : Option Reported) (left : Option (List ℕ)) (graph : Option Graph) (made : List (Addr × List ℕ)) (line : List ℕ) → HasAsked pl p c reported graph made → left ≡ sid_left c
-    → line ≡ line_text (option_map_or (session_name 115 (met_more (met_in p.past.calls) (reported_in p c))) (session_reported left (reported_in p c)) []) (graph_or_none graph) (pl.steps + 1) pl.keys.now.me (reported_in p c) → line ≡ (step_in p c).line
+    → line ≡ line_text (option_map_or (session_name 115 (known_more (known_in p.past.calls) (reported_in p c))) (session_reported left (reported_in p c)) []) (graph_or_none graph) (pl.steps + 1) pl.keys.now.me (reported_in p c) → line ≡ (step_in p c).line
 line_is pl p c reported left graph made line h l e =
-    let met = met_with p c in
+    let known = known_with p c in
     let number : pl.steps + 1 ≡ length (past_after real p.past c).calls = ap (λ n. n + 1) h.steps ∙ sym (one_more p.past.calls (record { call = c; answer = answer_in p c })) in
     let graphed = h.is_graph in
     let me : pl.keys.now.me ≡ p.past.keys.me = ap (λ (k : Keyring). k.me) (sym h.keys) in
-    e ∙ (λ i. line_text (option_map_or (session_name 115 (met i)) (session_reported (l i) (reported_in p c)) []) (graph_or_none (graphed i)) (number i) (me i) (reported_in p c))
+    e ∙ (λ i. line_text (option_map_or (session_name 115 (known i)) (session_reported (l i) (reported_in p c)) []) (graph_or_none (graphed i)) (number i) (me i) (reported_in p c))
 
 -- the names are those after it
-pub names_are : (ns : Naming) (p : Play) (c : Call) → ns ≡ naming 115 (met_more (met_in p.past.calls) (reported_in p c)) → ns ≡ naming 115 (met_in (past_after real p.past c).calls)
-names_are ns p c e = e ∙ ap (naming 115) (met_with p c)
+pub names_are : (ns : Naming) (p : Play) (c : Call) → ns ≡ naming 115 (known_more (known_in p.past.calls) (reported_in p c)) → ns ≡ naming 115 (known_in (past_after real p.past c).calls)
+names_are ns p c e = e ∙ ap (naming 115) (known_with p c)
 
 -- and the player represents the play with the step
 pub represents_reported : (old new : Player) (p : Play) (c : Call) (reported : Option Reported) (graph : Option Graph) (made : List (Addr × List ℕ)) → HasAsked old p c reported graph made → new ≡ record old { names = new.names; steps = old.steps + 1 }
-    → new.names ≡ naming 115 (met_more (met_in p.past.calls) (reported_in p c)) → RepresentsPlay new (called p c)
+    → new.names ≡ naming 115 (known_more (known_in p.past.calls) (reported_in p c)) → RepresentsPlay new (called p c)
 represents_reported old new p c reported graph made h is names = subst (λ (pl : Player). RepresentsPlay pl (called p c)) (sym is) (record {
   node = h.node;
   answered = h.answered_past;

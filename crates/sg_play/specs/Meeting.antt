@@ -4,5 +4,5 @@ use Rattle.sg_text.specs.Sessions.{KnownSessions, with_event}
 use Rattle.sg_report.specs.Reported.{Reported, sid_reported}
 
 -- it is met
-abbrev pub met_more : KnownSessions → Reported → KnownSessions
-met_more m t = option_map_or (with_event m) (sid_reported t) m
+abbrev pub known_more : KnownSessions → Reported → KnownSessions
+known_more m t = option_map_or (with_event m) (sid_reported t) m

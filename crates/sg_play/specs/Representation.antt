@@ -18,7 +18,7 @@ use Rattle.sg_play.specs.declared.player.Player.{Player}
 use Rattle.sg_play.specs.Ends.{Outside, Whole, Ended}
 use Rattle.sg_play.specs.Played.{Play, answer_in, act_by, chosen}
 use Rattle.sg_play.specs.Queues.{HoldsChoices}
-use Rattle.sg_play.specs.Steps.{met_in, frames_in, frames_of}
+use Rattle.sg_play.specs.Steps.{known_in, frames_in, frames_of}
 
 -- the player has the play's node, keys and programs, its choices, and what its lines are written by
 pub record RepresentsPlay (pl : Player) (p : Play) : Type 0 where
@@ -27,7 +27,7 @@ pub record RepresentsPlay (pl : Player) (p : Play) : Type 0 where
   pub keys : p.past.keys ≡ pl.keys.now
   pub programs : p.past.programs ≡ pl.programs.now
   pub choices : HoldsChoices pl.choices p.choices
-  pub names : pl.names ≡ naming 115 (met_in p.past.calls)
+  pub names : pl.names ≡ naming 115 (known_in p.past.calls)
   pub steps : pl.steps ≡ length p.past.calls
   pub frames : pl.frames ≡ length (frames_of p.steps)
 
@@ -38,7 +38,7 @@ pub record HasAsked (pl : Player) (p : Play) (c : Call) (reported : Option Repor
   pub keys : p.past.keys ≡ pl.keys.now
   pub programs : p.past.programs ≡ pl.programs.now
   pub choices : HoldsChoices pl.choices p.choices
-  pub names : pl.names ≡ naming 115 (met_in p.past.calls)
+  pub names : pl.names ≡ naming 115 (known_in p.past.calls)
   pub steps : pl.steps ≡ length p.past.calls
   pub frames : pl.frames ≡ length (frames_of p.steps) + length made
   pub is_reported : reported ≡ Some (reported_answer (length (frames_of p.steps) + 1) (answer_in p c))

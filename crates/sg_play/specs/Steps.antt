@@ -31,8 +31,8 @@ frames_of steps = flat_map (λ s. s.frames) steps
 -- ---- sessions
 
 -- the sessions with an event are called s1, s2 and so on, in the order of their first events
-abbrev pub met_in : List AnsweredCall → KnownSessions
-met_in calls = record { declared = []; events = map sid_of (flat_map (λ c. events_of_answer c.answer) calls) }
+abbrev pub known_in : List AnsweredCall → KnownSessions
+known_in calls = record { declared = []; events = map sid_of (flat_map (λ c. events_of_answer c.answer) calls) }
 
 -- ---- a step
 
@@ -47,6 +47,6 @@ line_of past sent c =
     let reported = reported_answer (sent + 1) (answer real (node_of past) c) in
     let calls = (past_after real past c).calls in
     line_text
-    (option_map_or (session_name 115 (met_in calls)) (session_reported (sid_left c) reported) [])
+    (option_map_or (session_name 115 (known_in calls)) (session_reported (sid_left c) reported) [])
     (graph_or_none (graph_of_call real (node_of past) c))
     (length calls) past.keys.me reported

@@ -1,7 +1,7 @@
 //! Calls that a caller of a player makes one by one, and what it looks up between them.
 ghost use Rattle.std.specs.Prelude.{◌≡◌, [], length, slice_get, option_map, IfOk, IfErr, OnOk};
 ghost use Rattle.std.specs.Option.{option_copied};
-ghost use Rattle.sg_text.specs.Sessions.{sids_met};
+ghost use Rattle.sg_text.specs.Sessions.{sids_known};
 ghost use Rattle.sg_protocol.specs.Calls.{Abandon, Act};
 ghost use Rattle.sg_protocol.specs.Past.{node_of};
 ghost use Rattle.sg_protocol.specs.Named.{live_with};
@@ -12,7 +12,7 @@ ghost use Rattle.sg_play.specs.Asking.{addressed, sealed_in};
 ghost use Rattle.sg_play.specs.Played.{Play, answer_in};
 ghost use Rattle.sg_play.specs.Posting.{frames_made};
 ghost use Rattle.sg_play.specs.Representation.{HasAsked, KeepsJoins, RepresentsPlay};
-ghost use Rattle.sg_play.specs.Steps.{met_in};
+ghost use Rattle.sg_play.specs.Steps.{known_in};
 
 use crate::ask::{ask_abandon, ask_act};
 use crate::{PlayFault, Player};
@@ -75,14 +75,14 @@ impl<'p> Player<'p> {
 
     /// How many sessions had an event. It takes no memory.
     pub fn sessions(&self) -> usize
-        ensures { (p : Play) → RepresentsPlay self.now p → result ≡ length (sids_met (met_in p.past.calls)) }
+        ensures { (p : Play) → RepresentsPlay self.now p → result ≡ length (sids_known (known_in p.past.calls)) }
     {
         self.names.len()
     }
 
     /// The session at an index in the order of first events, from 0. It takes no memory.
     pub fn session_at(&self, index: usize) -> Option<Sid>
-        ensures { (p : Play) → RepresentsPlay self.now p → result ≡ slice_get (sids_met (met_in p.past.calls)) index }
+        ensures { (p : Play) → RepresentsPlay self.now p → result ≡ slice_get (sids_known (known_in p.past.calls)) index }
     {
         match self.names.at(index) {
             Some(named) => Some(named.0),

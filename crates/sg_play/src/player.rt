@@ -8,7 +8,7 @@ ghost use Rattle.sg_protocol.specs.Calls.{Call, Start, Deliver};
 ghost use Rattle.sg_report.specs.Lines.{graph_or_none, line_text};
 ghost use Rattle.sg_report.specs.Outcome.{outcome_of};
 ghost use Rattle.sg_report.specs.Reported.{Reported, session_reported, sid_left};
-ghost use Rattle.sg_play.specs.Meeting.{met_more};
+ghost use Rattle.sg_play.specs.Meeting.{known_more};
 ghost use Rattle.sg_play.specs.Posting.{frames_made};
 
 use crate::PlayFault;
@@ -222,7 +222,7 @@ impl<'p> Player<'p> {
     // Meets the session in which an outcome happened, if it did in one.
     fn meet(&mut self, outcome: &Outcome) -> Result<(), PlayFault>
         ensures rest { OnOk result (self.new ≡ record self.old { names = self.new.names }) }
-        ensures names { OnOk result ((m : KnownSessions) (t : Reported) → outcome_of outcome.now ≡ Some t → self.old.names ≡ naming 115 m → self.new.names ≡ naming 115 (met_more m t)) }
+        ensures names { OnOk result ((m : KnownSessions) (t : Reported) → outcome_of outcome.now ≡ Some t → self.old.names ≡ naming 115 m → self.new.names ≡ naming 115 (known_more m t)) }
         ensures memory { IfErr result (λ e. e ≡ PlayFault.OutOfMemory) }
     {
         match sid_reported(outcome) {

@@ -6,7 +6,7 @@ use Rattle.sg_model.specs.Names.{Name}
 use Rattle.sg_protocol.specs.Calls.{Event, sid_of}
 use Rattle.sg_protocol.specs.Graph.{Graph}
 use Rattle.sg_protocol.specs.Walk.{StoredStep, OnePath}
-use Rattle.sg_text.specs.Sessions.{KnownSessions, session_name, sids_met}
+use Rattle.sg_text.specs.Sessions.{KnownSessions, session_name, sids_known}
 use Rattle.sg_text.specs.Walks.{walk_line}
 use Rattle.sg_report.specs.Lines.{graph_or_none, line_text}
 use Rattle.sg_report.specs.Reported.{Reported}
@@ -37,8 +37,8 @@ pub record Account : Type 0 where
   pub collision_free : Bool
 
 -- the declared sessions, and the sids of the events
-abbrev pub met : Account → KnownSessions
-met a = record { declared = a.declared; events = map sid_of a.events }
+abbrev pub known_sessions : Account → KnownSessions
+known_sessions a = record { declared = a.declared; events = map sid_of a.events }
 
 -- what a session is called: its first declared name, or x and its number among the others
 abbrev pub name_in : KnownSessions → List ℕ → Name
@@ -84,13 +84,13 @@ pub record SessionWalk : Type 0 where
 
 -- the line of a session's walk
 abbrev pub walk_of : Account → SessionWalk → List ℕ
-walk_of a w = walk_line (name_in (met a) w.sid) (a.graph_of w.sid) (a.honest_in w.sid) w.steps
+walk_of a w = walk_line (name_in (known_sessions a) w.sid) (a.graph_of w.sid) (a.honest_in w.sid) w.steps
 
 -- ---- the report
 
 -- the text with these walks, which stand there if both assumptions hold
 abbrev pub report_text : Account → List SessionWalk → List ℕ
-report_text a walks = lines_from (met a) 1 a.lines ++ premise_lines a.forged a.collision_free ++ (if premises_hold a then flat_map (walk_of a) walks else [])
+report_text a walks = lines_from (known_sessions a) 1 a.lines ++ premise_lines a.forged a.collision_free ++ (if premises_hold a then flat_map (walk_of a) walks else [])
 
 -- the events of a session
 abbrev pub events_in : Account → List ℕ → List Event
@@ -102,7 +102,7 @@ Explains a w = OnePath (a.graph_of w.sid) (a.honest_in w.sid) (events_in a w.sid
 
 -- there is a walk for each session with an event, in the order of the sessions, and it explains what happened in it
 pub record AreWalks (a : Account) (walks : List SessionWalk) : Type 0 where
-  pub sessions : map (λ w. w.sid) walks ≡ sids_met (met a)
+  pub sessions : map (λ w. w.sid) walks ≡ sids_known (known_sessions a)
   pub explain : All (Explains a) walks
 
 -- the text of the steps and the assumptions, and if both hold of walks that explain the sessions

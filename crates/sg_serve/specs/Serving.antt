@@ -5,13 +5,13 @@ use Rattle.sg_again.specs.LastFrames.{KeptFrame, SentFrame, sent, ended, frame_o
 use Rattle.sg_base.specs.declared.address.Addr.{Addr}
 use Rattle.sg_answers.specs.Answers.{unknown_text, wrong_text, quiet_text, again_text, nothing_text, turn_text, waits_text, over_text, id_text}
 use Rattle.sg_answers.specs.declared.line.Wrong.TheVariants.{Unknown, Twice}
-use Rattle.sg_text.specs.Sessions.{sids_met}
+use Rattle.sg_text.specs.Sessions.{sids_known}
 use Rattle.sg_model.specs.Last.{Map}
 use Rattle.sg_model.specs.Names.{Name}
 use Rattle.sg_model.specs.Values.{Value}
 use Rattle.sg_play.specs.Asking.{addressed, sealed_in}
 use Rattle.sg_play.specs.Played.{Play, answer_in, called, cast_of_start, next_confounders, step_in, without, next_random}
-use Rattle.sg_play.specs.Steps.{Step, frames_of, met_in}
+use Rattle.sg_play.specs.Steps.{Step, frames_of, known_in}
 use Rattle.sg_program.specs.Together.{is_named}
 use Rattle.sg_protocol.specs.Calls.{Call, Start, Act, Abandon, Deliver}
 use Rattle.sg_protocol.specs.Graph.{Graph}
@@ -52,7 +52,7 @@ repeats s f = (s, record { line = again_text f.number f.to; frames = (f.at, f.by
 
 -- the sids of the sessions that had an event here: s1, s2 and so on
 abbrev pub sids_of : Play → List (List ℕ)
-sids_of p = sids_met (met_in p.past.calls)
+sids_of p = sids_known (known_in p.past.calls)
 
 -- of session n by its sid, if there is one
 abbrev pub of_session : Serving → (n : ℕ) → (List ℕ → Reply) → Reply

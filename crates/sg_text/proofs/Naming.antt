@@ -164,16 +164,16 @@ abbrev pub with_name : Naming → List ℕ → Name → Naming
 with_name t sid name = record t { names = t.names ++ (sid, name) ∷ [] }
 
 -- an event of a session that is there leaves the table
-pub naming-met_again : (letter : ℕ) (m : KnownSessions) (sid : List ℕ) → has_text sid (all_sids m) ≡ true → naming letter (with_event m sid) ≡ naming letter m
-naming-met_again letter m sid h =
+pub naming-known_again : (letter : ℕ) (m : KnownSessions) (sid : List ℕ) → has_text sid (all_sids m) ≡ true → naming letter (with_event m sid) ≡ naming letter m
+naming-known_again letter m sid h =
     let sids : all_sids (with_event m sid) ≡ all_sids m = ap (λ us. firsts (declared_sids m) ++ us) (undeclared-again m sid h) in
     let names : (naming letter (with_event m sid)).names ≡ (naming letter m).names =
     ap (map (paired (session_name letter (with_event m sid)))) sids ∙ names-same (session_name letter (with_event m sid)) (session_name letter m) (all_sids m) (name-kept letter m sid) in
     λ i. record { letter = letter; declared = length (firsts (declared_sids m)); names = names i }
 
 -- and one of another session puts it last
-pub naming-met_new : (letter : ℕ) (m : KnownSessions) (sid : List ℕ) → has_text sid (all_sids m) ≡ false → naming letter (with_event m sid) ≡ with_name (naming letter m) sid (numbered letter (length (undeclared m) + 1))
-naming-met_new letter m sid h =
+pub naming-known_new : (letter : ℕ) (m : KnownSessions) (sid : List ℕ) → has_text sid (all_sids m) ≡ false → naming letter (with_event m sid) ≡ with_name (naming letter m) sid (numbered letter (length (undeclared m) + 1))
+naming-known_new letter m sid h =
     let sids : all_sids (with_event m sid) ≡ all_sids m ++ sid ∷ [] =
     ap (λ us. firsts (declared_sids m) ++ us) (undeclared-new m sid h) ∙ sym (append_assoc (firsts (declared_sids m)) (undeclared m) (sid ∷ [])) in
     let names : (naming letter (with_event m sid)).names ≡ (naming letter m).names ++ (sid, numbered letter (length (undeclared m) + 1)) ∷ [] =

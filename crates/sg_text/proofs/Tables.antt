@@ -6,7 +6,7 @@ use Rattle.sg_model.specs.Lists.{has_text}
 use Rattle.sg_model.specs.Names.{Name}
 use Rattle.sg_text.specs.Sessions.{KnownSessions, all_sids, undeclared, numbered, session_name, Naming, naming, with_declared, with_event}
 use Rattle.sg_text.proofs.SameSid.{Entry, same, keys_of-map, lookup-map}
-use Rattle.sg_text.proofs.Naming.{naming-declared_new, naming-met_new, length-undeclared, undeclared-none, session_name-none}
+use Rattle.sg_text.proofs.Naming.{naming-declared_new, naming-known_new, length-undeclared, undeclared-none, session_name-none}
 
 -- whether the table has a sid says whether there is such a session
 pub asked : (letter : ℕ) (m : KnownSessions) (sid : List ℕ) (es : List Entry) (r b : Bool) → es ≡ (naming letter m).names → r ≡ has_text sid (keys_of es) → r ≡ b → has_text sid (all_sids m) ≡ b
@@ -23,13 +23,13 @@ declared_more letter m name sid l count old new none is same miss more counted =
     (λ i. record { letter = is i; declared = number i; names = names i }) ∙ sym (naming-declared_new letter m name sid none miss)
 
 -- a new session that is met
-pub met_more : (letter : ℕ) (m : KnownSessions) (sid : List ℕ) (name : Name) (l d n : ℕ) (old new : List Entry) → l ≡ letter → d ≡ (naming letter m).declared → old ≡ (naming letter m).names → has_text sid (all_sids m) ≡ false
+pub known_more : (letter : ℕ) (m : KnownSessions) (sid : List ℕ) (name : Name) (l d n : ℕ) (old new : List Entry) → l ≡ letter → d ≡ (naming letter m).declared → old ≡ (naming letter m).names → has_text sid (all_sids m) ≡ false
     → name ≡ numbered l n → n ≡ length old - d + 1 → new ≡ old ++ (sid, name) ∷ [] → (let t : Naming = record { letter = l; declared = d; names = new } in t ≡ naming letter (with_event m sid))
-met_more letter m sid name l d n old new is counted same miss named number more =
+known_more letter m sid name l d n old new is counted same miss named number more =
     let others : n ≡ length (undeclared m) + 1 = number ∙ ap (λ k. k - d + 1) (ap length same ∙ length-undeclared letter m) ∙ ap (λ k. (naming letter m).declared + length (undeclared m) - k + 1) counted ∙ omega arith in
     let called : name ≡ numbered letter (length (undeclared m) + 1) = named ∙ (λ i. numbered (is i) (others i)) in
     let names : new ≡ (naming letter m).names ++ (sid, numbered letter (length (undeclared m) + 1)) ∷ [] = more ∙ (λ i. same i ++ (sid, called i) ∷ []) in
-    (λ i. record { letter = is i; declared = counted i; names = names i }) ∙ sym (naming-met_new letter m sid miss)
+    (λ i. record { letter = is i; declared = counted i; names = names i }) ∙ sym (naming-known_new letter m sid miss)
 
 -- what the table finds for a sid
 pub name_found : (letter : ℕ) (m : KnownSessions) (sid : List ℕ) (r : Option Name) → r ≡ lookup (same sid) (naming letter m).names

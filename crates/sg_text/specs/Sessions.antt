@@ -28,8 +28,8 @@ abbrev pub all_sids : KnownSessions → List (List ℕ)
 all_sids m = firsts (declared_sids m) ++ undeclared m
 
 -- the sids of the sessions with an event, in this order
-abbrev pub sids_met : KnownSessions → List (List ℕ)
-sids_met m = filter (λ sid. has_text sid m.events) (all_sids m)
+abbrev pub sids_known : KnownSessions → List (List ℕ)
+sids_known m = filter (λ sid. has_text sid m.events) (all_sids m)
 
 -- a letter and a number
 abbrev pub numbered : ℕ → ℕ → Name

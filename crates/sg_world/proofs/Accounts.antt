@@ -6,12 +6,12 @@ use Rattle.sg_text.specs.Sessions.{KnownSessions, naming}
 use Rattle.sg_protocol.specs.IsSchedule.{AreCompiled, IsSchedule}
 use Rattle.sg_protocol.specs.Run.{run}
 use Rattle.sg_protocol.specs.Texts.{real}
-use Rattle.sg_report.specs.Report.{StepLine, met}
+use Rattle.sg_report.specs.Report.{StepLine, known_sessions}
 use Rattle.sg_report.specs.Reported.{CanBeReported, reported_log}
 use Rattle.sg_world.specs.Account.{CanBeNamed, account, lines_of}
 use Rattle.sg_world.specs.Holds.{Holds, schedule_of}
 use Rattle.sg_world.specs.RecordModel.{Recorded, TakenStep}
-use Rattle.sg_world.specs.KeptLines.{CanBeWritten, line_kept, met_in}
+use Rattle.sg_world.specs.KeptLines.{CanBeWritten, line_kept, known_in}
 use Rattle.sg_world.specs.Replay.{Replay}
 use Rattle.sg_world.specs.Setting.{Setting}
 use Rattle.sg_world.proofs.KeptLines.{events_alike, lines_alike}
@@ -29,11 +29,11 @@ module _ (rep : Replay) (d : Setting) (nodes : List Named) (r : Recorded) (is : 
   schedule_is = subst (λ (z : Replay). IsSchedule real z.schedule) is h.schedule
 
   -- the sessions that are kept are those that are met
-  pub names_met : naming 120 (met_in d.sessions es) ≡ naming 120 (met (account rep))
-  names_met =
-      ap (λ (z : List TakenStep). naming 120 (met_in d.sessions z)) same
-      ∙ ap (λ (z : List (List ℕ)). let m : KnownSessions = record { declared = (met_in d.sessions r.entries).declared; events = z } in naming 120 m) (events_alike r.entries [] (run real d.programs (schedule_of d nodes r)).log h.run.reported)
-      ∙ ap (λ (z : Replay). naming 120 (met (account z))) is
+  pub names_known : naming 120 (known_in d.sessions es) ≡ naming 120 (known_sessions (account rep))
+  names_known =
+      ap (λ (z : List TakenStep). naming 120 (known_in d.sessions z)) same
+      ∙ ap (λ (z : List (List ℕ)). let m : KnownSessions = record { declared = (known_in d.sessions r.entries).declared; events = z } in naming 120 m) (events_alike r.entries [] (run real d.programs (schedule_of d nodes r)).log h.run.reported)
+      ∙ ap (λ (z : Replay). naming 120 (known_sessions (account z))) is
 
   module _ (named : All (CanBeNamed rep.schedule) rep.schedule.steps) where
     named_here : All (CanBeNamed (schedule_of d nodes r)) (schedule_of d nodes r).steps

@@ -13,12 +13,12 @@ use Rattle.sg_protocol.specs.Graph.{Graph}
 use Rattle.sg_protocol.specs.Notes.{Note}
 use Rattle.sg_protocol.specs.Premises.{hashed}
 use Rattle.sg_protocol.specs.Texts.{real}
-use Rattle.sg_report.specs.Report.{Explains, IsReport, SessionWalk, lines_from, met, name_in, premise_lines, premises_hold, walk_of}
+use Rattle.sg_report.specs.Report.{Explains, IsReport, SessionWalk, lines_from, known_sessions, name_in, premise_lines, premises_hold, walk_of}
 use Rattle.sg_world.specs.Account.{account, forgery, honest_in}
 use Rattle.sg_world.specs.Replay.{Replay, run_of}
 use Rattle.sg_world.specs.Walked.{IsPath, Path, PremisesHold, WalksAreWritten, path_line}
 use Rattle.sg_world.proofs.PremiseLaws.{collision_free_is, unforged_is}
-use Rattle.sg_world.proofs.WalkLaws.{none_met, some_met}
+use Rattle.sg_world.proofs.WalkLaws.{none_with_event, some_with_event}
 
 -- ---- the assumptions
 
@@ -66,8 +66,8 @@ collision_says r f g None (Some y) e h q = λ p. (let none : Some (g y) ≡ None
 
 -- the sid is that of an event, or there is no such session
 pub event_there : (b : Bool) (es : List Event) (sid : List ℕ) → b ≡ has_text sid (map sid_of es) → MatchBool b (filter (λ e. bytes_eq (sid_of e) sid) es ≢ []) (filter (λ e. bytes_eq (sid_of e) sid) es ≡ [])
-event_there true es sid h = some_met es sid (sym h)
-event_there false es sid h = none_met es sid (sym h)
+event_there true es sid h = some_with_event es sid (sym h)
+event_there false es sid h = none_with_event es sid (sym h)
 
 -- ---- the text
 
@@ -76,16 +76,16 @@ abbrev session_walk : Path → SessionWalk
 session_walk p = record { sid = p.sid; steps = p.steps }
 
 module _ (r : Replay) where
-  line_is : (p : Path) → IsPath r p → path_line (met (account r)) p ≡ walk_of (account r) (session_walk p)
+  line_is : (p : Path) → IsPath r p → path_line (known_sessions (account r)) p ≡ walk_of (account r) (session_walk p)
   line_is p h =
-      walk_line-same (name_in (met (account r)) p.sid) p.graph (λ role. is_in role p.honest) (honest_in r p.sid) h.honest p.steps
-      ∙ ap (λ (g : Graph). walk_line (name_in (met (account r)) p.sid) g (honest_in r p.sid) p.steps) h.graph
+      walk_line-same (name_in (known_sessions (account r)) p.sid) p.graph (λ role. is_in role p.honest) (honest_in r p.sid) h.honest p.steps
+      ∙ ap (λ (g : Graph). walk_line (name_in (known_sessions (account r)) p.sid) g (honest_in r p.sid) p.steps) h.graph
 
-  lines_are : (ps : List Path) → AllByRecursion (IsPath r) ps → flat_map (path_line (met (account r))) ps ≡ flat_map (walk_of (account r)) (map session_walk ps)
+  lines_are : (ps : List Path) → AllByRecursion (IsPath r) ps → flat_map (path_line (known_sessions (account r))) ps ≡ flat_map (walk_of (account r)) (map session_walk ps)
   lines_are [] h = refl
   lines_are (p ∷ ps) h =
-      let here : path_line (met (account r)) p ≡ walk_of (account r) (session_walk p) = line_is p h.0 in
-      let rest : flat_map (path_line (met (account r))) ps ≡ flat_map (walk_of (account r)) (map session_walk ps) = lines_are ps h.1 in
+      let here : path_line (known_sessions (account r)) p ≡ walk_of (account r) (session_walk p) = line_is p h.0 in
+      let rest : flat_map (path_line (known_sessions (account r))) ps ≡ flat_map (walk_of (account r)) (map session_walk ps) = lines_are ps h.1 in
       λ i. here i ++ rest i
 
   explain : (ps : List Path) → AllByRecursion (IsPath r) ps → AllByRecursion (Explains (account r)) (map session_walk ps)
@@ -97,11 +97,11 @@ module _ (r : Replay) where
   sids_are (p ∷ ps) = ap (λ (z : List (List ℕ)). p.sid ∷ z) (sids_are ps)
 
   -- with the walks, if the assumptions hold
-  pub report_with : (one two three : List ℕ) → one ≡ lines_from (met (account r)) 1 (account r).lines → two ≡ one ++ premise_lines (account r).forged (account r).collision_free
+  pub report_with : (one two three : List ℕ) → one ≡ lines_from (known_sessions (account r)) 1 (account r).lines → two ≡ one ++ premise_lines (account r).forged (account r).collision_free
       → premises_hold (account r) ≡ true → WalksAreWritten r two three → IsReport (account r) three
   report_with one two three lines premises hold w = record {
     walks = map session_walk w.paths;
     right = λ h. record { sessions = sids_are w.paths ∙ w.sids; explain = All-from_recursion (Explains (account r)) (map session_walk w.paths) (explain w.paths w.each) };
     spelled = w.text ∙ (λ i. premises i ++ lines_are w.paths w.each i) ∙ ap (λ z. (z ++ premise_lines (account r).forged (account r).collision_free) ++ flat_map (walk_of (account r)) (map session_walk w.paths)) lines
-        ∙ ap (λ b. lines_from (met (account r)) 1 (account r).lines ++ premise_lines (account r).forged (account r).collision_free ++ (if b then flat_map (walk_of (account r)) (map session_walk w.paths) else [])) (sym hold);
+        ∙ ap (λ b. lines_from (known_sessions (account r)) 1 (account r).lines ++ premise_lines (account r).forged (account r).collision_free ++ (if b then flat_map (walk_of (account r)) (map session_walk w.paths) else [])) (sym hold);
   }

@@ -17,7 +17,7 @@ use Rattle.sg_certify.specs.Events.{explaining_walk}
 use Rattle.sg_law.proofs.Members.{all_in}
 use Rattle.sg_text.proofs.Firsts.{has_text-firsts}
 use Rattle.sg_text.proofs.Steps.{HasSteps-IsStoredWalk}
-use Rattle.sg_text.specs.Sessions.{KnownSessions, all_sids, naming, session_name, sids_met}
+use Rattle.sg_text.specs.Sessions.{KnownSessions, all_sids, naming, session_name, sids_known}
 use Rattle.sg_text.specs.Walks.{HasSteps}
 use Rattle.sg_model.specs.Lists.{has_text}
 use Rattle.sg_protocol.proofs.RealHash.{real_hash}
@@ -32,7 +32,7 @@ use Rattle.sg_protocol.specs.Schedule.{Schedule, graph_with, honest_role}
 use Rattle.sg_protocol.specs.Texts.{real, graph_digest}
 use Rattle.sg_protocol.specs.Walk.{StoredStep, IsStoredWalk, OnePath}
 use Rattle.sg_report.specs.Lines.{graph_or_none}
-use Rattle.sg_report.specs.Report.{met}
+use Rattle.sg_report.specs.Report.{known_sessions}
 use Rattle.sg_walk.specs.Model.{steps_of}
 use Rattle.sg_walk.specs.declared.stored.StoredWalk.{StoredWalk}
 use Rattle.sg_world.specs.Account.{account, cast_met, graph_of, honest_in}
@@ -42,9 +42,9 @@ use Rattle.sg_world.specs.Walked.{CanWalkAll, IsPath, Path, PremisesHold, WalksA
 -- ---- events
 
 -- a sid of no event is that of no session
-pub none_met : (es : List Event) (sid : List ℕ) → has_text sid (map sid_of es) ≡ false → filter (λ e. bytes_eq (sid_of e) sid) es ≡ []
-none_met [] sid h = refl
-none_met (e ∷ es) sid h = by (bytes_eq (sid_of e) sid) refl (none_met es sid)
+pub none_with_event : (es : List Event) (sid : List ℕ) → has_text sid (map sid_of es) ≡ false → filter (λ e. bytes_eq (sid_of e) sid) es ≡ []
+none_with_event [] sid h = refl
+none_with_event (e ∷ es) sid h = by (bytes_eq (sid_of e) sid) refl (none_with_event es sid)
   where
     other : (b : Bool) → bytes_eq sid (sid_of e) ≡ b → (bytes_eq sid (sid_of e) || has_text sid (map sid_of es)) ≡ false → (bytes_eq sid (sid_of e) ≡ false) × (has_text sid (map sid_of es) ≡ false)
     other true q h = absurd (let z : true ≡ false = sym (ap (λ b. b || has_text sid (map sid_of es)) q) ∙ h in cc)
@@ -54,9 +54,9 @@ none_met (e ∷ es) sid h = by (bytes_eq (sid_of e) sid) refl (none_met es sid)
     by true q rest = absurd (let z : true ≡ false = sym ((bytes_eq-Decides sid (sid_of e)).1 (sym ((bytes_eq-Decides (sid_of e) sid).0 q))) ∙ (other (bytes_eq sid (sid_of e)) refl h).0 in cc)
     by false q rest = rest (other (bytes_eq sid (sid_of e)) refl h).1
 
-pub some_met : (es : List Event) (sid : List ℕ) → has_text sid (map sid_of es) ≡ true → filter (λ e. bytes_eq (sid_of e) sid) es ≢ []
-some_met [] sid h q = absurd (let z : false ≡ true = h in cc)
-some_met (e ∷ es) sid h q = by (bytes_eq (sid_of e) sid) refl q (some_met es sid)
+pub some_with_event : (es : List Event) (sid : List ℕ) → has_text sid (map sid_of es) ≡ true → filter (λ e. bytes_eq (sid_of e) sid) es ≢ []
+some_with_event [] sid h q = absurd (let z : false ≡ true = h in cc)
+some_with_event (e ∷ es) sid h q = by (bytes_eq (sid_of e) sid) refl q (some_with_event es sid)
   where
     later : (b : Bool) → bytes_eq sid (sid_of e) ≡ b → bytes_eq (sid_of e) sid ≡ false → has_text sid (map sid_of es) ≡ true
     later true p q = absurd (let z : true ≡ false = sym ((bytes_eq-Decides (sid_of e) sid).1 (sym ((bytes_eq-Decides sid (sid_of e)).0 p))) ∙ q in cc)
@@ -115,8 +115,8 @@ module _ {X : Type 0} (path_of : List ℕ × X → Path) (is_of : (sid : List �
       by (Some w) false q rest = absurd (cc)
 
   -- if each session with an event has a walk, and no other, these are the sessions that are met
-  pub reported_met : (es : List (List ℕ × X)) (m : KnownSessions) → ((sid : List ℕ) → has_text sid (map (λ (e : List ℕ × X). e.0) es) ≡ has_text sid m.events) → map (λ (p : Path). p.sid) (filter_map (at es) (all_sids m)) ≡ sids_met m
-  reported_met es m h = reported_sids es (all_sids m) ∙ (λ i. filter (λ sid. h sid i) (all_sids m))
+  pub reported_known : (es : List (List ℕ × X)) (m : KnownSessions) → ((sid : List ℕ) → has_text sid (map (λ (e : List ℕ × X). e.0) es) ≡ has_text sid m.events) → map (λ (p : Path). p.sid) (filter_map (at es) (all_sids m)) ≡ sids_known m
+  reported_known es m h = reported_sids es (all_sids m) ∙ (λ i. filter (λ sid. h sid i) (all_sids m))
 
 -- ---- the steps of a walk
 
@@ -197,11 +197,11 @@ module _ (r : Replay) (compiled : AreCompiled real r.schedule.graphs r.programs)
 
   -- the walks of all sessions with an event, in their order
   pub walks_written : (c : Traces) → AreTraces r.schedule (run_of r).log c → c.programs ≡ r.programs → (old new : List ℕ)
-      → new ≡ old ++ flat_map (path_line (met (account r))) (filter_map (path_at c) (all_sids (met (account r)))) → WalksAreWritten r old new
+      → new ≡ old ++ flat_map (path_line (known_sessions (account r))) (filter_map (path_at c) (all_sids (known_sessions (account r)))) → WalksAreWritten r old new
   walks_written c are same old new text = record {
-    paths = filter_map (path_at c) (all_sids (met (account r)));
-    each = reported_paths path_of_trace (λ sid w. refl) r c.traces (trace_paths c are same) (all_sids (met (account r)));
-    sids = reported_met path_of_trace (λ sid w. refl) c.traces (met (account r)) (λ sid. ap (has_text sid) are.sids ∙ has_text-firsts sid (sids_of (run_of r).log));
+    paths = filter_map (path_at c) (all_sids (known_sessions (account r)));
+    each = reported_paths path_of_trace (λ sid w. refl) r c.traces (trace_paths c are same) (all_sids (known_sessions (account r)));
+    sids = reported_known path_of_trace (λ sid w. refl) c.traces (known_sessions (account r)) (λ sid. ap (has_text sid) are.sids ∙ has_text-firsts sid (sids_of (run_of r).log));
     text = text;
   }
 

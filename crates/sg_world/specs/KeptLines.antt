@@ -15,8 +15,8 @@ abbrev pub sid_kept : TakenStep → Option (List ℕ)
 sid_kept e = option_map sid_of (option_and_then event_reported e.reported)
 
 -- the sessions that are declared, and those of the events of these steps
-abbrev pub met_in : List NamedSession → List TakenStep → KnownSessions
-met_in sessions entries = record { declared = declared_in sessions; events = filter_map sid_kept entries }
+abbrev pub known_in : List NamedSession → List TakenStep → KnownSessions
+known_in sessions entries = record { declared = declared_in sessions; events = filter_map sid_kept entries }
 
 -- the sid that a step gives up
 abbrev pub left_by : List NamedSession → Step → Option (List ℕ)

@@ -4,7 +4,7 @@ use Rattle.std.specs.List.{AllByRecursion}
 use Rattle.sg_certify.specs.Traces.{Trace, Traces}
 use Rattle.sg_certify.specs.Runs.{trace_at}
 use Rattle.sg_certify.specs.Events.{explaining_walk}
-use Rattle.sg_text.specs.Sessions.{KnownSessions, firsts, sids_met}
+use Rattle.sg_text.specs.Sessions.{KnownSessions, firsts, sids_known}
 use Rattle.sg_text.specs.Walks.{HasSteps, walk_line}
 use Rattle.sg_model.specs.Lists.{is_in}
 use Rattle.sg_protocol.specs.Calls.{sid_of}
@@ -13,7 +13,7 @@ use Rattle.sg_protocol.specs.Premises.{Premises}
 use Rattle.sg_protocol.specs.Run.{events_of}
 use Rattle.sg_protocol.specs.Texts.{real}
 use Rattle.sg_protocol.specs.Walk.{StoredStep, OnePath}
-use Rattle.sg_report.specs.Report.{met, name_in}
+use Rattle.sg_report.specs.Report.{known_sessions, name_in}
 use Rattle.sg_walk.specs.Model.{steps_of}
 use Rattle.sg_walk.specs.declared.stored.StoredWalk.{StoredWalk}
 use Rattle.sg_world.specs.Account.{account, graph_of, honest_in}
@@ -56,8 +56,8 @@ path_line m p = walk_line (name_in m p.sid) p.graph (λ role. is_in role p.hones
 pub record WalksAreWritten (r : Replay) (old new : List ℕ) : Type 0 where
   pub paths : List Path
   pub each : AllByRecursion (IsPath r) paths
-  pub sids : map (λ p. p.sid) paths ≡ sids_met (met (account r))
-  pub text : new ≡ old ++ flat_map (path_line (met (account r))) paths
+  pub sids : map (λ p. p.sid) paths ≡ sids_known (known_sessions (account r))
+  pub text : new ≡ old ++ flat_map (path_line (known_sessions (account r))) paths
 
 -- a session's identifier and the steps of its walk
 abbrev pub sid_and_steps : List ℕ × StoredWalk → List ℕ × List StoredStep

@@ -4,7 +4,7 @@ ghost use Rattle.std.specs.Option.{option_to_list};
 ghost use Rattle.sg_text.specs.Sessions.{KnownSessions, naming};
 ghost use Rattle.sg_protocol.specs.Texts.{real, session_id};
 ghost use Rattle.sg_world.specs.Account.{declared_in};
-ghost use Rattle.sg_world.specs.KeptLines.{met_in, sid_kept};
+ghost use Rattle.sg_world.specs.KeptLines.{known_in, sid_kept};
 
 use crate::record::TakenStep;
 use crate::setting::Setting;
@@ -21,7 +21,7 @@ pub(crate) fn session_names<'p>(
     setting: &Setting<'p>,
     entries: &[TakenStep<'p>],
 ) -> Result<SessionNames, OutOfMemory>
-    ensures { IfOk result (λ names. names ≡ naming 120 (met_in setting.now.sessions entries.now)) }
+    ensures { IfOk result (λ names. names ≡ naming 120 (known_in setting.now.sessions entries.now)) }
 {
     let mut names = SessionNames::new(alloc, b'x');
     declare_all(&mut names, setting.sessions(), setting.sids())?;
@@ -36,7 +36,7 @@ fn declare_all(
     sids: &[Sid],
 ) -> Result<(), OutOfMemory>
     requires { sids.now ≡ map (λ d. session_id real d.cast) sessions.now }
-    ensures { names.old ≡ naming 120 (met_in [] []) → OnOk result (names.new ≡ naming 120 (met_in sessions.now [])) }
+    ensures { names.old ≡ naming 120 (known_in [] []) → OnOk result (names.new ≡ naming 120 (known_in sessions.now [])) }
 {
     for index in 0..sessions.len() {
         let session = &sessions[index];

@@ -6,7 +6,7 @@ ghost use Rattle.sg_text.specs.Sessions.{KnownSessions, all_sids, naming};
 ghost use Rattle.sg_text.specs.Walks.{HasSteps, walk_line};
 ghost use Rattle.sg_model.specs.Lists.{is_in};
 ghost use Rattle.sg_report.specs.Model.{forgery_of};
-ghost use Rattle.sg_report.specs.Report.{IsReport, lines_from, met, premise_lines, premises_hold};
+ghost use Rattle.sg_report.specs.Report.{IsReport, lines_from, known_sessions, premise_lines, premises_hold};
 ghost use Rattle.sg_world.specs.Account.{CanBeNamed, account, forgery};
 ghost use Rattle.sg_world.specs.Walked.{CanWalkAll, PremisesHold, WalksAreWritten, path_at, path_line, steps_of_trace};
 
@@ -36,7 +36,7 @@ impl<'p> World<'p> {
 
     // Writes what stands after the lines: whether the assumptions hold, and the walks if they do.
     fn put_rest(&self, out: &mut ByteOut, names: &SessionNames) -> Result<(), OutOfMemory>
-        ensures { names.now ≡ naming 120 (met (account self.now)) → out.old ≡ lines_from (met (account self.now)) 1 (account self.now).lines → OnOk result (IsReport (account self.now) out.new) }
+        ensures { names.now ≡ naming 120 (known_sessions (account self.now)) → out.old ≡ lines_from (known_sessions (account self.now)) 1 (account self.now).lines → OnOk result (IsReport (account self.now) out.new) }
     {
         if self.put_premises(out)? {
             self.put_walks(out, names)
@@ -72,7 +72,7 @@ impl<'p> World<'p> {
     // Writes the walk of each session with an event.
     fn put_walks(&self, out: &mut ByteOut, names: &SessionNames) -> Result<(), OutOfMemory>
         requires { PremisesHold self.now }
-        ensures { names.now ≡ naming 120 (met (account self.now)) → OnOk result (WalksAreWritten self.now out.old out.new) }
+        ensures { names.now ≡ naming 120 (known_sessions (account self.now)) → OnOk result (WalksAreWritten self.now out.old out.new) }
     {
         let traces = self.traces()?;
         put_walks(self.alloc, out, names, &traces)

@@ -89,7 +89,7 @@ impl<'p> World<'p> {
     fn has_event(&self, sid: &Sid) -> bool
         ensures { MatchBool result (events_of sid.now (run_of self.now).log ≢ []) (events_of sid.now (run_of self.now).log ≡ []) }
     {
-        is_met(self.history.entries(), sid)
+        had_event(self.history.entries(), sid)
     }
 
     // Both assumptions hold.
@@ -147,7 +147,7 @@ fn add_walk<'r>(
 }
 
 // An event of these steps has the identifier.
-fn is_met<'p>(entries: &[TakenStep<'p>], sid: &Sid) -> bool
+fn had_event<'p>(entries: &[TakenStep<'p>], sid: &Sid) -> bool
     ensures { result ≡ has_text sid.now (filter_map sid_kept entries.now) }
 {
     for entry in entries {

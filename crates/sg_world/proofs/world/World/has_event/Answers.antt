@@ -13,6 +13,6 @@ use Rattle.sg_world.proofs.world.World.has_event.Goals as goal
 pub returns : goal.returns
 returns c =
     let log = (run real c.self.inside.setting.programs (schedule_of c.self.inside.setting c.self.inside.nodes.entries c.self.inside.history.done)).log in
-    subst (λ (z : Replay). MatchBool c.is_met.result (events_of c.args.sid.now (run_of z).log ≢ []) (events_of c.args.sid.now (run_of z).log ≡ [])) c.self.view_is
-    (event_there c.is_met.result (flat_map (λ l. events_of_outcome l.outcome) log) c.args.sid.now
-    (c.is_met.ensures ∙ ap (λ es. has_text c.args.sid.now (filter_map sid_kept es)) c.entries.ensures ∙ ap (has_text c.args.sid.now) (events_alike c.self.inside.history.done.entries [] log c.self.invariant.run.reported)))
+    subst (λ (z : Replay). MatchBool c.had_event.result (events_of c.args.sid.now (run_of z).log ≢ []) (events_of c.args.sid.now (run_of z).log ≡ [])) c.self.view_is
+    (event_there c.had_event.result (flat_map (λ l. events_of_outcome l.outcome) log) c.args.sid.now
+    (c.had_event.ensures ∙ ap (λ es. has_text c.args.sid.now (filter_map sid_kept es)) c.entries.ensures ∙ ap (has_text c.args.sid.now) (events_alike c.self.inside.history.done.entries [] log c.self.invariant.run.reported)))

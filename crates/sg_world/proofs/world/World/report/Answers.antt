@@ -1,7 +1,7 @@
 use Rattle.std.proofs.Common.{◌∙◌, ◌++◌, ap, subst, sym}
-use Rattle.sg_report.specs.Report.{IsReport, lines_from, met}
+use Rattle.sg_report.specs.Report.{IsReport, lines_from, known_sessions}
 use Rattle.sg_world.specs.Account.{account}
-use Rattle.sg_world.proofs.Accounts.{can_write, lines_kept, names_met}
+use Rattle.sg_world.proofs.Accounts.{can_write, lines_kept, names_known}
 use Rattle.sg_world.proofs.world.World.report.Goals as goal
 
 pub put_lines-requires-clause-reported : goal.put_lines-requires-clause-reported
@@ -11,7 +11,7 @@ put_lines-requires-clause-reported c =
 pub returns : goal.returns
 returns c =
     let a = account c.args.self.now in
-    let names = c.in_ok-names.ensures ∙ names_met c.args.self.now c.self.inside.setting c.self.inside.nodes.entries c.self.inside.history.done c.self.view_is c.self.invariant c.entries-entries.result.now c.entries-entries.ensures in
+    let names = c.in_ok-names.ensures ∙ names_known c.args.self.now c.self.inside.setting c.self.inside.nodes.entries c.self.inside.history.done c.self.view_is c.self.invariant c.entries-entries.result.now c.entries-entries.ensures in
     let kept = lines_kept c.args.self.now c.self.inside.setting c.self.inside.nodes.entries c.self.inside.history.done c.self.view_is c.self.invariant c.entries-entries.result.now c.entries-entries.ensures c.requires in
-    let lines = c.in_ok-put_lines.ensures (met a) a.lines names kept ∙ ap (λ z. z ++ lines_from (met a) 1 a.lines) c.new-out.ensures in
+    let lines = c.in_ok-put_lines.ensures (known_sessions a) a.lines names kept ∙ ap (λ z. z ++ lines_from (known_sessions a) 1 a.lines) c.new-out.ensures in
     subst (IsReport a) (sym c.done.ensures) (c.in_ok-put_rest.ensures names lines)

@@ -2,7 +2,7 @@ use Rattle.std.proofs.Common.{◌≡◌, false, take}
 use Rattle.std.specs.Prelude.{filter_map}
 use Rattle.sg_model.specs.Lists.{has_text}
 use Rattle.sg_world.specs.KeptLines.{sid_kept}
-use Rattle.sg_world.proofs.session_walk.is_met.Given as goal
+use Rattle.sg_world.proofs.session_walk.had_event.Given as goal
 
 -- no event so far has the sid
 abbrev pub invariant-loop-entry : goal.invariant-loop-entry

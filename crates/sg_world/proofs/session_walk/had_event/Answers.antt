@@ -1,0 +1,12 @@
+use Rattle.std.proofs.Common.{◌≡◌, ◌∙◌, ap, sym, arith, length, take}
+use Rattle.std.specs.Prelude.{filter_map}
+use Rattle.sg_model.specs.Lists.{has_text}
+use Rattle.sg_world.specs.KeptLines.{sid_kept}
+use Rattle.sg_world.proofs.NamesMore.{had_event, no_event}
+use Rattle.sg_world.proofs.session_walk.had_event.Goals as goal
+
+pub returns-then-is_of : goal.returns-then-is_of
+returns-then-is_of c = sym (had_event c.args.sid.now c.args.entries.now c.loop-entry.entry-index c.entry-item.result c.loop-entry-test.true c.entry-item.is (sym c.is_of.ensures ∙ c.if-is_of.true))
+
+pub loop-entry-preserved : goal.loop-entry-preserved
+loop-entry-preserved c = no_event c.args.sid.now c.args.entries.now c.loop-entry.entry-index c.entry-item.result c.loop-entry-test.true c.entry-item.is c.loop-entry.invariant (sym c.is_of.ensures ∙ c.if-is_of.false)
