@@ -72,7 +72,7 @@ mod tests {
     }
 
     #[test]
-    fn words_differ_and_each_bit_comes_both_ways(rt: HostRuntime) -> Result<(), OutOfMemory> {
+    fn nonces_differ_and_each_bit_comes_both_ways(rt: HostRuntime) -> Result<(), OutOfMemory> {
         let alloc = rt.alloc();
         let (Some(mut one), Some(mut other)) = (OsFresh::seeded(&rt), OsFresh::seeded(&rt)) else {
             assert!(rt; false);

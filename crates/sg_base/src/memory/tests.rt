@@ -90,7 +90,7 @@ fn a_link_has_room_for_its_frames(rt: HostRuntime) -> Result<(), OutOfMemory> {
 }
 
 #[test]
-fn fresh_words_are_the_key_stream(rt: HostRuntime) -> Result<(), OutOfMemory> {
+fn fresh_bytes_are_the_key_stream(rt: HostRuntime) -> Result<(), OutOfMemory> {
     let alloc = rt.alloc();
     // RFC 8439, appendix A.1, the first test: the key stream of a key of zeros.
     let mut zero = MemFresh::new(alloc, [0; 32], 2)?;
