@@ -9,9 +9,9 @@ use Rattle.sg_model.proofs.Small.{or_false}
 use Rattle.sg_protocol.specs.Notes.{Note}
 use Rattle.sg_protocol.specs.Broken.{same_note}
 use Rattle.sg_protocol.proofs.Broken.{same_note_is}
-use Rattle.sg_certify.specs.declared.made.TaggedText.{TaggedText}
+use Rattle.sg_certify.specs.declared.tagged_texts.TaggedText.{TaggedText}
 use Rattle.sg_certify.specs.Model.{note_kept}
-use Rattle.sg_certify.specs.contracts.made.TaggedTextPartialEq.TheImpl.{eq-value}
+use Rattle.sg_certify.specs.contracts.tagged_texts.TaggedTextPartialEq.TheImpl.{eq-value}
 use Rattle.sg_base.proofs.SameName.{same-bytes_eq}
 
 -- the `==` of notes that are kept

@@ -11,7 +11,7 @@ use Rattle.sg_protocol.specs.Calls.{Event, Started, Sent, Received}
 use Rattle.sg_protocol.specs.Graph.{Graph, shape, writes}
 use Rattle.sg_protocol.specs.Explaining.{hidden_steps, is_written}
 use Rattle.sg_protocol.specs.Walk.{StoredStep, shown}
-use Rattle.sg_certify.specs.declared.kept.KeptValues.{KeptValues}
+use Rattle.sg_certify.specs.declared.kept_values.KeptValues.{KeptValues}
 
 -- the value that is kept for a variable
 abbrev pub value_in : KeptValues → ℕ → Option Value

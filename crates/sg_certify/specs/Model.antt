@@ -1,8 +1,8 @@
 -- How notes and traces are kept.
 use Rattle.std.specs.Prelude.{List, map}
 use Rattle.sg_protocol.specs.Notes.{Note}
-use Rattle.sg_certify.specs.declared.made.TaggedText.{TaggedText}
-use Rattle.sg_certify.specs.declared.made.TaggedTexts.TheInside.{Inside as TaggedInside}
+use Rattle.sg_certify.specs.declared.tagged_texts.TaggedText.{TaggedText}
+use Rattle.sg_certify.specs.declared.tagged_texts.TaggedTexts.TheInside.{Inside as TaggedInside}
 use Rattle.sg_certify.specs.Events.{pair_of}
 use Rattle.sg_certify.specs.Traces.{Trace, Traces}
 use Rattle.sg_certify.specs.declared.trace.Trace.TheInside.{Inside as TraceInside}

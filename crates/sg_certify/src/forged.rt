@@ -9,7 +9,7 @@ ghost use Rattle.sg_protocol.specs.World.{World};
 ghost use Rattle.sg_certify.specs.Forged.{IsRecord, is_unmade, forged_from};
 
 use crate::honest::Honest;
-use crate::made::TaggedTexts;
+use crate::tagged_texts::TaggedTexts;
 use sg_base::OutOfMemory;
 use sg_crypt::{Note, Notes};
 use std::alloc::Global;

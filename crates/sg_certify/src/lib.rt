@@ -27,13 +27,13 @@ mod example;
 mod firsts;
 mod forged;
 mod honest;
-mod kept;
+mod kept_values;
 pub mod laws;
-mod made;
 mod origins;
 mod pass;
 mod recent;
 mod shown;
+mod tagged_texts;
 mod trace;
 mod traces;
 

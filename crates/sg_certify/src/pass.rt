@@ -11,7 +11,7 @@ ghost use Rattle.sg_walk.specs.Model.{event_of, step_of, steps_of, values_of, wr
 ghost use Rattle.sg_certify.specs.Events.{explaining_walk, pair_of};
 ghost use Rattle.sg_certify.specs.Filling.{added, filled_by, found_step, given, unless_written, value_in};
 
-use crate::kept::{KeptValues, forget, forget_all, learn, nothing};
+use crate::kept_values::{KeptValues, forget, forget_all, learn, nothing};
 use crate::recent::new_labels;
 use crate::shown::ShownEvent;
 use sg_base::{Label, OutOfMemory, RoleSet, Seq, Value, Var, VarSet};

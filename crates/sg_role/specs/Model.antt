@@ -2,7 +2,7 @@
 use Rattle.sg_vis.specs.Model.{origin_of}
 use Rattle.sg_protocol.specs.Keyring.{Program}
 use Rattle.sg_protocol.specs.Representation.{Held}
-use Rattle.sg_role.specs.declared.kept.KeptState.{KeptState}
+use Rattle.sg_role.specs.declared.kept_state.KeptState.{KeptState}
 
 -- the program of a role, and what the role holds of a session
 pub record RoleState : Type 0 where

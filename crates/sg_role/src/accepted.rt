@@ -2,7 +2,7 @@
 ghost use Rattle.std.specs.Prelude.{◌≡◌};
 ghost use Rattle.sg_walk.specs.Model.{event_of};
 
-use crate::kept::KeptState;
+use crate::kept_state::KeptState;
 use sg_vis::ViewId;
 use sg_walk::Event;
 use std::marker::Model;

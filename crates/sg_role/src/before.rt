@@ -9,7 +9,7 @@ ghost use Rattle.sg_protocol.specs.Representation.{nothing_kept};
 ghost use Rattle.sg_protocol.specs.TextLaws.{IsVersion};
 ghost use Rattle.sg_protocol.specs.Texts.{real, session_id};
 
-use crate::kept::{KeptState, shared};
+use crate::kept_state::{KeptState, shared};
 use sg_base::{OutOfMemory, Role, Sid, Time, Var};
 use sg_cache::Ticket;
 use sg_crypt::{Cast, session_id};

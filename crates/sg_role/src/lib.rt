@@ -15,7 +15,7 @@ mod accepted;
 mod before;
 mod evidence;
 mod fault;
-mod kept;
+mod kept_state;
 mod next;
 mod openings;
 mod own;

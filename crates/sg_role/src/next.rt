@@ -16,7 +16,7 @@ ghost use Rattle.sg_role.specs.Model.{state_of};
 ghost use Rattle.sg_role.specs.Invariant.{HoldsBefore};
 ghost use Rattle.sg_role.specs.Keeping.{kept_from};
 
-use crate::kept::{KeptState, shared};
+use crate::kept_state::{KeptState, shared};
 use crate::own::commitment_in;
 use crate::view::last_of;
 use sg_base::{Label, NodeId, Opening, OutOfMemory, Role, Seq, Time, Value, Var};

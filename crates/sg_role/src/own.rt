@@ -16,7 +16,7 @@ ghost use Rattle.sg_role.specs.Stepping.{delta_of, commitments_after, own_text, 
 ghost use Rattle.sg_model.specs.Lists.{value_at, is_in, below};
 ghost use Rattle.std.specs.Option.{option_or};
 
-use crate::kept::KeptState;
+use crate::kept_state::KeptState;
 use crate::tags::note_for;
 use sg_base::{Label, Name, Opening, OutOfMemory, Role, RoleSet, Seq, Sid, Tag, Time, Value, Var};
 use sg_crypt::{Hashed, Notes, Pair, SharedCast, commit_text, cut, item_text, tag};

@@ -2,7 +2,7 @@
 ghost use Rattle.std.specs.Prelude.{◌≡◌, ◌↔◌, IsTrue};
 ghost use Rattle.sg_role.specs.Model.{state_of};
 
-use crate::kept::KeptState;
+use crate::kept_state::KeptState;
 use sg_base::{Name, Opening, Role, Tag, Var};
 use sg_crypt::Cast;
 use sg_frame::Item;

@@ -22,7 +22,7 @@ ghost use Rattle.sg_walk.specs.Model.{event_of, values_of};
 ghost use Rattle.sg_role.specs.Faults.{RefusesToSend};
 ghost use Rattle.sg_role.specs.Sending.{event_sent, frame_made, with_notes, WaitsOrEnds, step_of};
 
-use crate::kept::KeptState;
+use crate::kept_state::KeptState;
 use crate::step::{MadeStep, make_step};
 use crate::values::{check_step, facts_of_values};
 use crate::{Await, Before, Done, SendFault, Sent, Turn};

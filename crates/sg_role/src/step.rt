@@ -21,7 +21,7 @@ ghost use Rattle.sg_role.specs.Invariant.{HoldsTurn};
 ghost use Rattle.sg_role.specs.Stepping.{send_rows, own_text, step_commitments, step_item, step_frame, step_held, step_notes, frame_with, held_next, Extends};
 
 use crate::evidence::{items_with, openings_of, shown_to, take_over, vars_of};
-use crate::kept::{KeptState, shared};
+use crate::kept_state::{KeptState, shared};
 use crate::next::{copied_openings, has_role};
 use crate::own::{
     commit_each, commitments_with, copy_values, name_of, roles_of, tag_to, tags_for,

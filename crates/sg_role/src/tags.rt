@@ -16,7 +16,7 @@ ghost use Rattle.sg_role.specs.Looking.{bare, evidence_row, found_items, overwri
 ghost use Rattle.sg_role.specs.Model.{state_of};
 
 use crate::Refusal;
-use crate::kept::{KeptState, copied};
+use crate::kept_state::{KeptState, copied};
 use sg_base::{Name, OutOfMemory, Role, Tag, Var};
 use sg_crypt::{Note, Notes, Pair, cut_matches, frame_text, item_text};
 use sg_frame::{Frame, Item, body_len};

@@ -6,7 +6,7 @@ ghost use Rattle.sg_protocol.specs.Graph.{shape};
 ghost use Rattle.sg_protocol.specs.Texts.{real};
 
 use crate::before::fits;
-use crate::kept::KeptState;
+use crate::kept_state::KeptState;
 use crate::{Before, Done};
 use sg_base::{Label, NodeId, Time};
 use sg_cache::Ticket;

@@ -15,7 +15,7 @@ ghost use Rattle.sg_role.specs.Model.{state_of};
 ghost use Rattle.sg_role.specs.Stepping.{first_bad, send_rows};
 
 use crate::SendFault;
-use crate::kept::KeptState;
+use crate::kept_state::KeptState;
 use sg_base::{Label, Value, Var, facts_of_bytes};
 use sg_graph::Graph;
 

@@ -14,7 +14,7 @@ ghost use Rattle.sg_role.specs.Sending.{with_notes};
 ghost use Rattle.sg_role.specs.Model.{state_of};
 ghost use Rattle.sg_role.specs.Invariant.{HoldsBefore, HoldsTurn};
 
-use crate::kept::KeptState;
+use crate::kept_state::KeptState;
 use crate::next::{after_frame, receipt_of};
 use crate::openings::check_openings;
 use crate::tags::{check_frame_tag, check_items};

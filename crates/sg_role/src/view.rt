@@ -15,7 +15,7 @@ ghost use Rattle.sg_role.specs.Looking.{HasRisingVars, is_seen};
 ghost use Rattle.sg_role.specs.Model.{state_of};
 
 use crate::Refusal;
-use crate::kept::KeptState;
+use crate::kept_state::KeptState;
 use sg_base::{Label, Opening, OutOfMemory, Role, RoleSet, Tag, Var, VarSet};
 use sg_frame::{Frame, Item};
 use sg_program::Program;

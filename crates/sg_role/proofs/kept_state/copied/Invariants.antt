@@ -1,5 +1,5 @@
 use Rattle.std.proofs.Common.{◌≡◌, take}
-use Rattle.sg_role.proofs.kept.copied.Given as goal
+use Rattle.sg_role.proofs.kept_state.copied.Given as goal
 
 abbrev pub invariant-loop-at : goal.invariant-loop-at
 invariant-loop-at l = l.list.items ≡ take l.at l.commitments

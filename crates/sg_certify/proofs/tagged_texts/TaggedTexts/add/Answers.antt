@@ -3,8 +3,8 @@ use Rattle.std.specs.List.{list_any}
 use Rattle.sg_protocol.specs.Broken.{same_note}
 use Rattle.sg_certify.specs.Model.{note_kept}
 use Rattle.sg_certify.proofs.TaggedLaws.{any_added}
-use Rattle.sg_certify.proofs.made.TaggedTexts.add.Goals as goal
-use Rattle.sg_certify.proofs.made.TaggedTexts.add.Goals.{in-Ok, in-Err}
+use Rattle.sg_certify.proofs.tagged_texts.TaggedTexts.add.Goals as goal
+use Rattle.sg_certify.proofs.tagged_texts.TaggedTexts.add.Goals.{in-Ok, in-Err}
 
 pub returns : goal.returns
 returns c = elim c.match-insert.branch [
