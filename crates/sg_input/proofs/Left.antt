@@ -33,10 +33,10 @@ left_none old (Some bytes) bare end all is =
 
 -- a line was taken
 pub left_taken : (old new : List ℕ) (line : Line) (was : Option (List ℕ)) (before : Option (List Line)) → lines_left old was ≡ before → ((more : List ℕ) → lines_of (old ++ more) ≡ line ∷ lines_of (new ++ more)) → TakesFirst before (lines_left new was) line
-left_taken old new line None before is taken all told =
-    let none : None ≡ Some all = is ∙ told in absurd (cc)
-left_taken old new line (Some bytes) before is taken all told =
-    let same : Some (lines_of (old ++ bytes)) ≡ Some all = is ∙ told in
+left_taken old new line None before is taken all is_known =
+    let none : None ≡ Some all = is ∙ is_known in absurd (cc)
+left_taken old new line (Some bytes) before is taken all is_known =
+    let same : Some (lines_of (old ++ bytes)) ≡ Some all = is ∙ is_known in
     let whole : lines_of (old ++ bytes) ≡ all = cc in
     let a : all ≡ line ∷ lines_of (new ++ bytes) = sym whole ∙ taken bytes in
     let rest : drop 1 all ≡ lines_of (new ++ bytes) = ap (λ ls. drop 1 ls) a in

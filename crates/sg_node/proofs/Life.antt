@@ -33,11 +33,11 @@ answers_more n [] c a = (refl, tt)
 answers_more n (x ∷ cs) c a = (a.0, answers_more (node_after n x.call x.answer) cs c a.1)
 
 pub pasts_go_on : PastsGoOn
-pasts_go_on past c told good =
+pasts_go_on past c were_answered good =
     let new : AnsweredCall = record { call = c; answer = answer real (node_of past) c } in
     record {
-      calls = All-from_recursion (λ (x : AnsweredCall). IsCallInRange x.call) (past.calls ++ new ∷ []) (all-append (λ (x : AnsweredCall). IsCallInRange x.call) past.calls (new ∷ []) (recursion_from_All (λ (x : AnsweredCall). IsCallInRange x.call) past.calls told.calls) (good, tt));
-      answers = answers_more (new_node past.keys past.programs past.first) past.calls c told.answers;
+      calls = All-from_recursion (λ (x : AnsweredCall). IsCallInRange x.call) (past.calls ++ new ∷ []) (all-append (λ (x : AnsweredCall). IsCallInRange x.call) past.calls (new ∷ []) (recursion_from_All (λ (x : AnsweredCall). IsCallInRange x.call) past.calls were_answered.calls) (good, tt));
+      answers = answers_more (new_node past.keys past.programs past.first) past.calls c were_answered.answers;
     }
 
 pub sessions_alone : SessionsAreAlone

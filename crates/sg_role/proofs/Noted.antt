@@ -14,20 +14,20 @@ use Rattle.sg_protocol.specs.Session.{principal}
 use Rattle.sg_protocol.specs.Representation.{Held}
 use Rattle.sg_protocol.specs.Texts.{real, commitment_text_of}
 use Rattle.sg_protocol.specs.Verdict.{row, bad_time, has_frame_tag}
-use Rattle.sg_role.specs.declared.fault.Refusal.{Refusal as Told}
-use Rattle.sg_role.specs.declared.fault.Refusal.TheVariants as told
+use Rattle.sg_role.specs.declared.fault.Refusal.{Refusal as RefusalFault}
+use Rattle.sg_role.specs.declared.fault.Refusal.TheVariants as refusal_fault
 use Rattle.sg_role.specs.Faults.{Refuses}
 use Rattle.sg_role.specs.Looking.{bare, is_seen, overwritten_by, evidence_row, opening_row, found_items, hashed_from, rows_from, notes_from, KeepsNotes}
 use Rattle.sg_role.specs.Sending.{with_notes}
 
 -- a row that was refused by, for any cause but memory, holds
-pub holds_by : (o : Option Refusal) (e : Told) → e ≢ told.OutOfMemory → Refuses o e → (r : Refusal) × (o ≡ Some r)
-holds_by o told.BadFrameTag n h = (BadFrameTag, h)
-holds_by o told.NoSuchView n h = (NoSuchView, h)
-holds_by o (told.BadTime item got least) n h = (BadTime item got least, h)
-holds_by o (told.BadEvidence item) n h = (BadEvidence item, h)
-holds_by o (told.BadOpening var) n h = (BadOpening var, h)
-holds_by o told.OutOfMemory n h = absurd (n refl)
+pub holds_by : (o : Option Refusal) (e : RefusalFault) → e ≢ refusal_fault.OutOfMemory → Refuses o e → (r : Refusal) × (o ≡ Some r)
+holds_by o refusal_fault.BadFrameTag n h = (BadFrameTag, h)
+holds_by o refusal_fault.NoSuchView n h = (NoSuchView, h)
+holds_by o (refusal_fault.BadTime item got least) n h = (BadTime item got least, h)
+holds_by o (refusal_fault.BadEvidence item) n h = (BadEvidence item, h)
+holds_by o (refusal_fault.BadOpening var) n h = (BadOpening var, h)
+holds_by o refusal_fault.OutOfMemory n h = absurd (n refl)
 
 none_by : {A : Type 0} (b : Bool) (x : A) → b ≡ true → row (not b) x ≡ None
 none_by b x e = rw e refl
@@ -80,7 +80,7 @@ module _ (keys : Keyring) (p : Program) (h : Held) (f : Frame) where
   pub viewed : is_seen p h.kept.origin f ≡ true → view_row ≡ None
   viewed e = none_by (is_seen p h.kept.origin f) NoSuchView e
 
-  module _ (e : Told) (n : e ≢ told.OutOfMemory) where
+  module _ (e : RefusalFault) (n : e ≢ refusal_fault.OutOfMemory) where
     pub at_tag : Refuses tag_row e → row_number (first_some (rows_from keys p h f)) ≡ 11
     at_tag r =
         let x = holds_by tag_row e n r in

@@ -59,9 +59,9 @@ ended conn to bytes held = option_map (after_close conn) (option_map (after_give
 abbrev after_all : ℕ → Addr → List ℕ → Traffic → Traffic
 after_all conn to bytes t = record { coming = t.coming; given = record { conn = conn; to = to; bytes = bytes } ∷ t.given; open_ones = t.open_ones }
 
-ended-told : (conn : ℕ) (to : Addr) (bytes : List ℕ) (t : Traffic) → (list_any (λ c. c == conn) t.open_ones ≡ false) × (list_any (λ p. p.0 == conn) t.coming ≡ false)
+ended-is_known : (conn : ℕ) (to : Addr) (bytes : List ℕ) (t : Traffic) → (list_any (λ c. c == conn) t.open_ones ≡ false) × (list_any (λ p. p.0 == conn) t.coming ≡ false)
     → after_close conn (after_give conn bytes (after_connect conn to t)) ≡ after_all conn to bytes t
-ended-told conn to bytes t apart =
+ended-is_known conn to bytes t apart =
     let own : (conn == conn) ≡ true = eq-eqb conn conn refl in
     let given : given_to conn bytes (record { conn = conn; to = to; bytes = [] } ∷ t.given) ≡ record { conn = conn; to = to; bytes = bytes } ∷ t.given = rw own refl in
     let left : filter (λ n. not (n == conn)) (conn ∷ t.open_ones) ≡ t.open_ones = rw own (filter-none conn t.open_ones apart.0) in
@@ -69,11 +69,11 @@ ended-told conn to bytes t apart =
 
 ended-is : (conn : ℕ) (to : Addr) (bytes : List ℕ) (held : Option Traffic) → Apart conn held → ended conn to bytes held ≡ option_map (after_all conn to bytes) held
 ended-is conn to bytes None apart = refl
-ended-is conn to bytes (Some t) apart = ap Some (ended-told conn to bytes t (apart t refl))
+ended-is conn to bytes (Some t) apart = ap Some (ended-is_known conn to bytes t (apart t refl))
 
 pub ended-wrote : (conn : ℕ) (to : Addr) (bytes : List ℕ) (held : Option Traffic) → Apart conn held → WroteIfHeld to bytes held (ended conn to bytes held)
-ended-wrote conn to bytes held apart = λ t told.
-    (after_all conn to bytes t, ended-is conn to bytes held apart ∙ ap (option_map (after_all conn to bytes)) told, record { given = (conn, refl); coming = refl; open_ones = refl })
+ended-wrote conn to bytes held apart = λ t is_known.
+    (after_all conn to bytes t, ended-is conn to bytes held apart ∙ ap (option_map (after_all conn to bytes)) is_known, record { given = (conn, refl); coming = refl; open_ones = refl })
 
 come-all : (conn : ℕ) (to : Addr) (bytes : List ℕ) (u : Unread) (held : Option Traffic) → to_come u (option_map (after_all conn to bytes) held) ≡ to_come u held
 come-all conn to bytes u None = refl

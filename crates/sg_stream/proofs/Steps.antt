@@ -146,8 +146,8 @@ none_given None old new idle same = none_ready old new idle (same [])
 none_given (Some f) old new idle same = tt
 
 pub none_to_come : (u : Unread) (held : Option Traffic) → IsIdle u → IfHeld held (λ t. t.coming ≡ []) → (all : List (List ℕ)) → to_come u held ≡ Some all → all ≡ []
-none_to_come u None idle done all told = absurd (cc)
-none_to_come u (Some t) idle done all told =
+none_to_come u None idle done all is_known = absurd (cc)
+none_to_come u (Some t) idle done all is_known =
     let is : arrivals (pieces_of u ++ t.coming) ≡ all = cc in
     sym is ∙ (ap (λ ps. arrivals (pieces_of u ++ ps)) (done t refl) ∙ nothing_left u idle)
 

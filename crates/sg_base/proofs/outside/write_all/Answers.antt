@@ -7,7 +7,7 @@ pub loop-at-preserved : goal.loop-at-preserved
 loop-at-preserved g c = record {
   within = let fits = simp (length-take, length-drop) at c.in_ok-at.ensures.fits in omega arith;
   no_fault = c.in_ok-at.ensures.no_fault ∙ c.loop-at.invariant.no_fault;
-  prefix = λ before told.
+  prefix = λ before is_known.
       rw (← append-take-rest before c.args.text.now c.loop-at.at c.in_ok-at.field-0)
-      (c.in_ok-at.ensures.appended _ (c.loop-at.invariant.prefix before told));
+      (c.in_ok-at.ensures.appended _ (c.loop-at.invariant.prefix before is_known));
 }

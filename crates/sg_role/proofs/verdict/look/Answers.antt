@@ -5,7 +5,7 @@ use Rattle.sg_protocol.specs.Graph.{Graph}
 use Rattle.sg_protocol.specs.Notes.{row_number}
 use Rattle.sg_protocol.specs.Texts.{commitment_text_of}
 use Rattle.sg_protocol.specs.Verdict.{bad_time}
-use Rattle.sg_role.specs.declared.fault.Refusal.TheVariants as told
+use Rattle.sg_role.specs.declared.fault.Refusal.TheVariants as refusal_fault
 use Rattle.sg_role.specs.Faults.{Refuses}
 use Rattle.sg_role.specs.Looking.{evidence_row, opening_row, found_items, hashed_from, overwritten_by}
 use Rattle.sg_role.specs.Model.{state_of}
@@ -21,7 +21,7 @@ returns-in_err-check_frame_tag-clause-noted c = λ n.
     let f = c.args.frame.now in
     let old = c.args.notes.now in
     let same : c.from_residual.result ≡ Err c.in_err-check_frame_tag.field-0.0 = search rules in
-    let there : c.in_err-check_frame_tag.field-0.0 ≢ told.OutOfMemory = λ q. n (same ∙ ap (λ e. Err e) q) in
+    let there : c.in_err-check_frame_tag.field-0.0 ≢ refusal_fault.OutOfMemory = λ q. n (same ∙ ap (λ e. Err e) q) in
     by_number keys p h f 11 old c.check_frame_tag.new.notes (at_tag keys p h f c.in_err-check_frame_tag.field-0.0 there c.in_err-check_frame_tag.ensures.wrong) (noted_none keys p h f old c.check_frame_tag.new.notes c.in_err-check_frame_tag.ensures.same)
 
 pub returns-in_err-view-clause-noted : goal.returns-in_err-view-clause-noted
@@ -33,7 +33,7 @@ returns-in_err-view-clause-noted c = λ n.
     let old = c.args.notes.now in
     let one : tag_row keys p h f ≡ None = tagged keys p h f c.in_ok-check_frame_tag.ensures.right in
     let same : c.from_residual-in_err-view.result ≡ Err c.in_err-view.field-0.0 = search rules in
-    let there : c.in_err-view.field-0.0 ≢ told.OutOfMemory = λ q. n (same ∙ ap (λ e. Err e) q) in
+    let there : c.in_err-view.field-0.0 ≢ refusal_fault.OutOfMemory = λ q. n (same ∙ ap (λ e. Err e) q) in
     by_number keys p h f 12 old c.check_frame_tag.new.notes (at_view keys p h f c.in_err-view.field-0.0 there one c.in_err-view.ensures.wrong) (noted_view keys p h f old c.check_frame_tag.new.notes c.in_ok-check_frame_tag.ensures.noted)
 
 pub check_times-requires-clause-before : goal.check_times-requires-clause-before
@@ -50,7 +50,7 @@ returns-in_err-check_times-clause-noted c = λ n.
     let one : tag_row keys p h f ≡ None = tagged keys p h f c.in_ok-check_frame_tag.ensures.right in
     let two : view_row keys p h f ≡ None = viewed keys p h f c.in_ok-view.ensures.right in
     let same : c.from_residual-in_err-check_times.result ≡ Err c.in_err-check_times.field-0.0 = search rules in
-    let there : c.in_err-check_times.field-0.0 ≢ told.OutOfMemory = λ q. n (same ∙ ap (λ e. Err e) q) in
+    let there : c.in_err-check_times.field-0.0 ≢ refusal_fault.OutOfMemory = λ q. n (same ∙ ap (λ e. Err e) q) in
     let wrong : Refuses (time_row keys p h f) c.in_err-check_times.field-0.0 = subst (λ (is : List Item). Refuses (bad_time 1 h.kept.own_time is) c.in_err-check_times.field-0.0) shown c.in_err-check_times.ensures.wrong in
     by_number keys p h f 13 old c.check_frame_tag.new.notes (at_time keys p h f c.in_err-check_times.field-0.0 there one two wrong) (noted_time keys p h f old c.check_frame_tag.new.notes c.in_ok-check_frame_tag.ensures.noted)
 
@@ -76,7 +76,7 @@ returns-in_err-commitments-clause-noted c = λ n.
     let two : view_row keys p h f ≡ None = viewed keys p h f c.in_ok-view.ensures.right in
     let three : time_row keys p h f ≡ None = ap (bad_time 1 h.kept.own_time) (sym shown) ∙ c.in_ok-check_times.ensures.right in
     let same : c.from_residual-in_err-commitments.result ≡ Err c.in_err-commitments.field-0.0 = search rules in
-    let there : c.in_err-commitments.field-0.0 ≢ told.OutOfMemory = λ q. n (same ∙ ap (λ e. Err e) q) in
+    let there : c.in_err-commitments.field-0.0 ≢ refusal_fault.OutOfMemory = λ q. n (same ∙ ap (λ e. Err e) q) in
     let wrong : Refuses (item_row keys p h f) c.in_err-commitments.field-0.0 = subst (λ (is : List Item). Refuses (evidence_row keys h is) c.in_err-commitments.field-0.0) shown c.in_err-commitments.ensures.wrong in
     let items_noted : c.check_items.new.notes ≡ with_items keys p h f c.check_frame_tag.new.notes =
     c.in_err-commitments.ensures.noted (λ q. there (cc)) ∙ ap (λ (is : List Item). record c.check_frame_tag.new.notes { found = c.check_frame_tag.new.notes.found ++ found_items keys h is }) shown in
@@ -120,7 +120,7 @@ returns-in_err-check_openings-clause-noted c = λ n.
     let items_noted : c.check_items.new.notes ≡ with_items keys p h f c.check_frame_tag.new.notes =
     c.in_ok-commitments.ensures.noted (λ z. cc) ∙ ap (λ (is : List Item). record c.check_frame_tag.new.notes { found = c.check_frame_tag.new.notes.found ++ found_items keys h is }) shown in
     let same : c.from_residual-in_err-check_openings.result ≡ Err c.in_err-check_openings.field-0.0 = search rules in
-    let there : c.in_err-check_openings.field-0.0 ≢ told.OutOfMemory = λ q. n (same ∙ ap (λ e. Err e) q) in
+    let there : c.in_err-check_openings.field-0.0 ≢ refusal_fault.OutOfMemory = λ q. n (same ∙ ap (λ e. Err e) q) in
     let wrong : Refuses (open_row keys p h f) c.in_err-check_openings.field-0.0 = subst (λ o. Refuses o c.in_err-check_openings.field-0.0) open_same c.in_err-check_openings.ensures.wrong in
     let openings_noted : c.check_openings.new.notes ≡ with_openings keys p h f c.check_items.new.notes =
     c.in_err-check_openings.ensures.noted (λ q. there (cc)) ∙ ap (λ l. record c.check_items.new.notes { hashed = c.check_items.new.notes.hashed ++ l }) hashed_same in

@@ -46,7 +46,7 @@ returns-in-Ok-None-clause-idle c =
     }
 
 pub returns-in-Err-BadLength-clause-bad : goal.returns-in-Err-BadLength-clause-bad
-returns-in-Err-BadLength-clause-bad c = λ conn told ps.
+returns-in-Err-BadLength-clause-bad c = λ conn is_known ps.
     let within : c.self.inside.last < length c.self.inside.readers.items = omega (arith, c.self.invariant.1, c.self.invariant.0) in
     let kept : kept_piece c.self.inside.last c.self.inside.kept.items ≡ [] = rw (← c.self.view_is) at c.requires in
     let here = get_or_default c.self.inside.readers.items c.self.inside.last [] c.index_mut.result.now within ∙ sym c.index_mut.ensures.value in
@@ -56,7 +56,7 @@ returns-in-Err-BadLength-clause-bad c = λ conn told ps.
     rw (← c.self.view_is, kept, ← same, once, c.new.ensures) (bad_closed c.self.inside.readers.items c.self.inside.last c.in-Err-BadLength.field-0-0 ps within c.self.invariant.2 (rw here bad))
 
 pub returns-in-Err-BadLength-clause-idle_bad : goal.returns-in-Err-BadLength-clause-idle_bad
-returns-in-Err-BadLength-clause-idle_bad c = λ conn told.
+returns-in-Err-BadLength-clause-idle_bad c = λ conn is_known.
     let within : c.self.inside.last < length c.self.inside.readers.items = omega (arith, c.self.invariant.1, c.self.invariant.0) in
     let once = set-set c.self.inside.readers.items c.self.inside.last c.next.new.self c.new.result in
     record {
