@@ -12,7 +12,7 @@ use Rattle.sg_model.specs.Names.{Name, is_name}
 use Rattle.sg_model.specs.Values.{Value}
 use Rattle.sg_model.proofs.Small.{all-append}
 use Rattle.sg_play.specs.Choosing.{is_ready, used}
-use Rattle.sg_play.specs.Played.{Play, abandons, act_by, acts, all_deliveries, all_starts, answer_in, beginning, called, cast_of_start, chosen, next_confounders, next_random, or_abandons, played, plays, plays_on, sid_given, starts, with_turn, without}
+use Rattle.sg_play.specs.Played.{Play, abandons, act_by, acts, all_deliveries, all_starts, answer_in, beginning, called, cast_of_start, chosen, next_confounders, next_random, or_abandons, played, plays, plays_on, sid_answered, starts, with_turn, without}
 use Rattle.sg_program.specs.Together.{is_named}
 use Rattle.sg_protocol.specs.Acting.{answer}
 use Rattle.sg_protocol.specs.Calls.{Abandon, Act, Answer, Call, Deliver, Sends, Start}
@@ -151,7 +151,7 @@ module _ (programs : List Program) (first : List Join) (are : AllByRecursion (Is
       (λ node e. fine_option (λ (x : Program × Session). plays sid x.0.graph.name node p) (live_with (node_of p.past) sid) (abandons sid p) (λ x q. plays_fine sid x.0.graph.name node p h) (left_fine sid p h)) h
 
   with_turn_fine : (p : Play) (c : Call) → Fine p → IsCallInRange c → Fine (with_turn p c)
-  with_turn_fine p c h range = fine_option (λ sid. plays_on sid (called p c)) (sid_given (answer_in p c)) (called p c) (λ sid e. turn_fine sid (called p c) (called_fine p c h range)) (called_fine p c h range)
+  with_turn_fine p c h range = fine_option (λ sid. plays_on sid (called p c)) (sid_answered (answer_in p c)) (called p c) (λ sid e. turn_fine sid (called p c) (called_fine p c h range)) (called_fine p c h range)
 
   -- ---- a play
 

@@ -14,7 +14,7 @@ use Rattle.sg_protocol.specs.Named.{live_with}
 use Rattle.sg_protocol.specs.Turn.{turn_of}
 use Rattle.sg_script.specs.Script.{Start as ScriptStart, Choice}
 use Rattle.sg_play.specs.Choosing.{is_ready}
-use Rattle.sg_play.specs.Played.{Play, abandons, act_by, acts, all_deliveries, all_starts, answer_in, called, cast_of_start, chosen, or_abandons, plays, plays_on, sid_given, starts, step_in, with_turn, without, next_random}
+use Rattle.sg_play.specs.Played.{Play, abandons, act_by, acts, all_deliveries, all_starts, answer_in, called, cast_of_start, chosen, or_abandons, plays, plays_on, sid_answered, starts, step_in, with_turn, without, next_random}
 use Rattle.sg_play.specs.Steps.{Step}
 use Rattle.sg_play.proofs.Extends.{deliveries_both, starts_both}
 use Rattle.sg_play.proofs.Looping.{taken_part, whole_part}
@@ -114,7 +114,7 @@ by_given p None = quiet_nothing p
 by_given p (Some sid) = by_turn sid p
 
 pub after_call : (p : Play) (c : Call) → Quiet (called p c) (with_turn p c)
-after_call p c = by_given (called p c) (sid_given (answer_in p c))
+after_call p c = by_given (called p c) (sid_answered (answer_in p c))
 
 -- ---- a play
 

@@ -11,7 +11,7 @@ use Rattle.sg_ledger.specs.Format.{Join, Represents}
 use Rattle.sg_model.specs.Names.{Name}
 use Rattle.sg_play.specs.Choosing.{is_ready}
 use Rattle.sg_play.specs.Ends.{Outside}
-use Rattle.sg_play.specs.Played.{Play, answer_in, called, chosen, act_by, or_abandons, acts, plays, plays_on, sid_given, with_turn, without, cast_of_start, next_random, starts, all_starts, all_deliveries, beginning, played}
+use Rattle.sg_play.specs.Played.{Play, answer_in, called, chosen, act_by, or_abandons, acts, plays, plays_on, sid_answered, with_turn, without, cast_of_start, next_random, starts, all_starts, all_deliveries, beginning, played}
 use Rattle.sg_play.specs.Steps.{frames_of}
 use Rattle.sg_play.specs.declared.fault.PlayFault.TheVariants.{LinkFailed, WriteFailed, OutOfMemory}
 use Rattle.sg_protocol.specs.Acting.{answer}
@@ -62,7 +62,7 @@ module _ (opened : List Join) where
       go (Some node) = at node (live_with (node_of p.past) sid)
 
   call_over : (p : Play) (c : Call) → IsOver opened p.past → IsOver opened (with_turn p c).past
-  call_over p c h = go (sid_given (answer_in p c))
+  call_over p c h = go (sid_answered (answer_in p c))
     where
       go : (o : Option (List ℕ)) → IsOver opened (option_map_or (λ sid. plays_on sid (called p c)) o (called p c)).past
       go None = past_over p.past c h

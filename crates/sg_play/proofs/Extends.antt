@@ -11,7 +11,7 @@ use Rattle.sg_protocol.specs.Named.{live_with}
 use Rattle.sg_protocol.specs.Turn.{turn_of}
 use Rattle.sg_script.specs.Script.{Start as ScriptStart, Choice}
 use Rattle.sg_play.specs.Choosing.{is_ready}
-use Rattle.sg_play.specs.Played.{Play, abandons, act_by, acts, all_deliveries, all_starts, answer_in, called, cast_of_start, chosen, or_abandons, plays, plays_on, sid_given, starts, step_in, with_turn, without, next_random}
+use Rattle.sg_play.specs.Played.{Play, abandons, act_by, acts, all_deliveries, all_starts, answer_in, called, cast_of_start, chosen, or_abandons, plays, plays_on, sid_answered, starts, step_in, with_turn, without, next_random}
 use Rattle.sg_play.specs.Steps.{Step}
 
 -- the second has further steps
@@ -65,7 +65,7 @@ by_given p None = nothing p
 by_given p (Some sid) = by_turn sid p
 
 pub after_call : (p : Play) (c : Call) → Extends (called p c) (with_turn p c)
-after_call p c = by_given (called p c) (sid_given (answer_in p c))
+after_call p c = by_given (called p c) (sid_answered (answer_in p c))
 
 pub with_call : (p : Play) (c : Call) → Extends p (with_turn p c)
 with_call p c = joined p (called p c) (with_turn p c) (by_call p c) (after_call p c)

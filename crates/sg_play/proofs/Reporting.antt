@@ -19,7 +19,7 @@ use Rattle.sg_report.specs.Reported.{Reported, reported_answer, session_reported
 use Rattle.sg_play.specs.declared.player.Player.{Player}
 use Rattle.sg_play.specs.Asking.{IsAsked, IsAskedWithFrames, sealed_in}
 use Rattle.sg_play.specs.Meeting.{known_more}
-use Rattle.sg_play.specs.Played.{Play, answer_in, called, sid_given, step_in}
+use Rattle.sg_play.specs.Played.{Play, answer_in, called, sid_answered, step_in}
 use Rattle.sg_play.specs.Posting.{frames_made}
 use Rattle.sg_play.specs.Representation.{HasAsked, RepresentsPlay}
 use Rattle.sg_play.specs.Steps.{frames_in, frames_of, known_in}
@@ -50,7 +50,7 @@ pub known_after : (calls : List AnsweredCall) (c : AnsweredCall) (k : ℕ) → k
 known_after calls c k = ap with_events (sids_more calls c) ∙ known_by (known_in calls).events k c.answer
 
 -- the session in which something happened
-pub reported_given : (k : ℕ) (a : Answer) → sid_reported (reported_answer k a) ≡ sid_given a
+pub reported_given : (k : ℕ) (a : Answer) → sid_reported (reported_answer k a) ≡ sid_answered a
 reported_given k (Protocol.Happened e) = refl
 reported_given k (Protocol.Sends e to f) = refl
 reported_given k Protocol.Abandoned = refl

@@ -11,7 +11,7 @@ use Rattle.sg_play.specs.declared.fault.PlayFault.{PlayFault}
 use Rattle.sg_play.specs.declared.fault.PlayFault.TheVariants.{LinkFailed, OutOfMemory}
 use Rattle.sg_play.specs.declared.player.Player.{Player}
 use Rattle.sg_play.specs.Ends.{Outside, Whole, Ended}
-use Rattle.sg_play.specs.Played.{Play, all_deliveries, all_starts, answer_in, beginning, called, cast_of_start, played, plays_on, sid_given, starts, with_turn, without, next_random}
+use Rattle.sg_play.specs.Played.{Play, all_deliveries, all_starts, answer_in, beginning, called, cast_of_start, played, plays_on, sid_answered, starts, with_turn, without, next_random}
 use Rattle.sg_play.specs.Representation.{Progressed, RepresentsPlay}
 use Rattle.sg_play.proofs.Coming.{ended_on, failed, no_link, no_memory, no_memory_by}
 use Rattle.sg_play.proofs.Endings.{whole_none}
@@ -22,7 +22,7 @@ use Rattle.sg_play.proofs.Looping.{deliveries_on, delivery_next, start_next, sta
 
 module _ (start now : Outside) (pl : Player) (random : Option (List (List ℕ))) (q : Play) (c : Call) where
   -- the turn was played
-  pub turn_given : (sid : Option (List ℕ)) (r : Result (Unit {0}) PlayFault) → sid ≡ sid_given (answer_in q c) → Progressed start now pl random (option_map_or (λ s. plays_on s (called q c)) sid (called q c)) r → Progressed start now pl random (with_turn q c) r
+  pub turn_given : (sid : Option (List ℕ)) (r : Result (Unit {0}) PlayFault) → sid ≡ sid_answered (answer_in q c) → Progressed start now pl random (option_map_or (λ s. plays_on s (called q c)) sid (called q c)) r → Progressed start now pl random (with_turn q c) r
   turn_given sid r e h = subst (λ (o : Option (List ℕ)). Progressed start now pl random (option_map_or (λ s. plays_on s (called q c)) o (called q c)) r) e h
 
   -- the call ended early

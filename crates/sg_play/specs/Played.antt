@@ -87,14 +87,14 @@ abbrev pub plays_on : (sid : List ℕ) → Play → Play
 plays_on sid p = option_map_or (λ node. option_map_or (λ (x : Program × Session). plays sid x.0.graph.name node p) (live_with (node_of p.past) sid) (abandons sid p)) (turn_of (node_of p.past) sid) p
 
 -- the session in which something happened by an answer
-abbrev pub sid_given : Answer → Option (List ℕ)
-sid_given (Happened e) = Some (sid_of e)
-sid_given (Sends e to f) = Some (sid_of e)
-sid_given other = None
+abbrev pub sid_answered : Answer → Option (List ℕ)
+sid_answered (Happened e) = Some (sid_of e)
+sid_answered (Sends e to f) = Some (sid_of e)
+sid_answered other = None
 
 -- a call is made, and the turn that it gives is played
 abbrev pub with_turn : Play → Call → Play
-with_turn p c = option_map_or (λ sid. plays_on sid (called p c)) (sid_given (answer_in p c)) (called p c)
+with_turn p c = option_map_or (λ sid. plays_on sid (called p c)) (sid_answered (answer_in p c)) (called p c)
 
 -- ---- a play
 

@@ -47,7 +47,7 @@ impl<'p> Player<'p> {
     ghost use Rattle.sg_protocol.specs.Past.{Past};
     ghost use Rattle.sg_play.specs.Asking.{IsAsked};
     ghost use Rattle.sg_play.specs.Ends.{Outside, Whole};
-    ghost use Rattle.sg_play.specs.Played.{Play, abandons, answer_in, beginning, called, cast_of_start, sid_given, step_in};
+    ghost use Rattle.sg_play.specs.Played.{Play, abandons, answer_in, beginning, called, cast_of_start, sid_answered, step_in};
     ghost use Rattle.sg_play.specs.Representation.{ProgressedOnItsWay, HasAsked, KeepsJoins, RepresentsPlay, done};
 
     /// A player with a node that was made with these keys and programs and was not asked anything yet.
@@ -119,7 +119,7 @@ impl<'p> Player<'p> {
         ensures deliveries { L.deliveries link.new ≡ L.deliveries link.old }
         ensures progress { (p : Play) (start : Outside) → RepresentsPlay self.old p → Whole start (record { written = O.written out.old; sent = L.sent link.old }) p.steps
             → ProgressedOnItsWay start (record { written = O.written out.new; sent = L.sent link.new }) self.new (called p (Start cast)) (done result) }
-        ensures turn { IfOk result (λ sid. (p : Play) → RepresentsPlay self.old p → sid ≡ sid_given (answer_in p (Start cast))) }
+        ensures turn { IfOk result (λ sid. (p : Play) → RepresentsPlay self.old p → sid ≡ sid_answered (answer_in p (Start cast))) }
     {
         let (outcome, graph) = ask_start(self.alloc, &mut self.node, cast)?;
         self.give(None, graph, &outcome, None, link, out)?;
@@ -141,7 +141,7 @@ impl<'p> Player<'p> {
         ensures deliveries { L.deliveries link.new ≡ L.deliveries link.old }
         ensures progress { (p : Play) (start : Outside) → RepresentsPlay self.old p → Whole start (record { written = O.written out.old; sent = L.sent link.old }) p.steps
             → ProgressedOnItsWay start (record { written = O.written out.new; sent = L.sent link.new }) self.new (called p (Deliver bytes.now)) (done result) }
-        ensures turn { IfOk result (λ sid. (p : Play) → RepresentsPlay self.old p → sid ≡ sid_given (answer_in p (Deliver bytes.now))) }
+        ensures turn { IfOk result (λ sid. (p : Play) → RepresentsPlay self.old p → sid ≡ sid_answered (answer_in p (Deliver bytes.now))) }
     {
         let (outcome, graph) = ask_deliver(self.alloc, &mut self.node, bytes)?;
         self.give(None, graph, &outcome, None, link, out)?;

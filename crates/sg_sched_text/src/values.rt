@@ -59,7 +59,7 @@ fn in_order(
     values: &[Assignment<'_>],
 ) -> Result<Seq<(Var, Value)>, OutOfMemory>
     requires same { length numbers.now ≡ length values.now }
-    requires given { IsTrue (list_all is_assignment values.now) }
+    requires assigned { IsTrue (list_all is_assignment values.now) }
     ensures { IfOk result (λ ws. map (λ (w : ℕ × Value). (w.0, value_of w.1)) ws ≡ from_number 0 (numbered numbers.now values.now)) }
 {
     let mut found = Seq::from_vec(Vec::with_capacity(alloc, numbers.len())?);
@@ -80,7 +80,7 @@ fn put_value(
 ) -> Result<(), OutOfMemory>
     requires few { number < 32 }
     requires same { length numbers.now ≡ length values.now }
-    requires given { IsTrue (list_all is_assignment values.now) }
+    requires assigned { IsTrue (list_all is_assignment values.now) }
     ensures { OnOk result (map (λ (w : ℕ × Value). (w.0, value_of w.1)) found.old ++ from_number number (numbered numbers.now values.now)
         ≡ map (λ (w : ℕ × Value). (w.0, value_of w.1)) found.new ++ from_number (number + 1) (numbered numbers.now values.now)) }
 {

@@ -16,35 +16,35 @@ use Rattle.sg_serve.specs.Requests.{AreAssigned}
 
 -- ---- a value
 
-given_if : (b : Bool) (w v : Assignment) → is_assignment w ≡ b → (if b then Some w else None) ≡ Some v → is_assignment v ≡ true
-given_if true w v t e = subst (λ (x : Assignment). is_assignment x ≡ true) (let z : w ≡ v = (cc) in z) t
-given_if false w v t e = absurd (cc)
+assigned_if : (b : Bool) (w v : Assignment) → is_assignment w ≡ b → (if b then Some w else None) ≡ Some v → is_assignment v ≡ true
+assigned_if true w v t e = subst (λ (x : Assignment). is_assignment x ≡ true) (let z : w ≡ v = (cc) in z) t
+assigned_if false w v t e = absurd (cc)
 
-given_pair : (o : Option (Word × Word)) (v : Assignment) → option_and_then assignment_of o ≡ Some v → is_assignment v ≡ true
-given_pair None v e = absurd (cc)
-given_pair (Some p) v e = given_if (is_name p.0 && is_value p.1) (record { variable = p.0; value = p.1 }) v refl e
+assigned_pair : (o : Option (Word × Word)) (v : Assignment) → option_and_then assignment_of o ≡ Some v → is_assignment v ≡ true
+assigned_pair None v e = absurd (cc)
+assigned_pair (Some p) v e = assigned_if (is_name p.0 && is_value p.1) (record { variable = p.0; value = p.1 }) v refl e
 
-given_ok : (w : Word) (v : Assignment) → given w ≡ Some v → is_assignment v ≡ true
+assigned_ok : (w : Word) (v : Assignment) → given w ≡ Some v → is_assignment v ≡ true
 unfolding given
-given_ok w v e = given_pair (split_at 61 w) v e
+assigned_ok w v e = assigned_pair (split_at 61 w) v e
 
 both : (a b : Bool) → a ≡ true → b ≡ true → (a && b) ≡ true
 both true b e f = f
 both false b e f = absurd (cc)
 
 -- one value more
-given_more : (v : Assignment) (o : Option (List Assignment)) (vs : List Assignment) → is_assignment v ≡ true → ((us : List Assignment) → o ≡ Some us → list_all is_assignment us ≡ true) → option_map (λ (us : List Assignment). v ∷ us) o ≡ Some vs → list_all is_assignment vs ≡ true
-given_more v None vs t h e = absurd (cc)
-given_more v (Some us) vs t h e = subst (λ (xs : List Assignment). list_all is_assignment xs ≡ true) (let z : v ∷ us ≡ vs = (cc) in z) (both (is_assignment v) (list_all is_assignment us) t (h us refl))
+assigned_more : (v : Assignment) (o : Option (List Assignment)) (vs : List Assignment) → is_assignment v ≡ true → ((us : List Assignment) → o ≡ Some us → list_all is_assignment us ≡ true) → option_map (λ (us : List Assignment). v ∷ us) o ≡ Some vs → list_all is_assignment vs ≡ true
+assigned_more v None vs t h e = absurd (cc)
+assigned_more v (Some us) vs t h e = subst (λ (xs : List Assignment). list_all is_assignment xs ≡ true) (let z : v ∷ us ≡ vs = (cc) in z) (both (is_assignment v) (list_all is_assignment us) t (h us refl))
 
 assignments_on : (o : Option Assignment) (later : Option (List Assignment)) (vs : List Assignment) → ((v : Assignment) → o ≡ Some v → is_assignment v ≡ true) → ((us : List Assignment) → later ≡ Some us → list_all is_assignment us ≡ true)
     → option_and_then (λ (v : Assignment). option_map (λ (us : List Assignment). v ∷ us) later) o ≡ Some vs → list_all is_assignment vs ≡ true
 assignments_on None later vs one more e = absurd (cc)
-assignments_on (Some v) later vs one more e = given_more v later vs (one v refl) more e
+assignments_on (Some v) later vs one more e = assigned_more v later vs (one v refl) more e
 
 assignments_ok : (ws : WordsLeft) (vs : List Assignment) → assignments ws ≡ Some vs → list_all is_assignment vs ≡ true
 assignments_ok [] vs e = subst (λ (xs : List Assignment). list_all is_assignment xs ≡ true) (let z : [] ≡ vs = (cc) in z) refl
-assignments_ok (w ∷ ws) vs e = assignments_on (given w) (assignments ws) vs (given_ok w) (assignments_ok ws) e
+assignments_ok (w ∷ ws) vs e = assignments_on (given w) (assignments ws) vs (assigned_ok w) (assignments_ok ws) e
 
 -- ---- forms
 
@@ -69,18 +69,18 @@ exactly x q h e = subst AreAssigned (let z : x ≡ q = (cc) in z) h
 ends : (x : Request) (ws : WordsLeft) (q : Request) → AreAssigned x → ended (Some x) ws ≡ Some q → AreAssigned q
 ends x ws q h e = chosen (length ws == 0) (Some x) None q (exactly x q h) (nothing q) e
 
-start_given : (ws : WordsLeft) (q : Request) → start_form ws ≡ Some q → AreAssigned q
+start_assigned : (ws : WordsLeft) (q : Request) → start_form ws ≡ Some q → AreAssigned q
 unfolding start_form
-start_given ws q e =
+start_assigned ws q e =
     and_then _ (word name ws) q
     (λ graph. and_then _ (word version graph.1) q
     (λ v. and_then _ (word cast v.1) q
     (λ names. ends (Start graph.0 v.0 names.0) names.1 q tt)))
     e
 
-act_given : (ws : WordsLeft) (q : Request) → act_form ws ≡ Some q → AreAssigned q
+act_assigned : (ws : WordsLeft) (q : Request) → act_form ws ≡ Some q → AreAssigned q
 unfolding act_form
-act_given ws q e =
+act_assigned ws q e =
     and_then _ (word session ws) q
     (λ n. and_then _ (word name n.1) q
     (λ label. mapped (Act n.0 label.0) (assignments label.1) q (assignments_ok label.1)))
@@ -91,25 +91,25 @@ unfolding receive_form
 receive_given [] q e = exactly (Receive None) q tt e
 receive_given (w ∷ ws) q e = and_then _ (word milliseconds (w ∷ ws)) q (λ ms. ends (Receive (Some ms.0)) ms.1 q tt) e
 
-quit_given : (ws : WordsLeft) (q : Request) → quit_form ws ≡ Some q → AreAssigned q
+quit_assigned : (ws : WordsLeft) (q : Request) → quit_form ws ≡ Some q → AreAssigned q
 unfolding quit_form
-quit_given ws q e = ends Quit ws q tt e
+quit_assigned ws q e = ends Quit ws q tt e
 
-short_given : (w : Word) (ws : WordsLeft) (q : Request) → short_form w ws ≡ Some q → AreAssigned q
+short_assigned : (w : Word) (ws : WordsLeft) (q : Request) → short_form w ws ≡ Some q → AreAssigned q
 unfolding short_form
-short_given w ws q e =
+short_assigned w ws q e =
     chosen (bytes_eq w (codes "recv")) _ _ q (receive_given ws q)
     (chosen (bytes_eq w (codes "turn")) _ _ q (mapped Turn (session_form ws) q (λ n is. tt))
     (chosen (bytes_eq w (codes "abandon")) _ _ q (mapped Abandon (session_form ws) q (λ n is. tt))
     (chosen (bytes_eq w (codes "again")) _ _ q (mapped Again (session_form ws) q (λ n is. tt))
     (chosen (bytes_eq w (codes "id")) _ _ q (mapped Id (session_form ws) q (λ n is. tt))
-    (chosen (bytes_eq w (codes "quit")) _ _ q (quit_given ws q) (nothing q))))))
+    (chosen (bytes_eq w (codes "quit")) _ _ q (quit_assigned ws q) (nothing q))))))
     e
 
-form_given : (ws : WordsLeft) (q : Request) → form ws ≡ Some q → AreAssigned q
+form_assigned : (ws : WordsLeft) (q : Request) → form ws ≡ Some q → AreAssigned q
 unfolding form
-form_given [] q e = nothing q e
-form_given (w ∷ ws) q e = chosen (bytes_eq w (codes "start")) _ _ q (start_given ws q) (chosen (bytes_eq w (codes "act")) _ _ q (act_given ws q) (short_given w ws q)) e
+form_assigned [] q e = nothing q e
+form_assigned (w ∷ ws) q e = chosen (bytes_eq w (codes "start")) _ _ q (start_assigned ws q) (chosen (bytes_eq w (codes "act")) _ _ q (act_assigned ws q) (short_assigned w ws q)) e
 
-pub given_read : (line : List ℕ) (q : Request) → request_of line ≡ Some q → AreAssigned q
-given_read line q e = form_given (words (content line)) q e
+pub assigned_read : (line : List ℕ) (q : Request) → request_of line ≡ Some q → AreAssigned q
+assigned_read line q e = form_assigned (words (content line)) q e

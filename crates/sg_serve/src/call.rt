@@ -102,7 +102,7 @@ impl<'p> Server<'p> {
         values: &[Assignment<'_>],
         fresh: &mut R,
     ) -> Result<Reply, ServeFault>
-        requires given { IsTrue (list_all is_assignment values.now) }
+        requires assigned { IsTrue (list_all is_assignment values.now) }
         ensures joins { OnOk result (KeepsJoins self.old.player.node self.new.player.node) }
         ensures ledger { OnOk result (self.new.ledger ≡ self.old.ledger) }
         ensures replied { IfOk result (λ step. (s : Serving) → RepresentsServing self.old s → R.random fresh.old ≡ Some s.play.random → HasReplied self.new step (of_session s number (λ sid. acts_by s sid (graph_at s number) label.now values.now))) }

@@ -90,7 +90,7 @@ impl<'p> Server<'p> {
         disk: &mut D,
     ) -> Result<Reply, ServeFault>
         requires holds { HoldsJoins self.old (D.may_leave disk.old) }
-        requires given { AreAssigned request }
+        requires assigned { AreAssigned request }
         ensures disk_bound { D.bound disk.new ≡ D.bound disk.old }
         ensures falls { D.faults disk.old ≤ D.faults disk.new }
         ensures untouched { IsNone self.old.ledger → disk.new ≡ disk.old }

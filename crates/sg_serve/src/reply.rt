@@ -43,7 +43,7 @@ impl Reply {
         ensures out_falls { O.faults out.old ≤ O.faults out.new }
         ensures write_failed { OnErr result (HasRisen (O.faults out.old) (O.faults out.new)) }
         ensures causes { IfErr result (λ e. e ≡ ServeFault.WriteFailed) }
-        ensures given { AnswerIsOut (record { written = O.written out.old; sent = L.sent link.old; coming = L.coming link.old; failed = L.faults link.old })
+        ensures is_out { AnswerIsOut (record { written = O.written out.old; sent = L.sent link.old; coming = L.coming link.old; failed = L.faults link.old })
             (record { written = O.written out.new; sent = L.sent link.new; coming = L.coming link.new; failed = L.faults link.new }) self.now result }
     {
         let took = self.send(link);

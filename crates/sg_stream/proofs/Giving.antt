@@ -3,11 +3,11 @@ use Rattle.std.proofs.Common.{◌≡◌, ℕ, ◌+◌, ◌-◌, ◌==◌, take, 
 use Rattle.std.specs.Option.{option_map}
 use Rattle.std.proofs.Math.Seq.{take-add}
 use Rattle.std.proofs.lemmas.List.{append-nil, append_assoc, take_rest}
-use Rattle.sg_stream.specs.Traffic.{Writer, Traffic, given_to, after_give}
+use Rattle.sg_stream.specs.Traffic.{Writer, Traffic, with_piece_for, after_give}
 use Rattle.sg_stream.proofs.FramesOf.{yes_or_no}
 
 -- no byte given changes nothing
-given_none : (conn : ℕ) (ws : List Writer) → given_to conn [] ws ≡ ws
+given_none : (conn : ℕ) (ws : List Writer) → with_piece_for conn [] ws ≡ ws
 given_none conn [] = refl
 given_none conn (w ∷ ws) =
     elim (yes_or_no (w.conn == conn)) [
@@ -16,18 +16,18 @@ given_none conn (w ∷ ws) =
     ]
 
 -- a piece, and then another
-given_more : (conn : ℕ) (a b : List ℕ) (ws : List Writer) → given_to conn b (given_to conn a ws) ≡ given_to conn (a ++ b) ws
+given_more : (conn : ℕ) (a b : List ℕ) (ws : List Writer) → with_piece_for conn b (with_piece_for conn a ws) ≡ with_piece_for conn (a ++ b) ws
 given_more conn a b [] = refl
 given_more conn a b (w ∷ ws) =
     elim (yes_or_no (w.conn == conn)) [
-      | inl this ↦ let first : given_to conn a (w ∷ ws) ≡ record { conn = w.conn; to = w.to; bytes = w.bytes ++ a } ∷ ws = rw this refl in
-          let second : given_to conn b (record { conn = w.conn; to = w.to; bytes = w.bytes ++ a } ∷ ws) ≡ record { conn = w.conn; to = w.to; bytes = (w.bytes ++ a) ++ b } ∷ ws = rw this refl in
-          let both : given_to conn (a ++ b) (w ∷ ws) ≡ record { conn = w.conn; to = w.to; bytes = w.bytes ++ (a ++ b) } ∷ ws = rw this refl in
-          ap (given_to conn b) first ∙ (second ∙ ((λ i. record { conn = w.conn; to = w.to; bytes = append_assoc w.bytes a b i } ∷ ws) ∙ sym both))
-      | inr other ↦ let first : given_to conn a (w ∷ ws) ≡ w ∷ given_to conn a ws = rw other refl in
-          let second : given_to conn b (w ∷ given_to conn a ws) ≡ w ∷ given_to conn b (given_to conn a ws) = rw other refl in
-          let both : given_to conn (a ++ b) (w ∷ ws) ≡ w ∷ given_to conn (a ++ b) ws = rw other refl in
-          ap (given_to conn b) first ∙ (second ∙ (ap (λ l. w ∷ l) (given_more conn a b ws) ∙ sym both))
+      | inl this ↦ let first : with_piece_for conn a (w ∷ ws) ≡ record { conn = w.conn; to = w.to; bytes = w.bytes ++ a } ∷ ws = rw this refl in
+          let second : with_piece_for conn b (record { conn = w.conn; to = w.to; bytes = w.bytes ++ a } ∷ ws) ≡ record { conn = w.conn; to = w.to; bytes = (w.bytes ++ a) ++ b } ∷ ws = rw this refl in
+          let both : with_piece_for conn (a ++ b) (w ∷ ws) ≡ record { conn = w.conn; to = w.to; bytes = w.bytes ++ (a ++ b) } ∷ ws = rw this refl in
+          ap (with_piece_for conn b) first ∙ (second ∙ ((λ i. record { conn = w.conn; to = w.to; bytes = append_assoc w.bytes a b i } ∷ ws) ∙ sym both))
+      | inr other ↦ let first : with_piece_for conn a (w ∷ ws) ≡ w ∷ with_piece_for conn a ws = rw other refl in
+          let second : with_piece_for conn b (w ∷ with_piece_for conn a ws) ≡ w ∷ with_piece_for conn b (with_piece_for conn a ws) = rw other refl in
+          let both : with_piece_for conn (a ++ b) (w ∷ ws) ≡ w ∷ with_piece_for conn (a ++ b) ws = rw other refl in
+          ap (with_piece_for conn b) first ∙ (second ∙ (ap (λ l. w ∷ l) (given_more conn a b ws) ∙ sym both))
     ]
 
 -- the same of the traffic

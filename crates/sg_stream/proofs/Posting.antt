@@ -9,7 +9,7 @@ use Rattle.std.proofs.Math.Seq.{take-append-add}
 use Rattle.sg_base.specs.Outside.{Appends}
 use Rattle.sg_base.specs.declared.address.Addr.{Addr}
 use Rattle.sg_stream.specs.Framed.{IsFrame, message}
-use Rattle.sg_stream.specs.Traffic.{Writer, Traffic, given_to, after_connect, after_give, after_close, IfHeld}
+use Rattle.sg_stream.specs.Traffic.{Writer, Traffic, with_piece_for, after_connect, after_give, after_close, IfHeld}
 use Rattle.sg_stream.specs.Frames.{frames_of}
 use Rattle.sg_stream.specs.Link.{Unread, to_come, gone_out, sent_of, GavePrefix, WroteIfHeld}
 use Rattle.sg_stream.proofs.FramesOf.{frames-message, frames-none, frames-nil}
@@ -63,7 +63,7 @@ ended-is_known : (conn : ℕ) (to : Addr) (bytes : List ℕ) (t : Traffic) → (
     → after_close conn (after_give conn bytes (after_connect conn to t)) ≡ after_all conn to bytes t
 ended-is_known conn to bytes t apart =
     let own : (conn == conn) ≡ true = eq-eqb conn conn refl in
-    let given : given_to conn bytes (record { conn = conn; to = to; bytes = [] } ∷ t.given) ≡ record { conn = conn; to = to; bytes = bytes } ∷ t.given = rw own refl in
+    let given : with_piece_for conn bytes (record { conn = conn; to = to; bytes = [] } ∷ t.given) ≡ record { conn = conn; to = to; bytes = bytes } ∷ t.given = rw own refl in
     let left : filter (λ n. not (n == conn)) (conn ∷ t.open_ones) ≡ t.open_ones = rw own (filter-none conn t.open_ones apart.0) in
     λ i. record { coming = without-none conn t.coming apart.1 i; given = given i; open_ones = left i }
 

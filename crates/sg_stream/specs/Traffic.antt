@@ -21,9 +21,9 @@ without conn [] = []
 without conn (p ∷ ps) = if p.0 == conn then (if length p.1 == 0 then ps else without conn ps) else p ∷ without conn ps
 
 -- a piece was given to the latest connection with this number
-abbrev pub given_to : ℕ → List ℕ → List Writer → List Writer
-given_to conn piece [] = []
-given_to conn piece (w ∷ ws) = if w.conn == conn then record w { bytes = w.bytes ++ piece } ∷ ws else w ∷ given_to conn piece ws
+abbrev pub with_piece_for : ℕ → List ℕ → List Writer → List Writer
+with_piece_for conn piece [] = []
+with_piece_for conn piece (w ∷ ws) = if w.conn == conn then record w { bytes = w.bytes ++ piece } ∷ ws else w ∷ with_piece_for conn piece ws
 
 -- the first piece was taken
 abbrev pub after_take : Traffic → Traffic
@@ -35,7 +35,7 @@ after_connect conn to t = record t { given = record { conn = conn; to = to; byte
 
 -- a piece was given
 abbrev pub after_give : ℕ → List ℕ → Traffic → Traffic
-after_give conn piece t = record t { given = given_to conn piece t.given }
+after_give conn piece t = record t { given = with_piece_for conn piece t.given }
 
 -- a connection was closed: no more of its pieces come, and nothing more is given to it
 abbrev pub after_close : ℕ → Traffic → Traffic

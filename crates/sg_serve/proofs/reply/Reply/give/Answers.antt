@@ -1,7 +1,7 @@
 use Rattle.sg_serve.proofs.reply.Reply.give.Goals as goal
 
-pub returns-clause-given : goal.returns-clause-given
-returns-clause-given g c = record {
+pub returns-clause-is_out : goal.returns-clause-is_out
+returns-clause-is_out g c = record {
   took = c.send-took.result;
   quiet = c.send-took.ensures.quiet;
   falls = c.send-took.ensures.falls;

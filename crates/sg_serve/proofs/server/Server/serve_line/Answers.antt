@@ -15,7 +15,7 @@ returns-in-Ok-clause-answered g c = λ r start st a.
     let random = g.R.Fresh.random c.answer.new.fresh in
     let line = found_line (option_copied c.args.line) in
     let came : HasAnswer c.answer.new.self random mid.coming old.failed mid.failed r line c.in-Ok-Some.reply = (rw c.in-Ok-Some.field-0-is at c.in-Ok-Some.ensures.answered) r st a.random_left a.coming in
-    went_on start old mid new random (images_if (is_some c.args.self.now.ledger) (g.D.Disk.may_leave c.answer.new.disk)) c.answer.new.self r line c.in-Ok-Some.reply a.gave refl c.answer.ensures.sent c.answer.ensures.link_falls came c.in-Ok.field-0 c.in-Ok.ensures.given
+    went_on start old mid new random (images_if (is_some c.args.self.now.ledger) (g.D.Disk.may_leave c.answer.new.disk)) c.answer.new.self r line c.in-Ok-Some.reply a.gave refl c.answer.ensures.sent c.answer.ensures.link_falls came c.in-Ok.field-0 c.in-Ok.ensures.is_out
 
 pub returns-in-Ok-Some-clause-answered : goal.returns-in-Ok-Some-clause-answered
 returns-in-Ok-Some-clause-answered g c = λ r start st a.
@@ -26,4 +26,4 @@ returns-in-Ok-Some-clause-answered g c = λ r start st a.
     let line = found_line (option_copied c.args.line) in
     let came : HasAnswer c.answer.new.self random mid.coming old.failed mid.failed r line c.in-Ok-Some.reply = (rw c.in-Ok-Some.field-0-is at c.in-Ok-Some.ensures.answered) r st a.random_left a.coming in
     wrote_part start old mid _ random (images_if (is_some c.args.self.now.ledger) leaves) c.answer.new.self r line c.in-Ok-Some.reply a.gave refl c.answer.ensures.sent c.answer.ensures.link_falls came c.in-Err-give.fault c.in-Err-give.ensures.causes
-    (holds_all c.answer.new.self c.args.self.now leaves came.reply.0 c.in-Ok-Some.ensures.same c.in-Ok-Some.ensures.holds came.replied.represents) c.in-Err-give.ensures.given
+    (holds_all c.answer.new.self c.args.self.now leaves came.reply.0 c.in-Ok-Some.ensures.same c.in-Ok-Some.ensures.holds came.replied.represents) c.in-Err-give.ensures.is_out
