@@ -66,13 +66,13 @@ use Rattle.sg_apart_frames.specs.Receipts.{HoldOneKey, key_at}
 use Rattle.sg_apart_frames.specs.Delivery.{HoldOneKeyEach, IsAwaitedApart, DeliveryIsCompleteApart}
 use Rattle.sg_apart_frames.specs.GoesOn.{IsUnderWayApart, SessionsGoOnApart}
 use Rattle.sg_apart_frames.proofs.Beginnings.{one_later}
-use Rattle.sg_apart_frames.proofs.Course.{With}
-use Rattle.sg_apart_frames.proofs.Flight.{HonestSession, Flight, FrameOk, Taken, Track, New, SessOk, OnTheWay, Course_, course}
+use Rattle.sg_apart_frames.proofs.Progressing.{With}
+use Rattle.sg_apart_frames.proofs.Flight.{HonestSession, Flight, FrameOk, WasReceived, Track, New, SessOk, OnTheWay, FlightOfRun, flight_of_run}
 use Rattle.sg_apart_frames.proofs.Flight as L
 use Rattle.sg_apart_frames.proofs.Keys.{SameFor, in_at, pair_keys, pairs_differ, pairs_hold, rows_same, targets_apart}
 use Rattle.sg_apart_frames.proofs.Runs.{keep_calls, pasts_kept}
 use Rattle.sg_apart_frames.proofs.Sendings.{key_kept, nobody, nobody_compiled, nobody_is, receipts_have_sends_apart, some_event}
-use Rattle.sg_apart_frames.proofs.Showing.{facts_of, first_progress, first_told, of_run}
+use Rattle.sg_apart_frames.proofs.Showing.{facts_of, first_progress, agree_first, of_run}
 
 not_over : (a b : ℕ) → a < b → nat_le b a ≡ false
 not_over a b l = elim (cases_Bool (nat_le b a)) [ inl e ↦ absurd (let m : b ≤ a = grind (arith, nat_tests) in omega (arith, l, m)) | inr e ↦ e ]
@@ -247,8 +247,8 @@ module _ (sha : Hash) (hash : IsHash sha) (ps : List Past) (are : All (Begins sh
       no_split [] l after e = absurd (cc)
       no_split (b ∷ before) l after e = absurd (cc)
 
-  begins_course : Course_ known_of_session w0
-  begins_course = record {
+  begins_run : FlightOfRun known_of_session w0
+  begins_run = record {
     flight_ = begins_flight;
     sourced = λ m f i. absurd i;
     baton = inl refl;
@@ -256,18 +256,18 @@ module _ (sha : Hash) (hash : IsHash sha) (ps : List Past) (are : All (Begins sh
     said = λ l bs e f i. absurd i;
   }
 
-  coursed : With (known_of_session.of_run) (OnTheWay known_of_session) wf
+  runs_so : With (known_of_session.of_run) (OnTheWay known_of_session) wf
   unfolding known_of_session
-  coursed = course known_of_session w0 1 (first_progress sha hash ps are calls range sid premises first, (first_told sha hash ps are calls range sid premises first (first_progress sha hash ps are calls range sid premises first) (first_moves sha hash ps are calls range sid premises first), begins_course)) calls (recursion_from_All (λ (c : CallAt). IsCallInRange c.call) calls range) refl
+  runs_so = flight_of_run known_of_session w0 1 (first_progress sha hash ps are calls range sid premises first, (agree_first sha hash ps are calls range sid premises first (first_progress sha hash ps are calls range sid premises first) (first_moves sha hash ps are calls range sid premises first), begins_run)) calls (recursion_from_All (λ (c : CallAt). IsCallInRange c.call) calls range) refl
 
   flown : Flight known_of_session wf
-  flown = coursed.1.1.flight_
+  flown = runs_so.1.1.flight_
 
   -- ---- who has the turn, or which frame is under way
 
   abandoned_by : (who : Name) → HadAnswer (run_apart sha ps calls).log who (Abandon sid) Abandoned → WasAbandoned first.cast sid (run_apart sha ps calls).log
   abandoned_by who had =
-      let r = coursed.1.1.left_from had.0 who (in_from_Contains (run_apart sha ps calls).log had.0 had.1) had.2 had.3 had.4 in
+      let r = runs_so.1.1.left_from had.0 who (in_from_Contains (run_apart sha ps calls).log had.0 had.1) had.2 had.3 had.4 in
       (r.0, r.1, subst (λ z. HadAnswer (run_apart sha ps calls).log z (Abandon sid) Abandoned) (sym r.2) had)
 
   at_end_ : (m : ℕ) → list_any (λ (e : Edge). e.source == m) first.program.graph.edges ≡ false → (e : ℕ) → e < length first.program.graph.edges → source (shape first.program.graph) e ≢ m
@@ -310,13 +310,13 @@ module _ (sha : Hash) (hash : IsHash sha) (ps : List Past) (are : All (Begins sh
       role_is = eqb-true (role_at (shape first.program.graph) (place first.program.graph x)) x.role turn
 
       own : Own_ past.programs
-      own = ((coursed.0).nodes who past its_past).own
+      own = ((runs_so.0).nodes who past its_past).own
 
       p_graph : (the_p.0).graph ≡ first.program.graph
       p_graph = (prog past.programs own x.role the_p.0 the_p.1).0
 
       prog_x : program_for (node_of past).programs x.cast.graph x.role ≡ Some the_p.0
-      prog_x = ap (λ xs. program_for xs x.cast.graph x.role) ((coursed.0).nodes who past its_past).ok.has_programs ∙ ap (λ (c : Cast). program_for past.programs c.graph x.role) ok.same_cast ∙ the_p.1
+      prog_x = ap (λ xs. program_for xs x.cast.graph x.role) ((runs_so.0).nodes who past its_past).ok.has_programs ∙ ap (λ (c : Cast). program_for past.programs c.graph x.role) ok.same_cast ∙ the_p.1
 
       found : session_with (node_of past).live sid ≡ Some x
       found = sym (find-filter (λ (z : Session). bytes_eq z.sid sid) (of_sid sid) (λ z e. e) (node_of past).live) ∙ ap (find (λ (z : Session). bytes_eq z.sid sid)) alone ∙ rw (bytes_same x.sid sid ok.same_sid) refl
@@ -365,7 +365,7 @@ module _ (sha : Hash) (hash : IsHash sha) (ps : List Past) (are : All (Begins sh
       untaken_ : (e : Event) → HadAnswer (run_apart sha ps calls).log fy.to (Deliver (spelling fy.f)) (Happened e) → ⊥
       untaken_ e had =
           let i = in_from_Contains (run_apart sha ps calls).log had.0 had.1 in
-          let q : e ≡ receipt fy.f = coursed.1.1.said had.0 (spelling fy.f) e fy.f i had.3 had.4 (read-spelling fy.f fo.spelled) in
+          let q : e ≡ receipt fy.f = runs_so.1.1.said had.0 (spelling fy.f) e fy.f i had.3 had.4 (read-spelling fy.f fo.spelled) in
           fy.untaken (had.0, i, had.2, had.3, had.4 ∙ ap (λ z. Answered (Happened z)) q)
 
       under_way : (HadAnswer (run_apart sha ps calls).log fy.to (Abandon sid) Abandoned → ⊥) → IsUnderWayApart s (run_apart sha ps calls) first.cast sid
@@ -395,7 +395,7 @@ module _ (sha : Hash) (hash : IsHash sha) (ps : List Past) (are : All (Begins sh
 
   pub is_never_stuck : events_of sid (run_apart sha ps calls).log ≢ [] →
       IsAtEnd first.program.graph sid (run_apart sha ps calls).log ⊎ (WasAbandoned first.cast sid (run_apart sha ps calls).log ⊎ (CanAct sha (run_apart sha ps calls) first.cast first.program.graph sid ⊎ IsUnderWayApart s (run_apart sha ps calls) first.cast sid))
-  is_never_stuck some = elim coursed.1.1.baton [
+  is_never_stuck some = elim runs_so.1.1.baton [
     | inl n ↦ absurd (some n)
     | inr r ↦ elim r [
       | inl l ↦ inr (inl (abandoned_by l.0 l.1))
@@ -421,7 +421,7 @@ module _ (sha : Hash) (hash : IsHash sha) (ps : List Past) (are : All (Begins sh
     bytes_are : bytes ≡ spelling f
     bytes_are = (let z : Some bytes ≡ Some (spelling f) = sym (aw.sent).4 ∙ fo.framed in cc)
 
-    untaken : Taken known_of_session (run_apart sha ps calls).log who f → ⊥
+    untaken : WasReceived known_of_session (run_apart sha ps calls).log who f → ⊥
     untaken t = aw.not_taken (receipt f) (t.0, contains_from_in (run_apart sha ps calls).log t.0 t.1, t.2, t.3 ∙ ap (λ z. Some (Deliver z)) (sym bytes_are), t.4)
 
     nothing_after : honest_items sid sp.1 ≡ []
@@ -451,7 +451,7 @@ module _ (sha : Hash) (hash : IsHash sha) (ps : List Past) (are : All (Begins sh
     who_is = sym fo.to_is
 
     own : Own_ past.programs
-    own = ((coursed.0).nodes who past its_past).own
+    own = ((runs_so.0).nodes who past its_past).own
 
     cast_aw : aw.cast ≡ first.cast
     cast_aw = (let z : Some aw.cast ≡ Some first.cast = sym aw.is_cast ∙ ap (λ z. cast_of_session z (run_apart sha ps calls).log) of_sid_ ∙ first.is_cast in cc)
@@ -466,7 +466,7 @@ module _ (sha : Hash) (hash : IsHash sha) (ps : List Past) (are : All (Begins sh
     p_graph = (prog past.programs own f.receiver the_p.0 the_p.1).0
 
     n_programs : n.programs ≡ past.programs
-    n_programs = ((coursed.0).nodes who past its_past).ok.has_programs
+    n_programs = ((runs_so.0).nodes who past its_past).ok.has_programs
 
     -- for another of the cast the receiver holds what the list of pairs says
     abbrev mine : Keyring
@@ -605,7 +605,7 @@ module _ (sha : Hash) (hash : IsHash sha) (ps : List Past) (are : All (Begins sh
         go m (c ∷ cs) = go (NodeAfter'.node_after m c.call c.answer) cs ∙ keys_kept m c.call c.answer
 
     n_me : n.keys.me ≡ who
-    n_me = ((coursed.0).nodes who past its_past).ok.me
+    n_me = ((runs_so.0).nodes who past its_past).ok.me
 
     joins : New known_of_session (run_apart sha ps calls).log who n → first_some (rows sha n f) ≡ None
     joins t =

@@ -62,7 +62,7 @@ use Rattle.sg_protocol.proofs.Progressing.{Suffix, past_called, next_past, node_
 use Rattle.sg_protocol.proofs.Whole.{found_in, find_some}
 use Rattle.sg_apart.specs.Apart.{CallAt, world_after_calls}
 use Rattle.sg_apart.proofs.Going.{SessionApart, Progress, Left}
-use Rattle.sg_apart_frames.proofs.Course.{Told, Outs, With, told_called, with_all}
+use Rattle.sg_apart_frames.proofs.Progressing.{MovesAgree, Outs, With, agree_called, with_all}
 use Rattle.sg_apart_frames.proofs.Keys.{SameFor, in_at, own_item_same, frame_same}
 use Rattle.sg_apart_frames.proofs.Runs.{pasts_kept}
 use Rattle.sg_apart_frames.proofs.Sendings.{decided_none}
@@ -111,11 +111,11 @@ module _ {sha : Hash} {s : Schedule} {sid : List ℕ} {cast : Cast} {g : Graph} 
   Opens_ past o = OpensAt sha keys sid cast targets g past o
 
   -- the frame was taken by whom it was sent to
-  abbrev pub Taken : List Logged → Name → Frame → Type 0
-  Taken log to f = (m : Logged) × In log m × (m.who ≡ Some to) × (m.call ≡ Some (Deliver (spelling f))) × (m.outcome ≡ Answered (Happened (receipt f)))
+  abbrev pub WasReceived : List Logged → Name → Frame → Type 0
+  WasReceived log to f = (m : Logged) × In log m × (m.who ≡ Some to) × (m.call ≡ Some (Deliver (spelling f))) × (m.outcome ≡ Answered (Happened (receipt f)))
 
-  abbrev pub AllTaken : List Logged → Type 0
-  AllTaken log = (l : Logged) (e : Event) (to : Name) (f : Frame) → In log l → l.outcome ≡ Answered (Sends e to f) → sid_of e ≡ sid → Taken log to f
+  abbrev pub AllReceived : List Logged → Type 0
+  AllReceived log = (l : Logged) (e : Event) (to : Name) (f : Frame) → In log l → l.outcome ≡ Answered (Sends e to f) → sid_of e ≡ sid → WasReceived log to f
 
   -- a frame that was sent
   pub record FrameOk (log before after : List Logged) (l : Logged) (to : Name) (f : Frame) : Type 0 where
@@ -133,7 +133,7 @@ module _ {sha : Hash} {s : Schedule} {sid : List ℕ} {cast : Cast} {g : Graph} 
     pub tag_is : f.tag ≡ tag_for sha (keyring_of keys (principal cast f.sender)) cast f.receiver (text_of f)
     pub spelled : HasSpelling f
     pub framed : l.frame ≡ Some (spelling f)
-    pub taken : (honest_items sid after ≡ [] → ⊥) → Taken log to f
+    pub taken : (honest_items sid after ≡ [] → ⊥) → WasReceived log to f
 
   -- a session of a principal
   pub record SessOk (log : List Logged) (who : Name) (x : Session) : Type 0 where
@@ -142,7 +142,7 @@ module _ {sha : Hash} {s : Schedule} {sid : List ℕ} {cast : Cast} {g : Graph} 
     pub is_who : principal cast x.role ≡ who
     pub inside_ : x.role < length cast.names
     pub relay : Relay_ (honest_items sid log) x
-    pub taken : at_turn g x ≡ true → AllTaken log
+    pub taken : at_turn g x ≡ true → AllReceived log
     pub stepped : at_turn g x ≡ false → has by_role x.role (honest_items sid log) ≡ true
 
   pub record New (log : List Logged) (who : Name) (n : Node) : Type 0 where
@@ -199,7 +199,7 @@ module _ {sha : Hash} {s : Schedule} {sid : List ℕ} {cast : Cast} {g : Graph} 
     pub of_session : sid_of e ≡ sid
     pub is_sid : f.sid ≡ sid
     pub nothing_later : honest_items sid after ≡ []
-    pub untaken : Taken log to f → ⊥
+    pub untaken : WasReceived log to f → ⊥
 
   -- no edge leaves the place where the steps end
   abbrev pub NoEdge : List Logged → Type 0
@@ -224,7 +224,7 @@ module _ {sha : Hash} {s : Schedule} {sid : List ℕ} {cast : Cast} {g : Graph} 
   abbrev pub Said : List Logged → Type 0
   Said log = (l : Logged) (bs : List ℕ) (e : Event) (f : Frame) → In log l → l.call ≡ Some (Deliver bs) → l.outcome ≡ Answered (Happened e) → read bs ≡ Ok f → e ≡ receipt f
 
-  pub record Course_ (w : World) : Type 0 where
+  pub record FlightOfRun (w : World) : Type 0 where
     pub flight_ : Flight w
     pub sourced : Sourced w.log
     pub baton : Baton w
@@ -233,7 +233,7 @@ module _ {sha : Hash} {s : Schedule} {sid : List ℕ} {cast : Cast} {g : Graph} 
 
   -- ---- later logs
 
-  taken_more : (log : List Logged) (l0 : Logged) (to : Name) (f : Frame) → Taken log to f → Taken (log ++ l0 ∷ []) to f
+  taken_more : (log : List Logged) (l0 : Logged) (to : Name) (f : Frame) → WasReceived log to f → WasReceived (log ++ l0 ∷ []) to f
   taken_more log l0 to f t = (t.0, in_left log (l0 ∷ []) t.0 t.1, t.2, t.3, t.4)
 
   items-append : (xs ys : List Logged) → honest_items sid (xs ++ ys) ≡ honest_items sid xs ++ honest_items sid ys
@@ -257,7 +257,7 @@ module _ {sha : Hash} {s : Schedule} {sid : List ℕ} {cast : Cast} {g : Graph} 
   same_items : (log : List Logged) (l0 : Logged) → Silent l0 → honest_items sid (log ++ l0 ∷ []) ≡ honest_items sid log
   same_items log l0 q = items-append log (l0 ∷ []) ∙ ap (λ o. honest_items sid log ++ cons_option o []) (silent_item l0 q) ∙ append-nil (honest_items sid log)
 
-  all_taken_more : (log : List Logged) (l0 : Logged) → Silent l0 → AllTaken log → AllTaken (log ++ l0 ∷ [])
+  all_taken_more : (log : List Logged) (l0 : Logged) → Silent l0 → AllReceived log → AllReceived (log ++ l0 ∷ [])
   all_taken_more log l0 q a l e to f i o h = elim (in_parts log (l0 ∷ []) l i) [
     | inl j ↦ taken_more log l0 to f (a l e to f j o h)
     | inr j ↦ elim j [ inl k ↦ absurd (q e to f (ap (λ (z : Logged). z.outcome) (sym k) ∙ o) h) | inr k ↦ absurd k ]
@@ -279,7 +279,7 @@ module _ {sha : Hash} {s : Schedule} {sid : List ℕ} {cast : Cast} {g : Graph} 
   track_more log l0 who xs n n' q e j j' (inr (inl t)) = inr (inl record { x = t.x; alone = e ∙ t.alone; ok = sess_more log l0 who t.x q t.ok; was_joined = j (t.x).role t.was_joined })
   track_more log l0 who xs n n' q e j j' (inr (inr t)) = inr (inr record { x = t.x; alone = e ∙ t.alone; ok = sess_more log l0 who t.x q t.ok; was_joined = j (t.x).role t.was_joined; why = t.why })
 
-  frame_more : (log before after : List Logged) (l l0 : Logged) (to : Name) (f : Frame) → ((honest_items sid after ≡ []) → (honest_items sid (after ++ l0 ∷ []) ≡ [] → ⊥) → Taken (log ++ l0 ∷ []) to f) → FrameOk log before after l to f → FrameOk (log ++ l0 ∷ []) before (after ++ l0 ∷ []) l to f
+  frame_more : (log before after : List Logged) (l l0 : Logged) (to : Name) (f : Frame) → ((honest_items sid after ≡ []) → (honest_items sid (after ++ l0 ∷ []) ≡ [] → ⊥) → WasReceived (log ++ l0 ∷ []) to f) → FrameOk log before after l to f → FrameOk (log ++ l0 ∷ []) before (after ++ l0 ∷ []) l to f
   frame_more log before after l l0 to f t k = record {
     item = k.item;
     its_last = k.its_last;
@@ -298,7 +298,7 @@ module _ {sha : Hash} {s : Schedule} {sid : List ℕ} {cast : Cast} {g : Graph} 
     taken = λ ne. go (honest_items sid after) refl ne;
   }
     where
-      go : (is' : List Item) → honest_items sid after ≡ is' → (honest_items sid (after ++ l0 ∷ []) ≡ [] → ⊥) → Taken (log ++ l0 ∷ []) to f
+      go : (is' : List Item) → honest_items sid after ≡ is' → (honest_items sid (after ++ l0 ∷ []) ≡ [] → ⊥) → WasReceived (log ++ l0 ∷ []) to f
       go [] e ne = t e ne
       go (i ∷ is') e ne = taken_more log l0 to f (k.taken (λ z. (let q : i ∷ is' ≡ [] = sym e ∙ z in absurd (cc))))
 
@@ -410,14 +410,14 @@ module _ {sha : Hash} {s : Schedule} {sid : List ℕ} {cast : Cast} {g : Graph} 
   all_honest [] r = tt
   all_honest (i ∷ xs) r = (known.everyone i.role (subst (λ z. z < length g.roles) (sym r.0) (role_small g is acc (source (shape g) i.label))), all_honest xs r.1)
 
-  none_taken : (w : World) → Flight w → honest_items sid w.log ≡ [] → AllTaken w.log
+  none_taken : (w : World) → Flight w → honest_items sid w.log ≡ [] → AllReceived w.log
   none_taken w fl none l e to f i o h =
       let r = in_split w.log l i in
       absurd (in_items w.log l e to f (fl.frames r.0 l r.1 e to f r.2 o h).item i o h (fl.frames r.0 l r.1 e to f r.2 o h).its_last none)
 
   -- ---- a call
 
-  module _ (w : World) (k : ℕ) (p : Prog w) (told : Told known.of_run w p) (fl : Flight w) (who : Name) (past : Past) (its_past : past_of w who ≡ Some past) (c : Call) (range : IsCallInRange c) (after : Suffix (k + 1) (called sha w k who c past).log wf.log)
+  module _ (w : World) (k : ℕ) (p : Prog w) (moves_agree : MovesAgree known.of_run w p) (fl : Flight w) (who : Name) (past : Past) (its_past : past_of w who ≡ Some past) (c : Call) (range : IsCallInRange c) (after : Suffix (k + 1) (called sha w k who c past).log wf.log)
       (out : Outs known.of_run w k p who past its_past c range after) where
     -- the principal's programs, and the session under them
     abbrev own : Own past.programs
@@ -612,7 +612,7 @@ module _ {sha : Hash} {s : Schedule} {sid : List ℕ} {cast : Cast} {g : Graph} 
       is_who_ : principal cast r ≡ who
       inside__ : r < length cast.names
       relay_ : Relay_ (honest_items sid w.log) (new_session sid cast r)
-      taken_ : at_turn g (new_session sid cast r) ≡ true → AllTaken w.log
+      taken_ : at_turn g (new_session sid cast r) ≡ true → AllReceived w.log
 
     fresh_sess : (r : ℕ) → principal cast r ≡ who → r < length cast.names → has by_role r (honest_items sid w.log) ≡ false → Starting r
     fresh_sess r q l none = record {
@@ -713,7 +713,7 @@ module _ {sha : Hash} {s : Schedule} {sid : List ℕ} {cast : Cast} {g : Graph} 
       items_are = ap (honest_items sid) sp.2 ∙ split_items sp.0 ws.0 sp.1 ws.1 ws.2 h.f fo.item ws.7 ws_sid fo.its_last
 
       shows_ : map bare (filter (λ (i : Item). honest_role s cast i.role) f.items) ≡ map bare (last_of by_role (after_last by_role f.receiver (honest_items f.sid log')))
-      shows_ = (shows_called known.of_run known.facts w k p told who past its_past c range after out
+      shows_ = (shows_called known.of_run known.facts w k p moves_agree who past its_past c range after out
           l0 who h.took.bs h.f (next_past sha who c past) (last-append w.log l0 []) taken_now h.took.is_sid past_now).items
 
       shown_are : map bare f.items ≡ map bare (last_of by_role (after_last by_role f.receiver (honest_items sid w.log)))
@@ -744,23 +744,23 @@ module _ {sha : Hash} {s : Schedule} {sid : List ℕ} {cast : Cast} {g : Graph} 
       to_who : ws.2 ≡ who
       to_who = fo.to_is ∙ ap (principal cast) h.same_role ∙ h.is_who
 
-      taken_this : Taken log' ws.2 h.f
+      taken_this : WasReceived log' ws.2 h.f
       taken_this = (l0, C.in_last w.log l0, ap (λ z. Some z) (sym to_who), ap (λ z. Some z) (h.took.is_call ∙ ap (λ z. Deliver z) bytes_are), ap (λ z. Answered z) h.took.is_answer)
 
-      all_taken : AllTaken log'
+      all_taken : AllReceived log'
       all_taken l e to f2 i o hs = elim (in_parts w.log (l0 ∷ []) l i) [
         | inr j ↦ elim j [ inl q ↦ absurd (silent_ e to f2 (ap (λ (z : Logged). z.outcome) (sym q) ∙ o) hs) | inr q ↦ absurd q ]
         | inl j ↦ (let r = in_split w.log l j in by_after r.0 r.1 r.2 (fl.frames r.0 l r.1 e to f2 r.2 o hs) (honest_items sid r.1) refl)
       ]
         where
-          by_after : (before rest : List Logged) → w.log ≡ before ++ l ∷ rest → FrameOk w.log before rest l to f2 → (is' : List Item) → honest_items sid rest ≡ is' → Taken log' to f2
+          by_after : (before rest : List Logged) → w.log ≡ before ++ l ∷ rest → FrameOk w.log before rest l to f2 → (is' : List Item) → honest_items sid rest ≡ is' → WasReceived log' to f2
           by_after before rest e2 fo2 (i2 ∷ is') q = taken_more w.log l0 to f2 (fo2.taken (λ z. (let y : i2 ∷ is' ≡ [] = sym q ∙ z in absurd (cc))))
           by_after before rest e2 fo2 [] q = elim (two_splits sp.0 ws.0 sp.1 before l rest (sym sp.2 ∙ e2)) [
             | inl same ↦
                 (let z : Answered (Sends ws.1 ws.2 h.f) ≡ Answered (Sends e to f2) = sym ws.7 ∙ ap (λ (z : Logged). z.outcome) same ∙ o in
                 let ff : h.f ≡ f2 = cc in
                 let tt' : ws.2 ≡ to = cc in
-                subst (λ y. Taken log' to y) ff (subst (λ y. Taken log' y h.f) tt' taken_this))
+                subst (λ y. WasReceived log' to y) ff (subst (λ y. WasReceived log' y h.f) tt' taken_this))
             | inr other ↦ elim other [
               | inl j2 ↦ absurd (in_items sp.1 l e to f2 fo2.item j2 o hs fo2.its_last nothing_after)
               | inr j2 ↦ absurd (in_items rest ws.0 ws.1 ws.2 h.f fo.item j2 ws.7 ws_sid fo.its_last q)
@@ -1008,7 +1008,7 @@ module _ {sha : Hash} {s : Schedule} {sid : List ℕ} {cast : Cast} {g : Graph} 
           } (out.more_joins (h.x).role (here (fl.tracks who past its_past)).1)) others frames_
 
       -- the frame is new, so nobody has taken it
-      given_untaken : Sourced w.log → Taken log' (principal (h.x).cast (receiver (shape (h.p).graph) h.label)) fr → ⊥
+      given_untaken : Sourced w.log → WasReceived log' (principal (h.x).cast (receiver (shape (h.p).graph) h.label)) fr → ⊥
       given_untaken so t = elim (in_parts w.log (l0 ∷ []) t.0 t.1) [
         | inl j ↦ old (so t.0 fr j t.3 t.4 h.same_sid h.spelled)
         | inr j ↦ elim j [ inl e ↦ absurd (let z : Answered (Sends ev (principal (h.x).cast (receiver (shape (h.p).graph) h.label)) fr) ≡ Answered (Happened (receipt fr)) = ap (λ z. Answered z) (sym h.is_answer) ∙ ap (λ (z : Logged). z.outcome) (sym e) ∙ t.4 in cc) | inr e ↦ absurd e ]
@@ -1066,8 +1066,8 @@ module _ {sha : Hash} {s : Schedule} {sid : List ℕ} {cast : Cast} {g : Graph} 
       ]
     ]
 
-    course_called : Sourced w.log → Baton w → LeftFrom w.log → Said w.log → Course_ (called sha w k who c past)
-    course_called so b lf sd = record {
+    run_called : Sourced w.log → Baton w → LeftFrom w.log → Said w.log → FlightOfRun (called sha w k who c past)
+    run_called so b lf sd = record {
       flight_ = flight_called;
       sourced = both.0;
       baton = both.1;
@@ -1124,8 +1124,8 @@ module _ {sha : Hash} {s : Schedule} {sid : List ℕ} {cast : Cast} {g : Graph} 
 
   -- what is known of a world on the way
   abbrev pub OnTheWay : (w : World) → Prog w → Type 0
-  OnTheWay w p = Told known.of_run w p × Course_ w
+  OnTheWay w p = MovesAgree known.of_run w p × FlightOfRun w
 
-  pub course : (w : World) (k : ℕ) → With known.of_run OnTheWay w → (cs : List CallAt) → AllByRecursion (λ (c : CallAt). IsCallInRange c.call) cs → world_after_calls sha w k cs ≡ wf → With known.of_run OnTheWay wf
-  course w k h cs range e = with_all known.of_run OnTheWay
-      (λ w k p h who past its_past c r after out. (told_called known.of_run w k p who past its_past c r after h.0 out, course_called w k p h.0 h.1.flight_ who past its_past c r after out h.1.sourced h.1.baton h.1.left_from h.1.said)) w k h cs range e
+  pub flight_of_run : (w : World) (k : ℕ) → With known.of_run OnTheWay w → (cs : List CallAt) → AllByRecursion (λ (c : CallAt). IsCallInRange c.call) cs → world_after_calls sha w k cs ≡ wf → With known.of_run OnTheWay wf
+  flight_of_run w k h cs range e = with_all known.of_run OnTheWay
+      (λ w k p h who past its_past c r after out. (agree_called known.of_run w k p who past its_past c r after h.0 out, run_called w k p h.0 h.1.flight_ who past its_past c r after out h.1.sourced h.1.baton h.1.left_from h.1.said)) w k h cs range e

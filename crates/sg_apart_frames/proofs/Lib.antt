@@ -1,7 +1,7 @@
 pub mod Runs
 pub mod Sendings
 pub mod Beginnings
-pub mod Course
+pub mod Progressing
 pub mod Showing
 pub mod Keys
 pub mod Flight

@@ -58,7 +58,7 @@ use Rattle.sg_apart.proofs.Whole.{FirstCast, Own, begins, first_moves, first_cas
 use Rattle.sg_apart.proofs.Whole as W
 use Rattle.sg_apart_frames.specs.LastSteps.{FramesShowLastStepsApart}
 use Rattle.sg_apart_frames.proofs.Beginnings.{premises_before, is_last}
-use Rattle.sg_apart_frames.proofs.Course.{Told, Outs, IsTranscript, after_moves, told_called, with_all}
+use Rattle.sg_apart_frames.proofs.Progressing.{MovesAgree, Outs, IsTranscript, after_moves, agree_called, with_all}
 use Rattle.sg_apart_frames.proofs.Sendings.{some_event}
 
 split_some : (f : Item → A.TimedLabel) (o : Option Item) (t : A.TimedLabel) → option_map f o ≡ Some t → (i : Item) × (o ≡ Some i) × (f i ≡ t)
@@ -109,12 +109,12 @@ module _ {sha : Hash} {s : Schedule} {sid : List ℕ} {cast : Cast} {g : Graph} 
   abbrev pub Shows : World → Type 0
   Shows w = (l : Logged) (who : Name) (bs : List ℕ) (f : Frame) (past : Past) → last w.log ≡ Some l → IsTaken w l who bs f → f.sid ≡ sid → past_of w who ≡ Some past → ShowsLastSteps s w g cast f (up_to_last (λ (i : Item). i.role) f.receiver (flat_map items_of (exchanges_of f.sid f.receiver past.calls)))
 
-  module _ (w : World) (k : ℕ) (p : Progress known w) (told : Told known w p) (who : Name) (past : Past) (its_past : past_of w who ≡ Some past) (c : Call) (range : IsCallInRange c) (after : Suffix (k + 1) (called sha w k who c past).log wf.log) (out : Outs known w k p who past its_past c range after) where
+  module _ (w : World) (k : ℕ) (p : Progress known w) (moves_agree : MovesAgree known w p) (who : Name) (past : Past) (its_past : past_of w who ≡ Some past) (c : Call) (range : IsCallInRange c) (after : Suffix (k + 1) (called sha w k who c past).log wf.log) (out : Outs known w k p who past its_past c range after) where
     abbrev next : Progress known (called sha w k who c past)
     next = progress_called known w k p who past its_past c range after out
 
-    told' : Told known (called sha w k who c past) next
-    told' = told_called known w k p who past its_past c range after told out
+    moves_agree' : MovesAgree known (called sha w k who c past) next
+    moves_agree' = agree_called known w k p who past its_past c range after moves_agree out
 
     abbrev st : State
     st = after_moves known p.moves
@@ -139,15 +139,15 @@ module _ {sha : Hash} {s : Schedule} {sid : List ℕ} {cast : Cast} {g : Graph} 
       agreed = all_agreed (shape g) honest commit p.moves f.receiver t.node (entries f.items) f.openings facts.accepted.sighted (facts.binding p.moves p.used) all_may
 
       sent_is : st.machine.sent ≡ map step (honest_items sid (called sha w k who c past).log)
-      sent_is = ap (λ (z : State). z.machine.sent) (sym st_is) ∙ told'.sent.0
+      sent_is = ap (λ (z : State). z.machine.sent) (sym st_is) ∙ moves_agree'.sent.0
 
       -- a role's transcript until the frame
       transcript_before : (r : ℕ) (pk : Past) → past_of (called sha w k who c past) (principal cast r) ≡ Some pk → r < length cast.names → (r == f.receiver) ≡ false → st.transcript r ≡ entries (flat_map items_of (exchanges_of sid r pk.calls))
-      transcript_before r pk e l ne = sym (rw ne refl) ∙ ap (λ (z : State). z.transcript r) (sym st_is) ∙ (told'.transcript (principal cast r) pk e r refl l).0
+      transcript_before r pk e l ne = sym (rw ne refl) ∙ ap (λ (z : State). z.transcript r) (sym st_is) ∙ (moves_agree'.transcript (principal cast r) pk e r refl l).0
 
       own_receiver : (pk : Past) → past_of (called sha w k who c past) who ≡ Some pk → own_part_of (shape g) st f.receiver ≡ entries (up_to_last (λ (i : Item). i.role) f.receiver (flat_map items_of (exchanges_of sid f.receiver pk.calls)))
       own_receiver pk e =
-          let transcript_r = told'.transcript who pk e f.receiver t.is_who t.inside in
+          let transcript_r = moves_agree'.transcript who pk e f.receiver t.is_who t.inside in
           sym (upto-more (by (shape g)) f.receiver (st.transcript f.receiver) (entries f.items) (has-entries (shape g) f.receiver f.items t.roles ∙ t.no_own))
           ∙ ap (up_to_last (by (shape g)) f.receiver) (sym (rw (eqb_same f.receiver) refl))
           ∙ own_entries g st' f.receiver (flat_map items_of (exchanges_of sid f.receiver pk.calls)) (ap (λ (z : State). z.transcript f.receiver) (sym st_is) ∙ transcript_r.0) transcript_r.1
@@ -168,10 +168,10 @@ module _ {sha : Hash} {s : Schedule} {sid : List ℕ} {cast : Cast} {g : Graph} 
 
         -- the sender's past, before the frame and after
         before : (y : Past) × (past_of w (principal cast i.role) ≡ Some y)
-        before = told.pasts (principal cast i.role) h
+        before = moves_agree.pasts (principal cast i.role) h
 
         its_past_ : (y : Past) × (past_of (called sha w k who c past) (principal cast i.role) ≡ Some y)
-        its_past_ = told'.pasts (principal cast i.role) h
+        its_past_ = moves_agree'.pasts (principal cast i.role) h
 
         -- all its items, and those up to its last own one
         abbrev all : List Item
@@ -181,7 +181,7 @@ module _ {sha : Hash} {s : Schedule} {sid : List ℕ} {cast : Cast} {g : Graph} 
         up_to = up_to_last (λ (i : Item). i.role) i.role (flat_map items_of (exchanges_of sid i.role (its_past_.0).calls))
 
         roles_all : Roles (shape g) all
-        roles_all = (told'.transcript (principal cast i.role) its_past_.0 its_past_.1 i.role refl inside).1
+        roles_all = (moves_agree'.transcript (principal cast i.role) its_past_.0 its_past_.1 i.role refl inside).1
 
         own_is : own_part_of (shape g) st i.role ≡ entries up_to
         own_is = own_entries g st i.role all (transcript_before i.role its_past_.0 its_past_.1 inside not_receiver) roles_all
@@ -216,7 +216,7 @@ module _ {sha : Hash} {s : Schedule} {sid : List ℕ} {cast : Cast} {g : Graph} 
       shows_last : (pr : Past) → past_of (called sha w k who c past) who ≡ Some pr → f.sid ≡ sid → ShowsLastSteps s (called sha w k who c past) g cast f (up_to_last (λ (i : Item). i.role) f.receiver (flat_map items_of (exchanges_of f.sid f.receiver pr.calls)))
       shows_last pr pr_is q = record {
         items = subst (λ z. map bare (filter (λ (i : Item). honest_role s cast i.role) f.items) ≡ map bare (last_of (λ (i : Item). i.role) (after_last (λ (i : Item). i.role) f.receiver (honest_items z (called sha w k who c past).log)))) (sym q)
-            (shown_items g honest st f t.roles agreed (honest_items sid (called sha w k who c past).log) told'.sent.1 sent_is);
+            (shown_items g honest st f t.roles agreed (honest_items sid (called sha w k who c past).log) moves_agree'.sent.1 sent_is);
         held = λ prefix i rest e h. subst (λ z. HeldBySender (called sha w k who c past) g cast z i (commitments g (up_to_last (λ (i : Item). i.role) f.receiver (flat_map items_of (exchanges_of z f.receiver pr.calls)) ++ prefix ++ i ∷ []))) (sym q) (held_by pr pr_is prefix i rest e h);
       }
 
@@ -253,8 +253,8 @@ module _ (sha : Hash) (hash : IsHash sha) (ps : List Past) (are : All (Begins sh
   abbrev pub first_progress : Progress of_run (record { pasts = ps; log = [] })
   first_progress = begins sha hash ps are calls range sid premises first
 
-  pub first_told : (p : Progress of_run (record { pasts = ps; log = [] })) → p.moves ≡ [] → Told of_run (record { pasts = ps; log = [] }) p
-  first_told p e = record {
+  pub agree_first : (p : Progress of_run (record { pasts = ps; log = [] })) → p.moves ≡ [] → MovesAgree of_run (record { pasts = ps; log = [] }) p
+  agree_first p e = record {
     transcript = λ who y q r i l. subst (λ ms. IsTranscript sid (first.program).graph (after_moves of_run ms) r y.calls) (sym e) (subst (IsTranscript sid (first.program).graph (V.at_first (shape (first.program).graph)) r) (sym (all_in (Begins sha) ps y are (found_in (λ (p : Past). bytes_eq p.keys.me who) ps y q)).calls) (refl, tt));
     sent = (ap (λ ms. (after_moves of_run ms).machine.sent) e, tt);
     pasts = λ who h. there ps who h;
@@ -262,9 +262,9 @@ module _ (sha : Hash) (hash : IsHash sha) (ps : List Past) (are : All (Begins sh
 
   shown_in_end : Shows of_run facts_of (run_apart sha ps calls)
   shown_in_end =
-      let r = with_all of_run (λ w p. Told of_run w p × Shows of_run facts_of w)
-      (λ w k p h who past q c r after out. (told_called of_run w k p who past q c r after h.0 out, shows_called of_run facts_of w k p h.0 who past q c r after out))
-      (record { pasts = ps; log = [] }) 1 (first_progress, (first_told first_progress (first_moves sha hash ps are calls range sid premises first), λ l who bs f past e. absurd (let n : None ≡ Some l = e in cc))) calls (recursion_from_All (λ (c : CallAt). IsCallInRange c.call) calls range) refl in
+      let r = with_all of_run (λ w p. MovesAgree of_run w p × Shows of_run facts_of w)
+      (λ w k p h who past q c r after out. (agree_called of_run w k p who past q c r after h.0 out, shows_called of_run facts_of w k p h.0 who past q c r after out))
+      (record { pasts = ps; log = [] }) 1 (first_progress, (agree_first first_progress (first_moves sha hash ps are calls range sid premises first), λ l who bs f past e. absurd (let n : None ≡ Some l = e in cc))) calls (recursion_from_All (λ (c : CallAt). IsCallInRange c.call) calls range) refl in
       r.1.1
 
   -- what a frame that was accepted last shows

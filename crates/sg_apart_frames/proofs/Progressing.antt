@@ -56,7 +56,7 @@ module _ {sha : Hash} {s : Schedule} {sid : List ℕ} {cast : Cast} {g : Graph} 
   abbrev pub after_moves : List Move → State
   after_moves ms = moved_all (λ o. commitment sha sid o) (V.at_first (shape g)) ms
 
-  pub record Told (w : World) (p : Progress known w) : Type 0 where
+  pub record MovesAgree (w : World) (p : Progress known w) : Type 0 where
     pub transcript : (who : Name) (y : Past) → past_of w who ≡ Some y → (r : ℕ) → principal cast r ≡ who → r < length cast.names → IsTranscript sid g (after_moves p.moves) r y.calls
     pub sent : ((after_moves p.moves).machine.sent ≡ map step (honest_items sid w.log)) × Roles (shape g) (honest_items sid w.log)
     pub pasts : (who : Name) → is_honest s who ≡ true → (y : Past) × (past_of w who ≡ Some y)
@@ -68,12 +68,12 @@ module _ {sha : Hash} {s : Schedule} {sid : List ℕ} {cast : Cast} {g : Graph} 
     abbrev entry_ : Logged
     entry_ = record { number = k; who = Some who; call = Some c; outcome = Answered (answer sha (node_of past) c); frame = frame_in (answer sha (node_of past) c); notes = notes sha (node_of past) c }
 
-    pub told_called : Told w p → (out : Outs) → Told (called sha w k who c past) (progress_called known w k p who past its_past c range after out)
-    told_called told out = record {
+    pub agree_called : MovesAgree w p → (out : Outs) → MovesAgree (called sha w k who c past) (progress_called known w k p who past its_past c range after out)
+    agree_called moves_agree out = record {
       transcript = λ me p' e r is l. subst (λ z. IsTranscript sid g z r p'.calls) (sym moved) (pasts_kept sha w k who past its_past c (λ me p'. (r : ℕ) → principal cast r ≡ me → r < length cast.names → IsTranscript sid g (moved_all commit (after_moves p.moves) out.moves) r p'.calls) mine (λ me y ne e r is l. others me y ne e r is l) me p' e r is l);
       sent = subst (λ l. ((after_moves (progress_called known w k p who past its_past c range after out).moves).machine.sent ≡ map step l) × Roles (shape g) l) (sym (honest_items-append sid w.log (entry_ ∷ [])))
-          (ap (λ (z : State). z.machine.sent) moved ∙ out.sent.0 ∙ ap (λ l. l ++ map step (honest_items sid (entry_ ∷ []))) told.sent.0 ∙ sym (map-append step (honest_items sid w.log) (honest_items sid (entry_ ∷ []))), roles-append (shape g) (honest_items sid w.log) (honest_items sid (entry_ ∷ [])) told.sent.1 out.sent.1);
-      pasts = λ me is. (let o = told.pasts me is in (next_past sha who c o.0, past_called sha w k who c past me ∙ ap (option_map (next_past sha who c)) o.1));
+          (ap (λ (z : State). z.machine.sent) moved ∙ out.sent.0 ∙ ap (λ l. l ++ map step (honest_items sid (entry_ ∷ []))) moves_agree.sent.0 ∙ sym (map-append step (honest_items sid w.log) (honest_items sid (entry_ ∷ []))), roles-append (shape g) (honest_items sid w.log) (honest_items sid (entry_ ∷ [])) moves_agree.sent.1 out.sent.1);
+      pasts = λ me is. (let o = moves_agree.pasts me is in (next_past sha who c o.0, past_called sha w k who c past me ∙ ap (option_map (next_past sha who c)) o.1));
     }
       where
         moved : after_moves (progress_called known w k p who past its_past c range after out).moves ≡ moved_all commit (after_moves p.moves) out.moves
@@ -81,14 +81,14 @@ module _ {sha : Hash} {s : Schedule} {sid : List ℕ} {cast : Cast} {g : Graph} 
 
         mine : (r : ℕ) → principal cast r ≡ who → r < length cast.names → IsTranscript sid g (moved_all commit (after_moves p.moves) out.moves) r (past_after sha past c).calls
         mine r is l =
-            let old : IsTranscript sid g (after_moves p.moves) r past.calls = told.transcript who past its_past r is l in
+            let old : IsTranscript sid g (after_moves p.moves) r past.calls = moves_agree.transcript who past its_past r is l in
             let new = out.transcript r is l in
             subst (λ l. ((moved_all commit (after_moves p.moves) out.moves).transcript r ≡ entries l) × Roles (shape g) l) (sym (transcript_by-append sid r past.calls (record { call = c; answer = answer sha (node_of past) c })))
             (new.0 ∙ ap (λ l. l ++ entries (transcript_by sid r (record { call = c; answer = answer sha (node_of past) c } ∷ []))) old.0 ∙ sym (map-append entry (transcript_by sid r past.calls) (transcript_by sid r (record { call = c; answer = answer sha (node_of past) c } ∷ []))), roles-append (shape g) (transcript_by sid r past.calls) (transcript_by sid r (record { call = c; answer = answer sha (node_of past) c } ∷ [])) old.1 new.1)
 
         others : (me : Name) (y : Past) → (me ≡ who → ⊥) → past_of w me ≡ Some y → (r : ℕ) → principal cast r ≡ me → r < length cast.names → IsTranscript sid g (moved_all commit (after_moves p.moves) out.moves) r y.calls
         others me y ne e r is l =
-            let old : IsTranscript sid g (after_moves p.moves) r y.calls = told.transcript me y e r is l in
+            let old : IsTranscript sid g (after_moves p.moves) r y.calls = moves_agree.transcript me y e r is l in
             (out.kept.transcript r (λ z. ne (sym is ∙ z)) ∙ old.0, old.1)
 
   -- a world, and what it is to the law, of which this holds
