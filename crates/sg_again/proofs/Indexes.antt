@@ -10,26 +10,11 @@ use Rattle.std.specs.Ordering.{nat_cmp}
 use Rattle.std.proofs.lemmas.Bool.{cases_Bool}
 use Rattle.std.proofs.lemmas.List.{append-nil}
 use Rattle.sg_model.proofs.Small.{bytes_eq-flip}
-use Rattle.std.proofs.lemmas.Slice.Eq.{slice_eq-Decides, bytes_eq-Decides}
-use Rattle.std.proofs.lemmas.Bool.Decides.{Decides-eqb, nat_tests, same_from_decides}
-use Rattle.sg_base.specs.contracts.number.SidPartialEq.TheImpl.{eq-value}
+use Rattle.std.proofs.lemmas.Bool.Decides.{nat_tests}
 use Rattle.sg_again.specs.LastFrames.{KeptFrame, SentFrame, most_over, is_of, is_over, over, without_first_over, within_limit, sent, ended, frame_of}
 use Rattle.sg_again.specs.Invariant.{Entry, index_by, Apart, Below, Indexed}
 use Rattle.sg_again.proofs.Entries.{all_more, all_filter, all_append, over_indices, NonePass, others, others-none, none_indexed, written, written-none, values-written, values-others, remove-others, remove_key-others, set-written, lookup-found, length-over}
 use Rattle.sg_again.proofs.Indices.{at, at_same, once, agree, apart-others, apart-append, apart-written, below-written, indexed-written, indexed-sent, indexed-others, insert-written, first_leaves, indexed_found}
-
--- ---- the table of indices
-
--- the `==` of sids
-abbrev pub same : List ℕ → List ℕ → Bool
-same a b = eq-value.it a b
-
-pub same-bytes_eq : (a b : List ℕ) → same a b ≡ bytes_eq a b
-same-bytes_eq a b = same_from_decides _ _ (slice_eq-Decides Decides-eqb a b _ refl) (bytes_eq-Decides a b)
-
-pub lookup-same : (sid : List ℕ) (ps : List (List ℕ × ℕ)) → lookup (same sid) ps ≡ lookup (bytes_eq sid) ps
-lookup-same sid [] = refl
-lookup-same sid (p ∷ ps) = rw (same-bytes_eq sid p.0, lookup-same sid ps) refl
 
 -- ---- a frame is sent
 
