@@ -166,8 +166,8 @@ module _ (sha : Hash) (n : Node) (programs : AllByRecursion (IsProgram sha) n.pr
 
   pub record NamesFrom (c : Call) (a : Answer) : Type 0 where
     pub is_named : IsNamed sha n c a
-    pub there : In n.programs told.program
-    pub is_from : IsFrom c told.session
+    pub there : In n.programs is_named.program
+    pub is_from : IsFrom c is_named.session
 
   record IsFor (digest : List ℕ) (r : ℕ) (p : Program) : Type 0 where
     is_program : IsProgram sha p
