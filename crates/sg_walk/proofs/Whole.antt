@@ -32,7 +32,7 @@ pub path_last : (g : Graph) (honest : ℕ → Bool) (events : List Event) (steps
 path_last g honest events steps sent received b w ends n s r p =
     let held = either (λ s. honest (sender (shape g) s.label)) (λ s. honest (receiver (shape g) s.label)) (last steps) sent received ends.0 ends.1 in
     let both = each (λ s. honest (sender (shape g) s.label)) (λ s. honest (receiver (shape g) s.label)) (last steps) sent received ends.0 ends.1 in (
-      λ t. record { taken = false; walk = w; held = held.0 (rw s refl); explained = (p.0 t).0; awaited = λ z. both.0 (rw (s, r) refl); hidden = (p.0 t).1 },
+      λ t. record { taken = false; walk = w; ends_honest = held.0 (rw s refl); explained = (p.0 t).0; may_come = λ z. both.0 (rw (s, r) refl); hidden = (p.0 t).1 },
       λ o. p.1 (not_taken o (cases_Bool o.taken)),
     )
   where
