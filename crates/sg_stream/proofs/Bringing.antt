@@ -3,7 +3,7 @@ use Rattle.std.proofs.Common.{◌≡◌, ◌≢◌, ℕ, zero, suc, ◌+◌, ◌
 use Rattle.std.specs.List.{flat_map}
 use Rattle.std.proofs.Math.Seq.{drop-nil, drop-append_seam}
 use Rattle.std.proofs.lemmas.Bool.{eq-eqb}
-use Rattle.std.proofs.lemmas.Bool.Decides.{eqb_decides, leb_decides}
+use Rattle.std.proofs.lemmas.Bool.Decides.{eqb_tells, leb_tells}
 use Rattle.std.proofs.lemmas.List.{append-nil, append_assoc, nil_from_length}
 use Rattle.sg_stream.specs.Framed.{BeginsMessage, BeginsBad}
 use Rattle.sg_stream.specs.Traffic.{without}
@@ -14,10 +14,10 @@ use Rattle.sg_stream.proofs.Messages.{not_bad, bad_stays}
 use Rattle.sg_stream.proofs.FramesOf.{yes_or_no, frames-none, frames-append, frames-nil}
 
 pub nil_there : (xs : List ℕ) → (length xs == 0) ≡ true → xs ≡ []
-nil_there xs none = elim (eqb_decides (length xs) 0) [ inl (e, is) ↦ nil_from_length xs is | inr (e, differs) ↦ absurd (cc) ]
+nil_there xs none = elim (eqb_tells (length xs) 0) [ inl (e, is) ↦ nil_from_length xs is | inr (e, differs) ↦ absurd (cc) ]
 
 not_equal : (a b : ℕ) → a ≢ b → (a == b) ≡ false
-not_equal a b differs = elim (eqb_decides a b) [ inl (e, is) ↦ absurd (differs is) | inr (e, other) ↦ e ]
+not_equal a b differs = elim (eqb_tells a b) [ inl (e, is) ↦ absurd (differs is) | inr (e, other) ↦ e ]
 
 -- the connection with this number has this left, and the others have what they had
 abbrev pub with_left : (ℕ → List ℕ) → ℕ → List ℕ → ℕ → List ℕ
@@ -51,7 +51,7 @@ brings-follow (p ∷ ps) before left same =
           let news : made_whole before p ≡ frames_of (left p.0 ++ p.1) =
           rw (own, some, same p.0, two.0) (drop-append_seam (frames_of (brought p.0 before)) (frames_of (rest_of (brought p.0 before) ++ p.1))) in
           let next : (conn : ℕ) → with_left left p.0 (rest_of (left p.0 ++ p.1)) conn ≡ rest_of (brought conn (p ∷ before)) =
-          λ conn. elim (eqb_decides p.0 conn) [
+          λ conn. elim (eqb_tells p.0 conn) [
             | inl (this, is) ↦ let here : rest_of (left p.0 ++ p.1) ≡ rest_of (brought conn before ++ p.1) =
                 ap (λ b. rest_of (b ++ p.1)) (same p.0) ∙ (sym two.1 ∙ ap (λ c. rest_of (brought c before ++ p.1)) is) in
                 rw (this, some) here
@@ -68,7 +68,7 @@ pub follow-numbered : (lefts : List (List ℕ)) (n : ℕ) (start final : ℕ →
     → follow start (numbered n lefts ++ ps) ≡ flat_map frames_of lefts ++ follow final ps
 follow-numbered [] n start final ps empty below above =
     follow-same start final ps (λ conn.
-    elim (leb_decides n conn) [
+    elim (leb_tells n conn) [
       | inl (e, h) ↦ empty conn h ∙ sym (above conn h ∙ frames-nil.1)
       | inr (e, h) ↦ sym (below conn h)
     ])
@@ -76,15 +76,15 @@ follow-numbered (x ∷ xs) n start final ps empty below above =
     let nothing : start n ≡ [] = empty n (omega arith) in
     let next : ℕ → List ℕ = with_left start n (rest_of x) in
     let empty' : (conn : ℕ) → n + 1 ≤ conn → with_left start n (rest_of x) conn ≡ [] =
-    λ conn h. elim (eqb_decides n conn) [
+    λ conn h. elim (eqb_tells n conn) [
       | inl (this, is) ↦ absurd (omega (arith, h, is))
       | inr (other, differs) ↦ rw other (empty conn (omega (arith, h)))
     ] in
     let below' : (conn : ℕ) → conn < n + 1 → final conn ≡ with_left start n (rest_of x) conn =
-    λ conn h. elim (eqb_decides n conn) [
+    λ conn h. elim (eqb_tells n conn) [
       | inl (this, is) ↦ let zero_there : conn - n ≡ 0 = omega (arith, is) in
           rw this (above conn (omega (arith, is)) ∙ ap (λ k. rest_of (get_or (x ∷ xs) k [])) zero_there)
-      | inr (other, differs) ↦ rw other (elim (leb_decides n conn) [
+      | inr (other, differs) ↦ rw other (elim (leb_tells n conn) [
         | inl (e, le) ↦ absurd (differs (omega (arith, h, le)))
         | inr (e, less) ↦ below conn less
       ])
@@ -125,7 +125,7 @@ flat_one (x ∷ xs) (suc n) bytes within none =
 pub follow-bad : (ps : List (ℕ × List ℕ)) (left : ℕ → List ℕ) (conn len : ℕ) → BeginsBad (left conn) len → follow left ps ≡ follow (with_left left conn []) (without conn ps)
 follow-bad [] left conn len bad = refl
 follow-bad (p ∷ ps) left conn len bad =
-    elim (eqb_decides p.0 conn) [
+    elim (eqb_tells p.0 conn) [
       | inl (this, is) ↦ elim (yes_or_no (length p.1 == 0)) [
         | inl empty ↦ rw (this, empty, is) refl
         | inr some ↦ let bad' : BeginsBad (left conn ++ p.1) len = bad_stays (left conn) p.1 len bad in
@@ -143,7 +143,7 @@ follow-bad (p ∷ ps) left conn len bad =
           let still : BeginsBad (with_left left p.0 new conn) len = rw other bad in
           follow-bad ps (with_left left p.0 new) conn len still
           ∙ follow-same (with_left (with_left left p.0 new) conn []) (with_left (with_left left conn []) p.0 new) (without conn ps) (λ c.
-          elim (eqb_decides conn c) [
+          elim (eqb_tells conn c) [
             | inl (here, at) ↦ let away : (p.0 == c) ≡ false = rw (← at) other in rw (here, away) refl
             | inr (there, off) ↦ rw there refl
           ]) in

@@ -1,7 +1,7 @@
 -- Where the pieces of connections are cut.
 use Rattle.std.proofs.Common.{◌≡◌, ℕ, suc, ◌<◌, ◌==◌, true, false, List, [], ◌∷◌, ◌++◌, All, length, map, refl, sym, ap, ◌∙◌, inl, inr, arith, eq-eqb}
 use Rattle.std.specs.List.{concat}
-use Rattle.std.proofs.lemmas.Bool.Decides.{eqb_decides}
+use Rattle.std.proofs.lemmas.Bool.Decides.{eqb_tells}
 use Rattle.std.proofs.lemmas.List.{append-nil, append_assoc, length-append}
 use Rattle.sg_stream.specs.Frames.{frames_of, rest_of}
 use Rattle.sg_stream.specs.Arrivals.{arrivals}
@@ -13,7 +13,7 @@ begun : (ps : List (ℕ × List ℕ)) → arrivals ps ≡ follow (λ conn. []) p
 begun ps = brings-follow ps [] (λ conn. []) (λ conn. sym frames-nil.1)
 
 not_empty : (xs : List ℕ) → 0 < length xs → (length xs == 0) ≡ false
-not_empty xs some = elim (eqb_decides (length xs) 0) [ inl (e, is) ↦ absurd (omega (arith, some, is)) | inr (e, differs) ↦ e ]
+not_empty xs some = elim (eqb_tells (length xs) 0) [ inl (e, is) ↦ absurd (omega (arith, some, is)) | inr (e, differs) ↦ e ]
 
 -- a rest has no frame
 rest-none : (bytes : List ℕ) → frames_of (rest_of bytes) ≡ []

@@ -4,7 +4,7 @@ use Rattle.std.specs.Int.{w32, to_be_bytes}
 use Rattle.std.proofs.lemmas.List.{length-drop, length-append, length-take-le, take_at, drop_at, drop-drop, append_assoc}
 use Rattle.std.proofs.lemmas.List.Elements.{All-cons, All-nil}
 use Rattle.std.proofs.lemmas.Bool.{false_from_ne_true}
-use Rattle.std.proofs.lemmas.Bool.Decides.{Decides-and, Decides-ltb, leb_decides}
+use Rattle.std.proofs.lemmas.Bool.Decides.{Decides-and, Decides-ltb, leb_tells}
 use Rattle.std.proofs.lemmas.Slice.Eq.{bytes_eq-Decides}
 use Rattle.sg_stream.specs.Framed.{IsFrame, message, messages, BeginsMessage, Framed}
 use Rattle.sg_stream.specs.Frames.{first_length, begins_message, behind_first, frames_within, rest_within, frames_of, rest_of}
@@ -12,7 +12,7 @@ use Rattle.sg_stream.proofs.Messages.{spelled-message, begins_there, message_the
 
 decides-le : (a b : ℕ) → Decides (nat_le a b) (a ≤ b)
 decides-le a b =
-    elim (leb_decides a b) [ inl (e, h) ↦ (λ _. h, λ _. e) | inr (e, h) ↦ (λ t. absurd (cc), λ l. absurd (omega arith)) ]
+    elim (leb_tells a b) [ inl (e, h) ↦ (λ _. h, λ _. e) | inr (e, h) ↦ (λ t. absurd (cc), λ l. absurd (omega arith)) ]
 
 -- what the test says
 decides-begins : (bytes : List ℕ) → Decides (begins_message bytes) ((to_be_bytes w32 (first_length bytes) ≡ take 4 bytes) × ((0 < first_length bytes) × ((first_length bytes ≤ 60000) × (4 + first_length bytes ≤ length bytes))))

@@ -2,7 +2,7 @@
 use Rattle.std.proofs.Common.{◌≡◌, ◌≢◌, ℕ, zero, suc, ◌<◌, ◌==◌, false, replicate, List, [], ◌∷◌, ◌++◌, length, get_or, set, Option, Some, None, refl, sym, ap, ◌∙◌, inl, inr, append-nil}
 use Rattle.std.specs.List.{flat_map}
 use Rattle.std.specs.Option.{IfNone}
-use Rattle.std.proofs.lemmas.Bool.Decides.{eqb_decides}
+use Rattle.std.proofs.lemmas.Bool.Decides.{eqb_tells}
 use Rattle.std.proofs.lemmas.List.{append_assoc, get_or-set_same, get_or-set_other, set-get_or}
 use Rattle.sg_stream.specs.Framed.{IsFrame, message, BeginsMessage, BeginsBad}
 use Rattle.sg_stream.specs.Traffic.{Traffic, without, IfHeld}
@@ -28,7 +28,7 @@ shape lefts kept ps = ap arrivals (append_assoc (numbered 0 lefts) kept ps) ∙ 
 -- what one connection has left was changed
 left-set : (lefts : List (List ℕ)) (last : ℕ) (bytes : List ℕ) → last < length lefts → (conn : ℕ) → with_left (left_of lefts) last (rest_of bytes) conn ≡ left_of (set lefts last bytes) conn
 left-set lefts last bytes within conn =
-    elim (eqb_decides last conn) [
+    elim (eqb_tells last conn) [
       | inl (this, is) ↦ let here : get_or (set lefts last bytes) conn [] ≡ bytes = rw (← is) (get_or-set_same lefts last bytes [] within) in
           rw (this, here) refl
       | inr (other, differs) ↦ let there : get_or (set lefts last bytes) conn [] ≡ get_or lefts conn [] = get_or-set_other lefts last conn bytes [] (λ e. differs (sym e)) in
@@ -47,7 +47,7 @@ frame_taken lefts last frame bytes ps within others is begins =
     let after : flat_map frames_of (set lefts last bytes) ≡ frames_of bytes = flat_one lefts last bytes within none in
     let same : (conn : ℕ) → left_of lefts conn ≡ left_of (set lefts last bytes) conn =
     λ conn.
-    elim (eqb_decides last conn) [
+    elim (eqb_tells last conn) [
       | inl (this, is) ↦ let here : get_or (set lefts last bytes) conn [] ≡ bytes = rw (← is) (get_or-set_same lefts last bytes [] within) in
           let was : get_or lefts conn [] ≡ message frame ++ bytes = rw (← is) begins in
           rw (here, was) one.1
@@ -111,7 +111,7 @@ bad_closed lefts last len ps within others bad =
 pub all_parts : (lefts : List (List ℕ)) (last : ℕ) (bytes : List ℕ) → last < length lefts → ((conn : ℕ) → conn ≢ last → IsPart (get_or lefts conn [])) → IsPart bytes
     → (conn : ℕ) → IsPart (get_or (set lefts last bytes) conn [])
 all_parts lefts last bytes within others is conn =
-    elim (eqb_decides last conn) [
+    elim (eqb_tells last conn) [
       | inl (this, same) ↦ let here : get_or (set lefts last bytes) conn [] ≡ bytes = rw (← same) (get_or-set_same lefts last bytes [] within) in rw here is
       | inr (other, differs) ↦ let there : get_or (set lefts last bytes) conn [] ≡ get_or lefts conn [] = get_or-set_other lefts last conn bytes [] (λ e. differs (sym e)) in
           rw there (others conn (λ e. differs (sym e)))

@@ -1,5 +1,5 @@
 use Rattle.std.proofs.Common.{◌≡◌, ◌≢◌, ℕ, ◌<◌, ◌==◌, false, [], ◌++◌, length, get_or, set, sym, ap, ◌∙◌, arith, inl, inr}
-use Rattle.std.proofs.lemmas.Bool.Decides.{eqb_decides}
+use Rattle.std.proofs.lemmas.Bool.Decides.{eqb_tells}
 use Rattle.std.proofs.lemmas.List.{length-set, get_or_default, get_or-set_same}
 use Rattle.sg_stream.specs.Link.{IsPart}
 use Rattle.sg_stream.proofs.Steps.{others_same, piece_fed, kept_some}
@@ -24,7 +24,7 @@ returns-in-Ok-clause-same c = λ ps.
     let empty : (length c.self.inside.kept.items == 0) ≡ false = ap (λ b. length b == 0) (sym c.as_slice-piece.ensures.value) ∙ (sym c.is_empty.ensures ∙ c.if-is_empty.false) in
     let some : c.self.inside.kept.items ≢ [] = λ e. absurd (cc) in
     let parts : (conn : ℕ) → IsPart (get_or c.self.inside.readers.items conn []) =
-    λ conn. elim (eqb_decides conn c.self.inside.last) [
+    λ conn. elim (eqb_tells conn c.self.inside.last) [
       | inl (e, is) ↦ rw is (c.self.invariant.3 some)
       | inr (e, differs) ↦ c.self.invariant.2 conn differs
     ] in
