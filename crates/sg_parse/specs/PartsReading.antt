@@ -5,7 +5,7 @@ use Rattle.sg_protocol.specs.Graph.{Graph, Name}
 use Rattle.sg_graph.specs.Adding.{no_parts}
 use Rattle.sg_graph.specs.Parts.{node_names}
 use Rattle.sg_parse.specs.Parts.{Part, Use, part_names, use_names}
-use Rattle.sg_parse.specs.Reading.{Parser, on, after, give, known, token, branch, refused, name, new_name, known_name, index_of, read_statements, read_end, whole}
+use Rattle.sg_parse.specs.Reading.{Parser, on, after, give, known, token, branch, refused, name, new_name, known_name, index_of, statement, read_role, read_statements, read_end, whole}
 use Rattle.sg_parse.specs.Tokens.{part_tokens, is_word, is_named, is_colon, is_semicolon, is_arrow, is_use, is_as, text_of}
 use Rattle.sg_parse.specs.declared.token.Token.{Token}
 use Rattle.sg_parse.specs.declared.fault.ParseFault.{ParseFault}
@@ -63,6 +63,10 @@ read_part_head names =
     after (new_name names) λ n.
     after (token is_semicolon) λ _.
     give (no_parts n)
+
+-- the name of a part and its first role
+abbrev pub read_part_beginning : List Name → Parser Graph
+read_part_beginning names = after (read_part_head names) λ g. statement (codes "role") read_role g
 
 -- a part: the statements of its graph, then its uses
 abbrev pub read_part : ℕ → List Part → Parser (List Part)

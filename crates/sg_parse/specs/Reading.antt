@@ -225,6 +225,10 @@ read_head =
     after (token is_semicolon) λ _.
     give (no_parts n.0)
 
+-- the graph's name and its first role
+abbrev pub read_beginning : Parser Graph
+read_beginning = after read_head λ g. statement (codes "role") read_role g
+
 -- the end of the text
 abbrev pub read_end : Parser (Unit {0})
 read_end = branch is_end (give tt) refused

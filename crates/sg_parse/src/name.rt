@@ -1,5 +1,5 @@
 //! Names where they are declared, and where they are used.
-ghost use Rattle.std.specs.Prelude.{◌≡◌, ◌<◌, false, length, IfOk};
+ghost use Rattle.std.specs.Prelude.{◌≡◌, ◌≢◌, ◌<◌, false, length, Err, IfOk};
 ghost use Rattle.sg_model.specs.Lists.{has_text};
 ghost use Rattle.sg_model.specs.Names.{reserved};
 ghost use Rattle.sg_protocol.specs.Graph.{AreNumbers};
@@ -17,6 +17,7 @@ pub fn new_role(scanner: &mut Scanner, graph: &Graph) -> Result<Name, ParseFault
     ensures reads { Reads (new_name graph.now.roles) scanner.old scanner.new result }
     ensures free { IfOk result (λ n. has_text n reserved ≡ false) }
     ensures new { IfOk result (λ n. has_text n graph.now.roles ≡ false) }
+    ensures early { result ≢ Err ParseFault.OutOfMemory }
 {
     let (name, at) = scanner.name()?;
     if graph.find_role(&name).is_some() {

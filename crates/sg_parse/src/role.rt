@@ -1,5 +1,5 @@
 //! The statements of roles.
-ghost use Rattle.std.specs.Prelude.{◌≡◌, ◌<◌, codes, length};
+ghost use Rattle.std.specs.Prelude.{◌≡◌, ◌≢◌, ◌<◌, codes, length, Err, IsErr};
 ghost use Rattle.sg_parse.specs.Owed.{ReadsInto};
 ghost use Rattle.sg_parse.specs.Reading.{statement, up_to, read_role, read_roles};
 
@@ -11,7 +11,8 @@ use sg_graph::Graph;
 // Two roles, and up to sixteen, if the graph has none.
 pub fn read_roles(scanner: &mut Scanner, graph: &mut Graph) -> Result<(), ParseFault>
     requires { length graph.old.roles ≡ 0 }
-    ensures { ReadsInto (read_roles graph.old) scanner.old scanner.new graph.new result }
+    ensures reads { ReadsInto (read_roles graph.old) scanner.old scanner.new graph.new result }
+    ensures early { IsErr (statement (codes "role") read_role graph.old scanner.old) → result ≢ Err ParseFault.OutOfMemory }
 {
     read_statement(scanner, graph)?;
     read_statement(scanner, graph)?;
@@ -34,7 +35,8 @@ fn read_more(scanner: &mut Scanner, graph: &mut Graph) -> Result<(), ParseFault>
 
 fn read_statement(scanner: &mut Scanner, graph: &mut Graph) -> Result<(), ParseFault>
     requires { length graph.old.roles < 16 }
-    ensures { ReadsInto (statement (codes "role") read_role graph.old) scanner.old scanner.new graph.new result }
+    ensures reads { ReadsInto (statement (codes "role") read_role graph.old) scanner.old scanner.new graph.new result }
+    ensures early { IsErr (statement (codes "role") read_role graph.old scanner.old) → result ≢ Err ParseFault.OutOfMemory }
 {
     scanner.word(b"role")?;
     read_role(scanner, graph)
@@ -43,7 +45,8 @@ fn read_statement(scanner: &mut Scanner, graph: &mut Graph) -> Result<(), ParseF
 // A role, after its first word.
 fn read_role(scanner: &mut Scanner, graph: &mut Graph) -> Result<(), ParseFault>
     requires { length graph.old.roles < 16 }
-    ensures { ReadsInto (read_role graph.old) scanner.old scanner.new graph.new result }
+    ensures reads { ReadsInto (read_role graph.old) scanner.old scanner.new graph.new result }
+    ensures early { IsErr (read_role graph.old scanner.old) → result ≢ Err ParseFault.OutOfMemory }
 {
     let name = name::new_role(scanner, graph)?;
     scanner.semicolon()?;

@@ -1,5 +1,5 @@
 //! The tokens of a text, one after the other, in one pass over the bytes.
-ghost use Rattle.std.specs.Prelude.{◌≡◌, false, Ok, IfOk};
+ghost use Rattle.std.specs.Prelude.{◌≡◌, ◌≢◌, false, Ok, Err, IfOk};
 ghost use Rattle.sg_model.specs.Lists.{has_text};
 ghost use Rattle.sg_model.specs.Names.{reserved};
 ghost use Rattle.sg_parse.specs.Owed.{Reads};
@@ -75,7 +75,8 @@ impl<'a> Scanner<'a> {
 
     /// This word.
     pub fn word(&mut self, word: &[u8]) -> Result<(), ParseFault>
-        ensures { Reads (token (is_word word.now)) self.old self.new result }
+        ensures reads { Reads (token (is_word word.now)) self.old self.new result }
+        ensures early { result ≢ Err ParseFault.OutOfMemory }
     {
         if !self.at_word(word) {
             return Err(self.refusal());
@@ -97,7 +98,8 @@ impl<'a> Scanner<'a> {
 
     /// A `;`.
     pub fn semicolon(&mut self) -> Result<(), ParseFault>
-        ensures { Reads (token is_semicolon) self.old self.new result }
+        ensures reads { Reads (token is_semicolon) self.old self.new result }
+        ensures early { result ≢ Err ParseFault.OutOfMemory }
     {
         if !matches!(self.next.token, Token::Semicolon) {
             return Err(self.refusal());
@@ -160,6 +162,7 @@ impl<'a> Scanner<'a> {
     pub fn name(&mut self) -> Result<(Name, usize), ParseFault>
         ensures reads { Reads name self.old self.new result }
         ensures free { IfOk result (λ n. has_text n.0 reserved ≡ false) }
+        ensures early { result ≢ Err ParseFault.OutOfMemory }
     {
         let at = self.next.at;
         let Some(name) = token::name_of(&self.next.token) else {
@@ -171,7 +174,8 @@ impl<'a> Scanner<'a> {
 
     /// The fault at the next token, if the grammar doesn't have it.
     pub fn refusal(&self) -> ParseFault
-        ensures { result ≡ refusal self.now }
+        ensures value { result ≡ refusal self.now }
+        ensures early { result ≢ ParseFault.OutOfMemory }
     {
         token::refusal(&self.next)
     }

@@ -1,5 +1,5 @@
 //! Tokens.
-ghost use Rattle.std.specs.Prelude.{◌≡◌, false, is_some, IfSome};
+ghost use Rattle.std.specs.Prelude.{◌≡◌, ◌≢◌, false, is_some, IfSome};
 ghost use Rattle.sg_model.specs.Lists.{has_text};
 ghost use Rattle.sg_model.specs.Names.{reserved};
 ghost use Rattle.sg_parse.specs.Reading.{refusal_of};
@@ -101,7 +101,8 @@ pub fn name_of(token: &Token) -> Option<Name>
 
 // The fault at a token that the grammar doesn't have at its position.
 pub fn refusal(token_at: &TokenAt) -> ParseFault
-    ensures { result ≡ refusal_of token_at.now.token token_at.now.at }
+    ensures value { result ≡ refusal_of token_at.now.token token_at.now.at }
+    ensures early { result ≢ ParseFault.OutOfMemory }
 {
     let at = token_at.at;
     match token_at.token {

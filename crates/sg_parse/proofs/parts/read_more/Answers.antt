@@ -15,13 +15,13 @@ returns-in_err-read_part c =
     let p = err_from_is_err_and c.from_residual.result c.from_residual.ensures.1 in
     rw (p.1, p.2) (repeat_stop (is_word (codes "graph")) (read_part c.args.bytes) c.in_err-read_part.field-0.0 c.args.bytes c.more.counter c.more.parts c.more.scanner
     (repeat c.args.bytes (is_word (codes "graph")) (read_part c.args.bytes) c.args.parts.now c.args.scanner.now) c.more-test.true (sym c.at_word.ensures ∙ c.if-not-at_word.false)
-    c.in_err-read_part.ensures c.more.invariant)
+    c.in_err-read_part.ensures.reads c.more.invariant)
 
 pub more-preserved : goal.more-preserved
 more-preserved c =
     repeat_more (is_word (codes "graph")) (read_part c.args.bytes) c.args.bytes c.more.counter c.more.parts c.read_part.new.parts c.more.scanner c.read_part.new.scanner
     (repeat c.args.bytes (is_word (codes "graph")) (read_part c.args.bytes) c.args.parts.now c.args.scanner.now) c.more-test.true (sym c.at_word.ensures ∙ c.if-not-at_word.false)
-    c.in_ok-read_part.ensures c.more.invariant
+    c.in_ok-read_part.ensures.reads c.more.invariant
 
 pub returns : goal.returns
 returns c =

@@ -7,4 +7,4 @@ use Rattle.sg_parse.proofs.parts.read_part.Goals as goal
 pub push-requires : goal.push-requires
 push-requires c =
     subst (λ n. has_text n (part_names c.args.parts.now) ≡ false)
-    (sym (statements_keep_name c.in_ok-graph.graph c.read_head.new.scanner _ c.in_ok-read_statements.ensures)) c.in_ok-graph.ensures.new
+    (sym (statements_keep_name c.in_ok-graph.graph c.read_head.new.scanner _ c.in_ok-read_statements.ensures.reads)) c.in_ok-graph.ensures.new

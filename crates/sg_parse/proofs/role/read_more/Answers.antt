@@ -14,13 +14,13 @@ pub returns-in_err-read_statement : goal.returns-in_err-read_statement
 returns-in_err-read_statement c =
     let p = err_from_is_err_and c.from_residual.result c.from_residual.ensures.1 in
     rw (p.1, p.2) (up_to_stop (codes "role") read_role c.in_err-read_statement.field-0.0 14 c.more.counter c.more.graph c.more.scanner
-    (up_to 14 (codes "role") read_role c.args.graph.now c.args.scanner.now) c.more-test.true (sym c.at_word.ensures ∙ c.if-not-at_word.false) c.in_err-read_statement.ensures c.more.invariant.reads)
+    (up_to 14 (codes "role") read_role c.args.graph.now c.args.scanner.now) c.more-test.true (sym c.at_word.ensures ∙ c.if-not-at_word.false) c.in_err-read_statement.ensures.reads c.more.invariant.reads)
 
 pub more-preserved : goal.more-preserved
 more-preserved c = record {
   reads =
       up_to_more (codes "role") read_role 14 c.more.counter c.more.graph c.read_statement.new.graph c.more.scanner c.read_statement.new.scanner
-      (up_to 14 (codes "role") read_role c.args.graph.now c.args.scanner.now) c.more-test.true (sym c.at_word.ensures ∙ c.if-not-at_word.false) c.in_ok-read_statement.ensures c.more.invariant.reads;
+      (up_to 14 (codes "role") read_role c.args.graph.now c.args.scanner.now) c.more-test.true (sym c.at_word.ensures ∙ c.if-not-at_word.false) c.in_ok-read_statement.ensures.reads c.more.invariant.reads;
   count = grind (arith, common_steps);
 }
 
