@@ -1,15 +1,15 @@
 -- Rows in order: the number of the first that holds, and what is noted up to it.
-use Rattle.std.proofs.Common.{◌≡◌, ◌≢◌, ℕ, ◌+◌, nat_le, Bool, true, false, not, List, [], ◌∷◌, ◌++◌, map, length, take, refl, sym, ap, subst, ◌∙◌, Option, Some, None, option_map, append_assoc, append-nil, inl, inr}
+use Rattle.std.proofs.Common.{◌≡◌, ◌≢◌, ℕ, ◌+◌, nat_le, nat_lt, bytes_eq, Bool, true, false, not, List, [], ◌∷◌, ◌++◌, map, length, take, refl, sym, ap, subst, ◌∙◌, Option, Some, None, option_map, append_assoc, append-nil, inl, inr}
 use Rattle.std.proofs.lemmas.Bool.{cases_Bool}
 use Rattle.std.proofs.Math.Seq.{take-append_seam, take-length}
 use Rattle.sg_model.specs.Lists.{first_some}
 use Rattle.sg_model.specs.Values.{Opening}
-use Rattle.sg_model.proofs.Small.{heads, tails}
+use Rattle.sg_model.proofs.Small.{and_left, heads, tails}
 use Rattle.sg_protocol.specs.Calls.{Refusal, BadFrameTag, NoSuchView, BadTime, BadEvidence, BadOpening}
 use Rattle.sg_protocol.specs.Frame.{Item, Frame}
 use Rattle.sg_protocol.specs.Keyring.{Keyring, Program}
 use Rattle.sg_protocol.specs.Notes.{Note, Notes, note_of, row_number}
-use Rattle.sg_protocol.specs.Sending.{text_of}
+use Rattle.sg_protocol.specs.Sending.{tag_for, text_of}
 use Rattle.sg_protocol.specs.Session.{principal}
 use Rattle.sg_protocol.specs.Representation.{Held}
 use Rattle.sg_protocol.specs.Texts.{real, commitment_text_of}
@@ -73,6 +73,9 @@ module _ (keys : Keyring) (p : Program) (h : Held) (f : Frame) where
 
   pub first_is : (a b c d e : Option Refusal) → tag_row ≡ a → view_row ≡ b → time_row ≡ c → item_row ≡ d → open_row ≡ e → first_some (rows_from keys p h f) ≡ first_some (a ∷ b ∷ c ∷ d ∷ e ∷ [])
   first_is a b c d e k l m n o = λ i. first_some (k i ∷ l i ∷ m i ∷ n i ∷ o i ∷ [])
+
+  pub sender_there : has_frame_tag real keys (bare h) f ≡ true → nat_lt f.sender (length h.cast.names) ≡ true
+  sender_there e = and_left (nat_lt f.sender (length h.cast.names)) (bytes_eq (tag_for real keys h.cast f.sender (text_of f)) f.tag) e
 
   pub tagged : has_frame_tag real keys (bare h) f ≡ true → tag_row ≡ None
   tagged e = none_by (has_frame_tag real keys (bare h) f) BadFrameTag e

@@ -1,5 +1,5 @@
 //! Whether the tags of a frame and of its items are right.
-ghost use Rattle.std.specs.Prelude.{◌≡◌, ◌≢◌, ◌<◌, ◌≤◌, ◌++◌, [], ◌∷◌, Err, None, true, false, not, length, unwrap_or, All, IfOk, IfErr, IfSome, bytes_eq};
+ghost use Rattle.std.specs.Prelude.{◌≡◌, ◌≢◌, ◌<◌, ◌≤◌, ◌++◌, [], ◌∷◌, Err, None, true, false, nat_lt, not, length, unwrap_or, All, IfOk, IfErr, IfSome, bytes_eq};
 ghost use Rattle.sg_crypt.specs.Model.{pair_of};
 ghost use Rattle.sg_model.specs.Lists.{value_at};
 ghost use Rattle.sg_protocol.specs.Calls.{BadFrameTag};
@@ -23,7 +23,8 @@ use sg_frame::{Frame, Item, body_len};
 use sg_keys::Keyring;
 use std::alloc::Global;
 
-/// Whether the sender is a role of the cast and the frame's tag is right, which is then noted.
+/// Whether the sender is a role of the cast and the frame's tag is right, which is then noted. A sender that is no role is refused
+/// without memory.
 pub(crate) fn check_frame_tag(
     alloc: Global,
     kept: &KeptState,
@@ -40,6 +41,7 @@ pub(crate) fn check_frame_tag(
       found = notes.old.found ++ note_of keys.now.me (principal kept.now.cast frame.now.sender) (text_of frame.now) ∷ [];
     }) }
     ensures same { IfErr result (λ e. notes.new ≡ notes.old) }
+    ensures early { nat_lt frame.now.sender (length kept.now.cast.names) ≡ false → result ≢ Err Refusal.OutOfMemory }
 {
     let Some(peer) = kept.principal(frame.sender) else {
         return Err(Refusal::BadFrameTag);

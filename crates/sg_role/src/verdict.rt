@@ -1,5 +1,5 @@
 //! Whether a role that waits accepts a frame.
-ghost use Rattle.std.specs.Prelude.{◌≡◌, ◌≢◌, true, Err, map, slice_get, Some, None, IfOk, IfErr, IsTrue, ◌↔◌};
+ghost use Rattle.std.specs.Prelude.{◌≡◌, ◌≢◌, true, false, Err, length, map, nat_lt, slice_get, Some, None, IfOk, IfErr, IsTrue, ◌↔◌};
 ghost use Rattle.sg_model.specs.Lists.{first_some};
 ghost use Rattle.sg_protocol.specs.IsSchedule.{IsProgram};
 ghost use Rattle.sg_protocol.specs.Notes.{notes_in_session, row_number};
@@ -30,7 +30,7 @@ use std::rc::Rc;
 
 /// Looks at a frame that is for a role and its session, and was read from these bytes: accepts it or says why not. It goes row by
 /// row, as the definition has them: the frame's tag, what it shows, the times, the tags of the items, the openings. What was found
-/// right and what was hashed is noted. If memory runs out, nothing is noted.
+/// right and what was hashed is noted. If memory runs out, nothing is noted. A sender that is no role of the cast is refused without memory.
 pub fn examine<'p>(
     alloc: Global,
     before: &Before<'p>,
@@ -55,12 +55,19 @@ pub fn examine<'p>(
         → notes.new ≡ with_notes notes.old (notes_in_session real keys.now before.now.program s frame.now
         (row_number (first_some (rows_of_session real keys.now before.now.program s frame.now)))) }
     ensures memory { result ≡ Err Refusal.OutOfMemory → notes.new ≡ notes.old }
+    // Memory never runs out for a sender that is no role of the cast.
+    ensures early { nat_lt frame.now.sender (length before.now.held.cast.names) ≡ false → result ≢ Err Refusal.OutOfMemory }
 {
-    let Ok(same) = before.kept.clone() else {
-        return Err(Refusal::OutOfMemory);
-    };
     let counts = notes.counts();
-    let result = look(alloc, before.kept.as_ref(), same, keys, frame, bytes, notes);
+    let result = look(
+        alloc,
+        before.kept.as_ref(),
+        &before.kept,
+        keys,
+        frame,
+        bytes,
+        notes,
+    );
     if is_memory(&result) {
         notes.keep(counts);
     }
@@ -74,18 +81,18 @@ fn is_memory(looked: &Result<Accepted, Refusal>) -> bool
     matches!(looked, Err(Refusal::OutOfMemory))
 }
 
-// Looks at the rows in order. What is kept comes twice: to look at, and to go with what is accepted.
+// Looks at the rows in order. What is kept comes twice: to look at, and to be shared with what is accepted.
 fn look<'p>(
     alloc: Global,
     kept: &KeptState<'p>,
-    same: Rc<KeptState<'p>>,
+    same: &Rc<KeptState<'p>>,
     keys: &Keyring,
     frame: &Frame,
     bytes: &[u8],
     notes: &mut Notes,
 ) -> Result<Accepted<'p>, Refusal>
     requires holds { HoldsBefore (state_of kept.now) }
-    requires same { state_of same.value ≡ state_of kept.now }
+    requires same { state_of same.now.value ≡ state_of kept.now }
     requires spelled { SpellsFrame bytes.now frame.now }
     requires version { frame.now.version ≡ kept.now.cast.version }
     ensures is_program { IsProgram real (state_of kept.now).program }
@@ -100,6 +107,7 @@ fn look<'p>(
     ensures noted { result ≢ Err Refusal.OutOfMemory → notes.new ≡ with_notes notes.old (notes_from keys.now (state_of kept.now).program (state_of kept.now).held frame.now
         (row_number (first_some (rows_from keys.now (state_of kept.now).program (state_of kept.now).held frame.now)))) }
     ensures keeps { KeepsNotes notes.old notes.new }
+    ensures early { nat_lt frame.now.sender (length kept.now.cast.names) ≡ false → result ≢ Err Refusal.OutOfMemory }
 {
     let graph = kept.program.graph();
     let items = frame.items.as_slice();
@@ -123,13 +131,13 @@ fn look<'p>(
 fn accept<'p>(
     alloc: Global,
     kept: &KeptState<'p>,
-    same: Rc<KeptState<'p>>,
+    same: &Rc<KeptState<'p>>,
     frame: &Frame,
     commitments: Vec<Option<[u8; 32]>>,
     view: ViewId,
 ) -> Result<Accepted<'p>, Refusal>
     requires holds { HoldsBefore (state_of kept.now) }
-    requires same { state_of same.value ≡ state_of kept.now }
+    requires same { state_of same.now.value ≡ state_of kept.now }
     requires spelled { HasSpelling frame.now }
     requires commitments { commitments.items ≡ overwritten_by kept.now.commitments.items frame.now.items }
     requires seen { is_seen (state_of kept.now).program (state_of kept.now).held.kept.origin frame.now ≡ true }
@@ -146,8 +154,11 @@ fn accept<'p>(
 {
     let after = after_frame(alloc, kept, frame, commitments)?;
     let event = receipt_of(alloc, frame)?;
+    let Ok(before) = same.clone() else {
+        return Err(Refusal::OutOfMemory);
+    };
     Ok(Accepted {
-        before: same,
+        before,
         after,
         event,
         view,

@@ -1,4 +1,4 @@
-use Rattle.std.proofs.Common.{◌≡◌, None, Option, IfOk, IfErr, refl, sym, ap, subst, ◌∙◌}
+use Rattle.std.proofs.Common.{◌≡◌, false, nat_lt, length, None, Option, IfOk, IfErr, refl, sym, ap, subst, ◌∙◌}
 use Rattle.sg_model.specs.Lists.{first_some}
 use Rattle.sg_protocol.specs.Calls.{Refusal}
 use Rattle.sg_protocol.specs.Notes.{notes_in_session, row_number}
@@ -50,3 +50,13 @@ pub returns-else-is_memory-clause-after : goal.returns-else-is_memory-clause-aft
 returns-else-is_memory-clause-after c =
     let e : state_of c.as_ref.result.now ≡ c.args.before.now = ap state_of c.as_ref.ensures ∙ c.before-2.view_is in
     subst (λ (z : RoleState). IfOk c.look-result.result (λ a. a.after ≡ held_after z.program.graph z.held (Took c.args.frame.now))) e c.look-result.ensures.after
+
+pub returns-then-is_memory-clause-early : goal.returns-then-is_memory-clause-early
+returns-then-is_memory-clause-early c = λ n.
+    let e : state_of c.as_ref.result.now ≡ c.args.before.now = ap state_of c.as_ref.ensures ∙ c.before-2.view_is in
+    c.look-result.ensures.early (subst (λ (z : RoleState). nat_lt c.args.frame.now.sender (length z.held.cast.names) ≡ false) (sym e) n)
+
+pub returns-else-is_memory-clause-early : goal.returns-else-is_memory-clause-early
+returns-else-is_memory-clause-early c = λ n.
+    let e : state_of c.as_ref.result.now ≡ c.args.before.now = ap state_of c.as_ref.ensures ∙ c.before-2.view_is in
+    c.look-result.ensures.early (subst (λ (z : RoleState). nat_lt c.args.frame.now.sender (length z.held.cast.names) ≡ false) (sym e) n)

@@ -1,4 +1,5 @@
-use Rattle.std.proofs.Common.{rules, ◌≡◌, ◌≢◌, ◌<◌, ◌++◌, Err, None, List, Option, ℕ, map, length, All, refl, sym, ap, subst, ◌∙◌}
+use Rattle.std.proofs.Common.{rules, ◌≡◌, ◌≢◌, ◌<◌, ◌++◌, Err, None, nat_lt, List, Option, ℕ, map, length, All, refl, sym, ap, subst, ◌∙◌}
+use Rattle.sg_model.proofs.Small.{clash}
 use Rattle.sg_model.specs.Values.{Opening}
 use Rattle.sg_protocol.specs.Frame.{Item, Frame}
 use Rattle.sg_protocol.specs.Graph.{Graph}
@@ -10,7 +11,7 @@ use Rattle.sg_role.specs.Faults.{Refuses}
 use Rattle.sg_role.specs.Looking.{evidence_row, opening_row, found_items, hashed_from, overwritten_by}
 use Rattle.sg_role.specs.Model.{state_of}
 use Rattle.sg_role.proofs.NextState.{own_time_small, roles_there, variables_there, turn_next}
-use Rattle.sg_role.proofs.Noted.{tag_row, view_row, time_row, item_row, open_row, tagged, viewed, at_tag, at_view, at_time, at_item, at_opening, no_row, by_number, noted_none, noted_view, noted_time, noted_items, noted_opening, noted_accepted, with_items, with_openings, keeps_found, keeps_twice}
+use Rattle.sg_role.proofs.Noted.{sender_there, tag_row, view_row, time_row, item_row, open_row, tagged, viewed, at_tag, at_view, at_time, at_item, at_opening, no_row, by_number, noted_none, noted_view, noted_time, noted_items, noted_opening, noted_accepted, with_items, with_openings, keeps_found, keeps_twice}
 use Rattle.sg_role.proofs.verdict.look.Goals as goal
 
 pub returns-in_err-check_frame_tag-clause-noted : goal.returns-in_err-check_frame_tag-clause-noted
@@ -180,3 +181,38 @@ returns-clause-noted c = λ n.
     c.in_ok-check_openings.ensures.noted (λ z. cc) ∙ ap (λ l. record c.check_items.new.notes { hashed = c.check_items.new.notes.hashed ++ l }) hashed_same in
     by_number keys p h f 16 old c.check_openings.new.notes (ap row_number (no_row keys p h f one two three four five))
     (noted_accepted keys p h f old c.check_frame_tag.new.notes c.check_items.new.notes c.check_openings.new.notes c.in_ok-check_frame_tag.ensures.noted items_noted openings_noted)
+
+pub returns-in_err-check_frame_tag-clause-early : goal.returns-in_err-check_frame_tag-clause-early
+returns-in_err-check_frame_tag-clause-early c = λ n q.
+    let same : c.from_residual.result ≡ Err c.in_err-check_frame_tag.field-0.0 = search rules in
+    c.in_err-check_frame_tag.ensures.early n (sym same ∙ q)
+
+pub returns-in_err-view-clause-early : goal.returns-in_err-view-clause-early
+returns-in_err-view-clause-early c = λ n q.
+    let h = (state_of c.args.kept.now).held in
+    let f = c.args.frame.now in
+    clash (nat_lt f.sender (length h.cast.names)) (sender_there c.args.keys.now c.args.kept.now.program.now h f c.in_ok-check_frame_tag.ensures.right) n
+
+pub returns-in_err-check_times-clause-early : goal.returns-in_err-check_times-clause-early
+returns-in_err-check_times-clause-early c = λ n q.
+    let h = (state_of c.args.kept.now).held in
+    let f = c.args.frame.now in
+    clash (nat_lt f.sender (length h.cast.names)) (sender_there c.args.keys.now c.args.kept.now.program.now h f c.in_ok-check_frame_tag.ensures.right) n
+
+pub returns-in_err-commitments-clause-early : goal.returns-in_err-commitments-clause-early
+returns-in_err-commitments-clause-early c = λ n q.
+    let h = (state_of c.args.kept.now).held in
+    let f = c.args.frame.now in
+    clash (nat_lt f.sender (length h.cast.names)) (sender_there c.args.keys.now c.args.kept.now.program.now h f c.in_ok-check_frame_tag.ensures.right) n
+
+pub returns-in_err-check_openings-clause-early : goal.returns-in_err-check_openings-clause-early
+returns-in_err-check_openings-clause-early c = λ n q.
+    let h = (state_of c.args.kept.now).held in
+    let f = c.args.frame.now in
+    clash (nat_lt f.sender (length h.cast.names)) (sender_there c.args.keys.now c.args.kept.now.program.now h f c.in_ok-check_frame_tag.ensures.right) n
+
+pub returns-clause-early : goal.returns-clause-early
+returns-clause-early c = λ n q.
+    let h = (state_of c.args.kept.now).held in
+    let f = c.args.frame.now in
+    clash (nat_lt f.sender (length h.cast.names)) (sender_there c.args.keys.now c.args.kept.now.program.now h f c.in_ok-check_frame_tag.ensures.right) n
