@@ -1,4 +1,4 @@
-use Rattle.std.proofs.Common.{rules, ◌≡◌, ◌≢◌, ◌<◌, ◌++◌, Err, None, nat_lt, List, Option, ℕ, map, length, All, refl, sym, ap, subst, ◌∙◌}
+use Rattle.std.proofs.Common.{rules, ◌≡◌, ◌≢◌, ◌<◌, ◌++◌, Result, Err, None, nat_lt, List, Option, ℕ, map, length, All, refl, sym, ap, subst, ◌∙◌}
 use Rattle.sg_model.proofs.Small.{clash}
 use Rattle.sg_model.specs.Values.{Opening}
 use Rattle.sg_protocol.specs.Frame.{Item, Frame}
@@ -6,6 +6,8 @@ use Rattle.sg_protocol.specs.Graph.{Graph}
 use Rattle.sg_protocol.specs.Notes.{row_number}
 use Rattle.sg_protocol.specs.Texts.{commitment_text_of}
 use Rattle.sg_protocol.specs.Verdict.{bad_time}
+use Rattle.sg_role.specs.Accepting.{Acceptance}
+use Rattle.sg_role.specs.declared.fault.Refusal.{Refusal as RefusalFault}
 use Rattle.sg_role.specs.declared.fault.Refusal.TheVariants as refusal_fault
 use Rattle.sg_role.specs.Faults.{Refuses}
 use Rattle.sg_role.specs.Looking.{evidence_row, opening_row, found_items, hashed_from, overwritten_by}
@@ -182,10 +184,14 @@ returns-clause-noted c = λ n.
     by_number keys p h f 16 old c.check_openings.new.notes (ap row_number (no_row keys p h f one two three four five))
     (noted_accepted keys p h f old c.check_frame_tag.new.notes c.check_items.new.notes c.check_openings.new.notes c.in_ok-check_frame_tag.ensures.noted items_noted openings_noted)
 
+-- errors that are one
+one_error : {A E : Type 0} (x y : E) → ◌≡◌ {A = Result A E} (Err x) (Err y) → x ≡ y
+one_error x y e = cc
+
 pub returns-in_err-check_frame_tag-clause-early : goal.returns-in_err-check_frame_tag-clause-early
 returns-in_err-check_frame_tag-clause-early c = λ n q.
     let same : c.from_residual.result ≡ Err c.in_err-check_frame_tag.field-0.0 = search rules in
-    c.in_err-check_frame_tag.ensures.early n (sym same ∙ q)
+    c.in_err-check_frame_tag.ensures.early n (ap (λ e. Err e) (one_error {A = Acceptance} {E = RefusalFault} c.in_err-check_frame_tag.field-0.0 refusal_fault.OutOfMemory (sym same ∙ q)))
 
 pub returns-in_err-view-clause-early : goal.returns-in_err-view-clause-early
 returns-in_err-view-clause-early c = λ n q.
