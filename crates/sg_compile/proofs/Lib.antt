@@ -6,6 +6,7 @@ pub mod Canonical
 pub mod Compiling
 pub mod Lines
 pub mod Once
+pub mod OneFault
 pub mod OneTable
 pub mod Only
 pub mod Reading

@@ -55,7 +55,7 @@ start_free v = free_append (codes "sg-program ") ((48 + v) ∷ []) refl (let apa
 role_line_free : (n : Name) → is_name n ≡ true → is_free (codes "role " ++ n) ≡ true
 role_line_free n h = free_append (codes "role ") n refl (name_free n h)
 
-one_start : (bs xs ys : List ℕ) (v w : ℕ) → HasStart bs v xs → HasStart bs w ys → (v ≡ w) × (xs ≡ ys)
+pub one_start : (bs xs ys : List ℕ) (v w : ℕ) → HasStart bs v xs → HasStart bs w ys → (v ≡ w) × (xs ≡ ys)
 one_start bs xs ys v w a b =
     let same = first_line (start_line v) (start_line w) xs ys bs (start_free v) (start_free w) a.spelled b.spelled in
     (digit (prefix_goes (codes "sg-program ") ((48 + v) ∷ []) ((48 + w) ∷ []) same.0), same.1)
@@ -63,7 +63,7 @@ one_start bs xs ys v w a b =
     digit : (48 + v) ∷ [] ≡ (48 + w) ∷ [] → v ≡ w
     digit e = let d : 48 + v ≡ 48 + w = ap (λ l. get_or l 0 0) e in omega (arith, d)
 
-one_role : (bs xs ys : List ℕ) (m n : Name) → HasRole bs m xs → HasRole bs n ys → (m ≡ n) × (xs ≡ ys)
+pub one_role : (bs xs ys : List ℕ) (m n : Name) → HasRole bs m xs → HasRole bs n ys → (m ≡ n) × (xs ≡ ys)
 one_role bs xs ys m n a b =
     let same = first_line (codes "role " ++ m) (codes "role " ++ n) xs ys bs (role_line_free m a.named) (role_line_free n b.named) a.spelled b.spelled in
     (prefix_goes (codes "role ") m n same.0, same.1)
@@ -81,12 +81,12 @@ one_graph bs xs ys m n g h r s a b =
 -- ---- the whole text
 
 -- the lines of a text's prefix, and what follows each
-record Prefix (bs : List ℕ) (g : Graph) (r : ℕ) (table : List ℕ) : Type 0 where
-  rest : List ℕ
-  more : List ℕ
-  start : HasStart bs (version g) rest
-  role : HasRole rest (role_name g r) more
-  graph : HasGraph more (role_name g r) g r table
+pub record Prefix (bs : List ℕ) (g : Graph) (r : ℕ) (table : List ℕ) : Type 0 where
+  pub rest : List ℕ
+  pub more : List ℕ
+  pub start : HasStart bs (version g) rest
+  pub role : HasRole rest (role_name g r) more
+  pub graph : HasGraph more (role_name g r) g r table
 
 version_known : (g : Graph) → (version g ≡ 1) ⊎ (version g ≡ 2)
 version_known g = by (list_all (λ v. length v.writers == 1) g.variables) (version g) refl
@@ -98,7 +98,7 @@ version_known g = by (list_all (λ v. length v.writers == 1) g.variables) (versi
 seam : (a b c d e : List ℕ) → a ++ b ++ c ++ d ++ e ≡ a ++ (b ++ (c ++ d ++ e))
 seam a b c d e = simp append_assoc
 
-prefix_of : (bs table : List ℕ) (g : Graph) (r : ℕ) → HasPrefix bs g r table → Prefix bs g r table
+pub prefix_of : (bs table : List ℕ) (g : Graph) (r : ℕ) → HasPrefix bs g r table → Prefix bs g r table
 prefix_of bs table g r h = record {
   rest = line (role_line g r) ++ (canonical g ++ line (codes "table") ++ table);
   more = canonical g ++ line (codes "table") ++ table;
@@ -118,7 +118,7 @@ program_prefix bs p w e = record {
 }
 
 -- two such prefixes of one text are of one graph and one role, and the same follows
-one_prefix : (bs xs ys : List ℕ) (g h : Graph) (r s : ℕ) → Prefix bs g r xs → Prefix bs h s ys → (g ≡ h) × (r ≡ s) × (xs ≡ ys)
+pub one_prefix : (bs xs ys : List ℕ) (g h : Graph) (r s : ℕ) → Prefix bs g r xs → Prefix bs h s ys → (g ≡ h) × (r ≡ s) × (xs ≡ ys)
 one_prefix bs xs ys g h r s a b =
     let starts = one_start bs a.rest b.rest (version g) (version h) a.start b.start in
     let roles = one_role a.rest a.more b.more (role_name g r) (role_name h s) a.role (subst (λ t. HasRole t (role_name h s) b.more) (sym starts.1) b.role) in
@@ -128,7 +128,7 @@ one_prefix bs xs ys g h r s a b =
     (graphs.0, role_once g r s a.graph.is_graph a.graph.there there name, graphs.1)
 
 -- a text that begins so is malformed nowhere
-well_formed : (bs table : List ℕ) (h : Graph) (s : ℕ) → Prefix bs h s table → (at : ℕ) → IsMalformed bs at → ⊥
+pub well_formed : (bs table : List ℕ) (h : Graph) (s : ℕ) → Prefix bs h s table → (at : ℕ) → IsMalformed bs at → ⊥
 well_formed bs table h s f _ (NoStart none) = none (version h) f.rest f.start
 well_formed bs table h s f _ (NoRole {v} {rest} start none) =
     let same = one_start bs rest f.rest v (version h) start f.start in

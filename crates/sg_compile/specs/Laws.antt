@@ -1,5 +1,5 @@
 -- What holds of all graphs and all texts of programs: a graph is compiled or refused, and a text is of one program or has a fault.
-use Rattle.std.specs.Prelude.{◌≡◌, ℕ, List, All}
+use Rattle.std.specs.Prelude.{◌≡◌, ◌≢◌, ℕ, List, All}
 use Rattle.sg_protocol.specs.Graph.{Graph}
 use Rattle.sg_protocol.specs.IsSchedule.{AreCompiled}
 use Rattle.sg_protocol.specs.Keyring.{Program}
@@ -12,7 +12,7 @@ use Rattle.sg_compile.specs.declared.all.AllFault.TheVariants.{Refused}
 use Rattle.sg_compile.specs.declared.check.CompileFault.{CompileFault}
 use Rattle.sg_compile.specs.declared.check.CompileFault.TheVariants.{OutOfMemory as CompileMemory}
 use Rattle.sg_compile.specs.declared.loader.LoadFault.{LoadFault}
-use Rattle.sg_compile.specs.declared.loader.LoadFault.TheVariants.{OutOfMemory as LoadMemory}
+use Rattle.sg_compile.specs.declared.loader.LoadFault.TheVariants.{Graph as GraphFault, OutOfMemory as LoadMemory}
 
 -- A graph that has a program for a role isn't refused for it
 abbrev pub CompiledIsNotRefused : Type 0
@@ -30,3 +30,12 @@ TextsDiffer = (p q : Program) → IsWhole p → IsWhole q → program_text p ≡
 -- The text of a program has no fault
 abbrev pub TextIsNotRefused : Type 0
 TextIsNotRefused = (p : Program) (f : LoadFault) → IsWhole p → IsLoadFault (program_text p) f → f ≡ LoadMemory
+
+-- the fault, and of a graph that is refused which graph it is
+abbrev pub told : LoadFault → LoadFault
+told (GraphFault g f) = GraphFault g CompileMemory
+told fault = fault
+
+-- A text that is no program's has one fault
+abbrev pub TextHasOneFault : Type 0
+TextHasOneFault = (bs : List ℕ) (e f : LoadFault) → IsLoadFault bs e → IsLoadFault bs f → e ≢ LoadMemory → f ≢ LoadMemory → told e ≡ told f

@@ -1,5 +1,5 @@
 //! What holds of all graphs and of all texts of programs. Each function is a law: it does nothing, and its contract is the statement.
-ghost use Rattle.sg_compile.specs.Laws.{AllCompiledIsNotRefused, CompiledIsNotRefused, TextIsNotRefused, TextsDiffer};
+ghost use Rattle.sg_compile.specs.Laws.{AllCompiledIsNotRefused, CompiledIsNotRefused, TextHasOneFault, TextIsNotRefused, TextsDiffer};
 
 /// A graph that has a program for a role isn't refused for it, and of graphs that have programs for all their roles none is refused.
 pub fn compiled_are_not_refused()
@@ -7,8 +7,10 @@ pub fn compiled_are_not_refused()
     ensures all { AllCompiledIsNotRefused }
 {}
 
-/// Two programs have two texts, and the text of a program has no fault.
+/// Two programs have two texts, the text of a program has no fault, and a text has one fault at most. Of a graph that is refused this says which
+/// graph it is, not for which fault.
 pub fn texts_are_one()
     ensures differ { TextsDiffer }
     ensures apart { TextIsNotRefused }
+    ensures once { TextHasOneFault }
 {}
