@@ -14,8 +14,8 @@ use Rattle.sg_protocol.specs.Graph.{Graph}
 use Rattle.sg_protocol.specs.IsSchedule.{AreCompiled}
 use Rattle.sg_protocol.specs.Keyring.{Program}
 use Rattle.sg_protocol.specs.Texts.{real}
-use Rattle.sg_ending.specs.Ending.{Ending, Written, NoCommand, NoGraph, NoExpansion, GraphRefused, NoRole, WrongLine, KeysRefused, ScriptRefused, ClaimsRefused, ClaimFails, ProgramRefused, NoLedger, BadSlot, LedgerNotEmpty, FileFailed, WriteFailed, LinkFailed, InputFailed, DiskFailed, NoMemory, NoSuchFile, TooLarge}
-use Rattle.sg_ending.specs.Files.{IsUnread}
+use Rattle.sg_ending.specs.Ending.{Ending, Written, NoGraph, GraphRefused, FileFailed, NoMemory, NoSuchFile, TooLarge}
+use Rattle.sg_ending.specs.Files.{IsUnread, Holds, EndsAt}
 use Rattle.sg_ending.specs.Graphs.{IsFirstRefused}
 use Rattle.sg_ending.specs.Laws.{EndsOnce, asked, is_of_outside}
 use Rattle.sg_ending.specs.Output.{Output}
@@ -70,29 +70,11 @@ data Unread (files : List (List ℕ × List ℕ)) (most : ℕ) (file : List ℕ)
   TooLong : IsSomeAnd (file_at files file) (λ bytes. most < length bytes) → Unread files most file (TooLarge file)
 
 unread : (files : List (List ℕ × List ℕ)) (most : ℕ) (file : List ℕ) (m m' : ℕ) (e : Ending) → IsUnread most file (Some files) m m' e → is_of_outside e ≡ false → Unread files most file (asked e)
-unread files most file m m' Written h n = absurd h
-unread files most file m m' NoCommand h n = absurd h
-unread files most file m m' (NoGraph fault) h n = absurd h
-unread files most file m m' (NoExpansion fault) h n = absurd h
-unread files most file m m' (GraphRefused g fault) h n = absurd h
-unread files most file m m' (NoRole role) h n = absurd h
-unread files most file m m' (WrongLine line wrong) h n = absurd h
-unread files most file m m' (KeysRefused fault) h n = absurd h
-unread files most file m m' (ScriptRefused fault) h n = absurd h
-unread files most file m m' (ClaimsRefused fault) h n = absurd h
-unread files most file m m' ClaimFails h n = absurd h
-unread files most file m m' (ProgramRefused number cause) h n = absurd h
-unread files most file m m' NoLedger h n = absurd h
-unread files most file m m' (BadSlot slot) h n = absurd h
-unread files most file m m' LedgerNotEmpty h n = absurd h
 unread files most file m m' (FileFailed arg) h n = absurd (cc)
-unread files most file m m' WriteFailed h n = absurd h
-unread files most file m m' LinkFailed h n = absurd h
-unread files most file m m' InputFailed h n = absurd h
-unread files most file m m' DiskFailed h n = absurd h
 unread files most file m m' NoMemory h n = absurd (cc)
 unread files most file m m' (NoSuchFile arg) h n = subst (λ w. Unread files most file (NoSuchFile w)) (sym h.0) (Missing (h.1 files refl))
 unread files most file m m' (TooLarge arg) h n = subst (λ w. Unread files most file (TooLarge w)) (sym h.0) (TooLong (h.1 files refl))
+unread files most file m m' _ h n = absurd h
 
 -- what is read isn't unread
 read_or_unread : (files : List (List ℕ × List ℕ)) (most : ℕ) (file bytes : List ℕ) (e : Ending) → file_at files file ≡ Some bytes → length bytes ≤ most → Unread files most file e → ⊥
@@ -111,19 +93,47 @@ one_unread files most file _ _ (Missing h) (TooLong k) = absurd (missing_or_long
 one_unread files most file _ _ (TooLong h) (Missing k) = absurd (missing_or_long files most file k h)
 one_unread files most file _ _ (TooLong h) (TooLong k) = refl
 
+-- what two texts hold of one file are its bytes
+pub held_once : (files : List (List ℕ × List ℕ)) (most much : ℕ) (file : List ℕ) (S T : List ℕ → Type 0) → Holds (Some files) most file S → Holds (Some files) much file T → (bytes : List ℕ) × S bytes × T bytes
+held_once files most much file S T (bytes, at, few, s) (others, at', few', t) =
+    let same : bytes ≡ others = (let both : Some bytes ≡ Some others = sym (at files refl) ∙ at' files refl in cc) in
+    (others, subst S same s, t)
+
+-- a file that holds something is read
+pub held_is_read : (files : List (List ℕ × List ℕ)) (most : ℕ) (file : List ℕ) (m m' : ℕ) (S : List ℕ → Type 0) (e : Ending) → Holds (Some files) most file S → IsUnread most file (Some files) m m' e → is_of_outside e ≡ false → ⊥
+held_is_read files most file m m' S e (bytes, at, few, s) u p = read_or_unread files most file bytes (asked e) (at files refl) few (unread files most file m m' e u p)
+
+-- a file that isn't read asks for one ending
+pub unread_once : (files : List (List ℕ × List ℕ)) (most : ℕ) (file : List ℕ) (m m' n n' : ℕ) (x y : Ending) → IsUnread most file (Some files) m m' x → IsUnread most file (Some files) n n' y
+    → is_of_outside x ≡ false → is_of_outside y ≡ false → asked x ≡ asked y
+unread_once files most file m m' n n' x y u v p q = one_unread files most file (asked x) (asked y) (unread files most file m m' x u p) (unread files most file n n' y v q)
+
+-- bytes are refused in one way, or are such, and not both
+pub record RefusedOnce (Such : List ℕ → Type 0) (Refuses : List ℕ → Ending → Type 0) : Type 0 where
+  pub once : (bytes : List ℕ) (x y : Ending) → Refuses bytes x → Refuses bytes y → is_of_outside x ≡ false → is_of_outside y ≡ false → asked x ≡ asked y
+  pub apart : (bytes : List ℕ) (x : Ending) → Such bytes → Refuses bytes x → is_of_outside x ≡ false → ⊥
+
+-- so a file is refused in one way, or holds such bytes, and not both
+module _ (files : List (List ℕ × List ℕ)) (most : ℕ) (file : List ℕ) (Such : List ℕ → Type 0) (Refuses : List ℕ → Ending → Type 0) (r : RefusedOnce Such Refuses) where
+  pub ends_once : (m m' n n' : ℕ) (x y : Ending) → EndsAt (Some files) m m' most file Refuses x → EndsAt (Some files) n n' most file Refuses y → is_of_outside x ≡ false → is_of_outside y ≡ false → asked x ≡ asked y
+  ends_once m m' n n' x y (inl u) (inl v) p q = unread_once files most file m m' n n' x y u v p q
+  ends_once m m' n n' x y (inl u) (inr h) p q = absurd (held_is_read files most file m m' (λ bytes. Refuses bytes y) x h u p)
+  ends_once m m' n n' x y (inr h) (inl v) p q = absurd (held_is_read files most file n n' (λ bytes. Refuses bytes x) y h v q)
+  ends_once m m' n n' x y (inr h) (inr k) p q = (let (bytes, s, t) = held_once files most most file (λ bytes. Refuses bytes x) (λ bytes. Refuses bytes y) h k in r.once bytes x y s t p q)
+
+  pub holds_or_ends : (m m' : ℕ) (x : Ending) → Holds (Some files) most file Such → EndsAt (Some files) m m' most file Refuses x → is_of_outside x ≡ false → ⊥
+  holds_or_ends m m' x h (inl u) p = held_is_read files most file m m' Such x h u p
+  holds_or_ends m m' x h (inr k) p = (let (bytes, s, t) = held_once files most most file Such (λ bytes. Refuses bytes x) h k in r.apart bytes x s t p)
+
 -- what is asked for of a file, if its bytes ask for one ending
 pub file_once : (Does : List ℕ → (old new : Output) → Ending → Type 0) (most : ℕ)
     → ((bytes : List ℕ) (a a' b b' : Output) (x y : Ending) → Does bytes a a' x → Does bytes b b' y → is_of_outside x ≡ false → is_of_outside y ≡ false → asked x ≡ asked y)
     → EndsOnce Does most
-file_once Does most once files file m m' n n' a a' b b' x y (inl (bytes, at, few, does)) (inl (others, at', few', does')) p q =
-    let same : bytes ≡ others = (let both : Some bytes ≡ Some others = sym (at files refl) ∙ at' files refl in cc) in
-    once others a a' b b' x y (subst (λ bs. Does bs a a' x) same does) does' p q
-file_once Does most once files file m m' n n' a a' b b' x y (inl (bytes, at, few, does)) (inr (same, u)) p q =
-    absurd (read_or_unread files most file bytes (asked y) (at files refl) few (unread files most file n n' y u q))
-file_once Does most once files file m m' n n' a a' b b' x y (inr (same, u)) (inl (bytes, at, few, does)) p q =
-    absurd (read_or_unread files most file bytes (asked x) (at files refl) few (unread files most file m m' x u p))
-file_once Does most once files file m m' n n' a a' b b' x y (inr (same, u)) (inr (same', v)) p q =
-    one_unread files most file (asked x) (asked y) (unread files most file m m' x u p) (unread files most file n n' y v q)
+file_once Does most once files file m m' n n' a a' b b' x y (inl h) (inl k) p q =
+    (let (bytes, does, does') = held_once files most most file (λ bytes. Does bytes a a' x) (λ bytes. Does bytes b b' y) h k in once bytes a a' b b' x y does does' p q)
+file_once Does most once files file m m' n n' a a' b b' x y (inl h) (inr (same, u)) p q = absurd (held_is_read files most file n n' (λ bytes. Does bytes a a' x) y h u q)
+file_once Does most once files file m m' n n' a a' b b' x y (inr (same, u)) (inl h) p q = absurd (held_is_read files most file m m' (λ bytes. Does bytes b b' y) x h u p)
+file_once Does most once files file m m' n n' a a' b b' x y (inr (same, u)) (inr (same', v)) p q = unread_once files most file m m' n n' x y u v p q
 
 -- ---- graphs
 
