@@ -1,3 +1,4 @@
 pub mod Named
 pub mod Claiming
 pub mod OneEnding
+pub mod OneClaims

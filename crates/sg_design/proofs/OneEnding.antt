@@ -19,7 +19,7 @@ use Rattle.sg_compile.proofs.Only.{accepted_not_refused, not_refused}
 use Rattle.sg_protocol.specs.Accepted.{Accepted}
 use Rattle.sg_protocol.specs.Graph.{Graph}
 use Rattle.sg_protocol.specs.Keyring.{Program}
-use Rattle.sg_ending.specs.Ending.{Ending, Written, NoCommand, NoGraph, NoExpansion, GraphRefused, NoRole, WrongLine, KeysRefused, ScriptRefused, ClaimsRefused, ClaimFails, ProgramRefused, NoLedger, BadSlot, LedgerNotEmpty, FileFailed, WriteFailed, LinkFailed, InputFailed, DiskFailed, NoMemory, NoSuchFile, TooLarge}
+use Rattle.sg_ending.specs.Ending.{Ending, Written, NoGraph, NoExpansion, GraphRefused, NoRole, WriteFailed, NoMemory}
 use Rattle.sg_ending.specs.Laws.{EndsOnce, asked, is_of_outside}
 use Rattle.sg_ending.specs.Output.{Output}
 use Rattle.sg_design.specs.Claimed.{Suggests}
@@ -30,28 +30,11 @@ use Rattle.sg_ending.proofs.OneEnding.{one_ok, one_err, ok_or_err, Cause, Compil
 
 check_cause : (bytes : List ℕ) (a a' : Output) (e : Ending) → Checks bytes a a' e → is_of_outside e ≡ false → Cause (SpellsGraph bytes) (no_graph bytes) (asked e)
 check_cause bytes a a' Written (text, t, w) n = CompiledGraph t.spelled t.compiled t.few
-check_cause bytes a a' NoCommand (text, t, w) n = absurd w
 check_cause bytes a a' (NoGraph fault) (same, e) n = Before (fault, refl, e)
-check_cause bytes a a' (NoExpansion fault) (text, t, w) n = absurd w
 check_cause bytes a a' (GraphRefused g fault) (same, s, r) n = Refused s r
-check_cause bytes a a' (NoRole role) (text, t, w) n = absurd w
-check_cause bytes a a' (WrongLine line wrong) (text, t, w) n = absurd w
-check_cause bytes a a' (KeysRefused fault) (text, t, w) n = absurd w
-check_cause bytes a a' (ScriptRefused fault) (text, t, w) n = absurd w
-check_cause bytes a a' (ClaimsRefused fault) (text, t, w) n = absurd w
-check_cause bytes a a' ClaimFails (text, t, w) n = absurd w
-check_cause bytes a a' (ProgramRefused number cause) (text, t, w) n = absurd w
-check_cause bytes a a' NoLedger (text, t, w) n = absurd w
-check_cause bytes a a' (BadSlot slot) (text, t, w) n = absurd w
-check_cause bytes a a' LedgerNotEmpty (text, t, w) n = absurd w
-check_cause bytes a a' (FileFailed arg) (text, t, w) n = absurd w
 check_cause bytes a a' WriteFailed (text, t, w) n = CompiledGraph t.spelled t.compiled t.few
-check_cause bytes a a' LinkFailed (text, t, w) n = absurd w
-check_cause bytes a a' InputFailed (text, t, w) n = absurd w
-check_cause bytes a a' DiskFailed (text, t, w) n = absurd w
 check_cause bytes a a' NoMemory h n = absurd (cc)
-check_cause bytes a a' (NoSuchFile arg) (text, t, w) n = absurd w
-check_cause bytes a a' (TooLarge what) (text, t, w) n = absurd w
+check_cause bytes a a' _ (text, t, w) n = absurd w
 
 pub check_once : EndsOnce Checks most_graph_file
 check_once =
@@ -59,28 +42,11 @@ check_once =
 
 suggest_cause : (bytes : List ℕ) (a a' : Output) (e : Ending) → Suggests bytes a a' e → is_of_outside e ≡ false → Cause (SpellsGraph bytes) (no_graph bytes) (asked e)
 suggest_cause bytes a a' Written (text, t, w) n = CompiledGraph t.accepted.spelled t.accepted.compiled t.accepted.few
-suggest_cause bytes a a' NoCommand (text, t, w) n = absurd w
 suggest_cause bytes a a' (NoGraph fault) (same, e) n = Before (fault, refl, e)
-suggest_cause bytes a a' (NoExpansion fault) (text, t, w) n = absurd w
 suggest_cause bytes a a' (GraphRefused g fault) (same, s, r) n = Refused s r
-suggest_cause bytes a a' (NoRole role) (text, t, w) n = absurd w
-suggest_cause bytes a a' (WrongLine line wrong) (text, t, w) n = absurd w
-suggest_cause bytes a a' (KeysRefused fault) (text, t, w) n = absurd w
-suggest_cause bytes a a' (ScriptRefused fault) (text, t, w) n = absurd w
-suggest_cause bytes a a' (ClaimsRefused fault) (text, t, w) n = absurd w
-suggest_cause bytes a a' ClaimFails (text, t, w) n = absurd w
-suggest_cause bytes a a' (ProgramRefused number cause) (text, t, w) n = absurd w
-suggest_cause bytes a a' NoLedger (text, t, w) n = absurd w
-suggest_cause bytes a a' (BadSlot slot) (text, t, w) n = absurd w
-suggest_cause bytes a a' LedgerNotEmpty (text, t, w) n = absurd w
-suggest_cause bytes a a' (FileFailed arg) (text, t, w) n = absurd w
 suggest_cause bytes a a' WriteFailed (text, t, w) n = CompiledGraph t.accepted.spelled t.accepted.compiled t.accepted.few
-suggest_cause bytes a a' LinkFailed (text, t, w) n = absurd w
-suggest_cause bytes a a' InputFailed (text, t, w) n = absurd w
-suggest_cause bytes a a' DiskFailed (text, t, w) n = absurd w
 suggest_cause bytes a a' NoMemory h n = absurd (cc)
-suggest_cause bytes a a' (NoSuchFile arg) (text, t, w) n = absurd w
-suggest_cause bytes a a' (TooLarge what) (text, t, w) n = absurd w
+suggest_cause bytes a a' _ (text, t, w) n = absurd w
 
 pub suggest_once : EndsOnce Suggests most_graph_file
 suggest_once =
@@ -115,28 +81,12 @@ of_parts bytes = record { graph = graph; early = early; apart = apart }
 
 compose_cause : (bytes : List ℕ) (a a' : Output) (e : Ending) → Composes bytes a a' e → is_of_outside e ≡ false → Cause (expands bytes) (no_expansion bytes) (asked e)
 compose_cause bytes a a' Written (text, t, w) n = CompiledGraph (t.parts, t.spelled, t.expanded) t.compiled t.few
-compose_cause bytes a a' NoCommand (text, t, w) n = absurd w
 compose_cause bytes a a' (NoGraph fault) (same, e) n = Before (inl (fault, refl, e))
 compose_cause bytes a a' (NoExpansion fault) (same, (ps, s, e)) n = Before (inr (fault, ps, refl, s, e))
 compose_cause bytes a a' (GraphRefused g fault) (same, (ps, s, e, r)) n = Refused (ps, s, e) r
-compose_cause bytes a a' (NoRole role) (text, t, w) n = absurd w
-compose_cause bytes a a' (WrongLine line wrong) (text, t, w) n = absurd w
-compose_cause bytes a a' (KeysRefused fault) (text, t, w) n = absurd w
-compose_cause bytes a a' (ScriptRefused fault) (text, t, w) n = absurd w
-compose_cause bytes a a' (ClaimsRefused fault) (text, t, w) n = absurd w
-compose_cause bytes a a' ClaimFails (text, t, w) n = absurd w
-compose_cause bytes a a' (ProgramRefused number cause) (text, t, w) n = absurd w
-compose_cause bytes a a' NoLedger (text, t, w) n = absurd w
-compose_cause bytes a a' (BadSlot slot) (text, t, w) n = absurd w
-compose_cause bytes a a' LedgerNotEmpty (text, t, w) n = absurd w
-compose_cause bytes a a' (FileFailed arg) (text, t, w) n = absurd w
 compose_cause bytes a a' WriteFailed (text, t, w) n = CompiledGraph (t.parts, t.spelled, t.expanded) t.compiled t.few
-compose_cause bytes a a' LinkFailed (text, t, w) n = absurd w
-compose_cause bytes a a' InputFailed (text, t, w) n = absurd w
-compose_cause bytes a a' DiskFailed (text, t, w) n = absurd w
 compose_cause bytes a a' NoMemory h n = absurd (cc)
-compose_cause bytes a a' (NoSuchFile arg) (text, t, w) n = absurd w
-compose_cause bytes a a' (TooLarge what) (text, t, w) n = absurd w
+compose_cause bytes a a' _ (text, t, w) n = absurd w
 
 pub compose_once : EndsOnce Composes most_graph_file
 compose_once =
@@ -204,28 +154,12 @@ module _ (name bytes : List ℕ) where
 
 compile_cause : (name bytes : List ℕ) (a a' : Output) (e : Ending) → Compiles name bytes a a' e → is_of_outside e ≡ false → CompileCause name bytes (asked e)
 compile_cause name bytes a a' Written (text, t, w) n = Compiled t
-compile_cause name bytes a a' NoCommand (text, t, w) n = absurd w
 compile_cause name bytes a a' (NoGraph fault) (same, e) n = NotRead (fault, refl, e)
-compile_cause name bytes a a' (NoExpansion fault) (text, t, w) n = absurd w
 compile_cause name bytes a a' (GraphRefused g fault) (same, s, r) n = Unfit s r
 compile_cause name bytes a a' (NoRole role) (same, is, l) n = subst (λ w. CompileCause name bytes (NoRole w)) (sym is) (Lacks l)
-compile_cause name bytes a a' (WrongLine line wrong) (text, t, w) n = absurd w
-compile_cause name bytes a a' (KeysRefused fault) (text, t, w) n = absurd w
-compile_cause name bytes a a' (ScriptRefused fault) (text, t, w) n = absurd w
-compile_cause name bytes a a' (ClaimsRefused fault) (text, t, w) n = absurd w
-compile_cause name bytes a a' ClaimFails (text, t, w) n = absurd w
-compile_cause name bytes a a' (ProgramRefused number cause) (text, t, w) n = absurd w
-compile_cause name bytes a a' NoLedger (text, t, w) n = absurd w
-compile_cause name bytes a a' (BadSlot slot) (text, t, w) n = absurd w
-compile_cause name bytes a a' LedgerNotEmpty (text, t, w) n = absurd w
-compile_cause name bytes a a' (FileFailed arg) (text, t, w) n = absurd w
 compile_cause name bytes a a' WriteFailed (text, t, w) n = Compiled t
-compile_cause name bytes a a' LinkFailed (text, t, w) n = absurd w
-compile_cause name bytes a a' InputFailed (text, t, w) n = absurd w
-compile_cause name bytes a a' DiskFailed (text, t, w) n = absurd w
 compile_cause name bytes a a' NoMemory h n = absurd (cc)
-compile_cause name bytes a a' (NoSuchFile arg) (text, t, w) n = absurd w
-compile_cause name bytes a a' (TooLarge what) (text, t, w) n = absurd w
+compile_cause name bytes a a' _ (text, t, w) n = absurd w
 
 pub compile_once : (name : List ℕ) → EndsOnce (Compiles name) most_graph_file
 compile_once name =

@@ -21,7 +21,7 @@ use Rattle.sg_protocol.specs.Texts.{real}
 use Rattle.sg_sched_text.proofs.OneFault.{one_fault, no_schedule}
 use Rattle.sg_sched.specs.Format.Spells.{SpellsSchedule}
 use Rattle.sg_sched.proofs.FormatOne.{one_schedule}
-use Rattle.sg_ending.specs.Ending.{Ending, Written, NoCommand, NoGraph, NoExpansion, GraphRefused, NoRole, WrongLine, KeysRefused, ScriptRefused, ClaimsRefused, ClaimFails, ProgramRefused, NoLedger, BadSlot, LedgerNotEmpty, FileFailed, WriteFailed, LinkFailed, InputFailed, DiskFailed, NoMemory, NoSuchFile, TooLarge}
+use Rattle.sg_ending.specs.Ending.{Ending, Written, NoGraph, GraphRefused, WrongLine, WriteFailed, NoMemory, TooLarge}
 use Rattle.sg_ending.specs.Graphs.{IsFirstRefused}
 use Rattle.sg_ending.specs.Laws.{EndsOnce, asked, is_of_outside}
 use Rattle.sg_ending.specs.Output.{Output}
@@ -44,28 +44,13 @@ of_logs bytes = record {
 
 audit_cause : (bytes : List ℕ) (a a' : Output) (e : Ending) → Audits bytes a a' e → is_of_outside e ≡ false → Cause (logs_of bytes) (IsNoLogs bytes) (asked e)
 audit_cause bytes a a' Written (text, t, w) n = CompiledGraph (t.logs, t.spelled, refl) t.compiled t.few
-audit_cause bytes a a' NoCommand (text, t, w) n = absurd w
 audit_cause bytes a a' (NoGraph fault) (same, e) n = Before e
-audit_cause bytes a a' (NoExpansion fault) (text, t, w) n = absurd w
 audit_cause bytes a a' (GraphRefused g fault) (same, (l, s, of, r)) n = Refused (l, s, of) r
-audit_cause bytes a a' (NoRole role) (text, t, w) n = absurd w
 audit_cause bytes a a' (WrongLine line wrong) (same, e) n = Before e
-audit_cause bytes a a' (KeysRefused fault) (text, t, w) n = absurd w
-audit_cause bytes a a' (ScriptRefused fault) (text, t, w) n = absurd w
-audit_cause bytes a a' (ClaimsRefused fault) (text, t, w) n = absurd w
-audit_cause bytes a a' ClaimFails (text, t, w) n = absurd w
-audit_cause bytes a a' (ProgramRefused number cause) (text, t, w) n = absurd w
-audit_cause bytes a a' NoLedger (text, t, w) n = absurd w
-audit_cause bytes a a' (BadSlot slot) (text, t, w) n = absurd w
-audit_cause bytes a a' LedgerNotEmpty (text, t, w) n = absurd w
-audit_cause bytes a a' (FileFailed arg) (text, t, w) n = absurd w
 audit_cause bytes a a' WriteFailed (text, t, w) n = CompiledGraph (t.logs, t.spelled, refl) t.compiled t.few
-audit_cause bytes a a' LinkFailed (text, t, w) n = absurd w
-audit_cause bytes a a' InputFailed (text, t, w) n = absurd w
-audit_cause bytes a a' DiskFailed (text, t, w) n = absurd w
 audit_cause bytes a a' NoMemory h n = absurd (cc)
-audit_cause bytes a a' (NoSuchFile arg) (text, t, w) n = absurd w
 audit_cause bytes a a' (TooLarge what) (same, e) n = Before e
+audit_cause bytes a a' _ (text, t, w) n = absurd w
 
 pub audit_once : EndsOnce Audits most_logs_file
 audit_once =
@@ -133,29 +118,14 @@ one_replay bytes _ _ (FullIn o) (FullIn p) = refl
 
 replay_cause : (bytes : List ℕ) (a a' : Output) (e : Ending) → Replays bytes a a' e → is_of_outside e ≡ false → ReplayCause bytes (asked e)
 replay_cause bytes a a' Written (text, t, w) n = Replayed t
-replay_cause bytes a a' NoCommand (text, t, w) n = absurd w
 replay_cause bytes a a' (NoGraph fault) (same, e) n = WrongAt e
-replay_cause bytes a a' (NoExpansion fault) (text, t, w) n = absurd w
 replay_cause bytes a a' (GraphRefused g fault) (same, (s, spelled, r)) n = RefusedIn spelled r
-replay_cause bytes a a' (NoRole role) (text, t, w) n = absurd w
 replay_cause bytes a a' (WrongLine line wrong) (same, e) n = WrongAt e
-replay_cause bytes a a' (KeysRefused fault) (text, t, w) n = absurd w
-replay_cause bytes a a' (ScriptRefused fault) (text, t, w) n = absurd w
-replay_cause bytes a a' (ClaimsRefused fault) (text, t, w) n = absurd w
-replay_cause bytes a a' ClaimFails (text, t, w) n = absurd w
-replay_cause bytes a a' (ProgramRefused number cause) (text, t, w) n = absurd w
-replay_cause bytes a a' NoLedger (text, t, w) n = absurd w
-replay_cause bytes a a' (BadSlot slot) (text, t, w) n = absurd w
-replay_cause bytes a a' LedgerNotEmpty (text, t, w) n = absurd w
-replay_cause bytes a a' (FileFailed arg) (text, t, w) n = absurd w
 replay_cause bytes a a' WriteFailed (text, t, w) n = Replayed t
-replay_cause bytes a a' LinkFailed (text, t, w) n = absurd w
-replay_cause bytes a a' InputFailed (text, t, w) n = absurd w
-replay_cause bytes a a' DiskFailed (text, t, w) n = absurd w
 replay_cause bytes a a' NoMemory h n = absurd (cc)
-replay_cause bytes a a' (NoSuchFile arg) (text, t, w) n = absurd w
 replay_cause bytes a a' (TooLarge what) (same, inl e) n = WrongAt e
 replay_cause bytes a a' (TooLarge what) (same, inr (is, o)) n = subst (λ w. ReplayCause bytes (TooLarge w)) (sym is) (FullIn o)
+replay_cause bytes a a' _ (text, t, w) n = absurd w
 
 pub replay_once : EndsOnce Replays most_schedule_file
 replay_once =
@@ -212,28 +182,12 @@ module _ (generated_is_one : GeneratedIsOne) (seed sessions : ℕ) (bytes : List
 
 drive_cause : (seed sessions : ℕ) (bytes : List ℕ) (a a' : Output) (e : Ending) → Drives seed sessions bytes a a' e → is_of_outside e ≡ false → DriveCause seed sessions bytes (asked e)
 drive_cause seed sessions bytes a a' Written (text, t, w) n = Driven t
-drive_cause seed sessions bytes a a' NoCommand (text, t, w) n = absurd w
 drive_cause seed sessions bytes a a' (NoGraph fault) (same, e) n = NoneOf (fault, refl, e)
-drive_cause seed sessions bytes a a' (NoExpansion fault) (text, t, w) n = absurd w
 drive_cause seed sessions bytes a a' (GraphRefused g fault) (same, s, r) n = RefusedOf s r
-drive_cause seed sessions bytes a a' (NoRole role) (text, t, w) n = absurd w
-drive_cause seed sessions bytes a a' (WrongLine line wrong) (text, t, w) n = absurd w
-drive_cause seed sessions bytes a a' (KeysRefused fault) (text, t, w) n = absurd w
-drive_cause seed sessions bytes a a' (ScriptRefused fault) (text, t, w) n = absurd w
-drive_cause seed sessions bytes a a' (ClaimsRefused fault) (text, t, w) n = absurd w
-drive_cause seed sessions bytes a a' ClaimFails (text, t, w) n = absurd w
-drive_cause seed sessions bytes a a' (ProgramRefused number cause) (text, t, w) n = absurd w
-drive_cause seed sessions bytes a a' NoLedger (text, t, w) n = absurd w
-drive_cause seed sessions bytes a a' (BadSlot slot) (text, t, w) n = absurd w
-drive_cause seed sessions bytes a a' LedgerNotEmpty (text, t, w) n = absurd w
-drive_cause seed sessions bytes a a' (FileFailed arg) (text, t, w) n = absurd w
 drive_cause seed sessions bytes a a' WriteFailed (text, t, w) n = Driven t
-drive_cause seed sessions bytes a a' LinkFailed (text, t, w) n = absurd w
-drive_cause seed sessions bytes a a' InputFailed (text, t, w) n = absurd w
-drive_cause seed sessions bytes a a' DiskFailed (text, t, w) n = absurd w
 drive_cause seed sessions bytes a a' NoMemory h n = absurd (cc)
-drive_cause seed sessions bytes a a' (NoSuchFile arg) (text, t, w) n = absurd w
 drive_cause seed sessions bytes a a' (TooLarge what) (same, is, o) n = subst (λ w. DriveCause seed sessions bytes (TooLarge w)) (sym is) (FullOf o)
+drive_cause seed sessions bytes a a' _ (text, t, w) n = absurd w
 
 -- since there is one generated run
 pub drive_once : GeneratedIsOne → (seed sessions : ℕ) → EndsOnce (Drives seed sessions) most_graph_file
