@@ -27,7 +27,7 @@ use Rattle.sg_role.specs.Faults.{Refuses}
 use Rattle.sg_role.specs.Sending.{with_notes}
 use Rattle.sg_role.specs.Model.{RoleState}
 use Rattle.sg_role.specs.declared.fault.Refusal.{Refusal as RoleRefusal}
-use Rattle.sg_node.specs.Answers.{IsAnswer}
+use Rattle.sg_node.specs.Answers.{IsAnswer, may_take_memory}
 use Rattle.sg_node.specs.declared.node.Node.TheInside.{Inside}
 use Rattle.sg_node.specs.declared.sessions.Live.TheVariants.{AtTurn, Waiting}
 use Rattle.sg_node.specs.Faults.{of_role, refusal}
@@ -35,6 +35,7 @@ use Rattle.sg_node.specs.Slots.{Slot, state_in, held_at, held_in, is_for, first_
 use Rattle.sg_node.specs.Invariant.{IsSlot, HoldsNode, node_state}
 use Rattle.sg_node.proofs.Indices.{live_at, Tests, First, held_first}
 use Rattle.sg_node.proofs.InSlots.{Its, AtIndex, none_here, its_slot, replaced, its_program, its_passes, session_here}
+use Rattle.sg_node.proofs.Memory.{by_session}
 use Rattle.sg_node.proofs.Receipts.{role_refused, early, no_text, no_session, not_waiting, next_rows_waiting, next_notes, unless_left, left_live}
 
 turned : (v a b : Bool) → (v && a && b) ≡ (a && b && v)
@@ -109,6 +110,10 @@ module _ (n : Inside) (h : HoldsNode n) (f : Frame) where
 
         pub refused : (r : RoleRefusal) → ((s : Session) → RepresentsBefore t.program.graph t.held s → Refuses (first_some (rows_of_session real n.keys t.program s f)) r) → IsAnswer (verdict_on real m (Ok f)) (option_map NotDelivered (refusal (of_role r)))
         refused r g = role_refused (receipt f) (first_some (rows real m f)) r (subst (λ x. Refuses x r) (sym its_rows) (g it.session it.represents.before))
+
+        -- it comes to its session, so memory may be taken
+        pub may_take : may_take_memory (verdict_on real m (Ok f)) ≡ true
+        may_take = ap (λ x. may_take_memory (decided (receipt f) x)) its_rows ∙ by_session (receipt f) n.keys t.program it.session f
 
         pub taken : (a : Acceptance) → AcceptedBy n.keys t f a → verdict_on real m (Ok f) ≡ Happened (receipt f)
         taken a d = ap (decided (receipt f)) (its_rows ∙ d.rows it.session it.represents.before)

@@ -9,6 +9,7 @@ pub mod Going
 pub mod InSlots
 pub mod Acts
 pub mod Joined
+pub mod Memory
 pub mod Starts
 pub mod Receipts
 pub mod Continuing

@@ -24,23 +24,21 @@ same_first p q (x ∷ xs) a b e f g h = elim (cases_Bool (p x)) [
   ]
 ]
 
-module _ (ps : List Program) (d : List ℕ) (p f : Program) (a : starter ps d ≡ Some p) (b : program_for ps d p.role ≡ Some f) (s : (f.role == role_at (shape f.graph) 0) ≡ true) where
+module _ (ps : List Program) (d : List ℕ) (p : Program) (a : starter ps d ≡ Some p) where
   passes : (bytes_eq p.digest d && (p.role == role_at (shape p.graph) 0)) ≡ true
   passes = find_passes (λ (p : Program). bytes_eq p.digest d && (p.role == role_at (shape p.graph) 0)) ps p a
 
-  fits : (bytes_eq f.digest d && (f.role == p.role)) ≡ true
-  fits = find_passes (λ (z : Program). bytes_eq z.digest d && (z.role == p.role)) ps f b
+  pub its_digest : p.digest ≡ d
+  its_digest = same_bytes p.digest d (and_left (bytes_eq p.digest d) (p.role == role_at (shape p.graph) 0) passes)
 
-  same : f ≡ p
-  same = same_first (λ (p : Program). bytes_eq p.digest d && (p.role == role_at (shape p.graph) 0)) (λ (z : Program). bytes_eq z.digest d && (z.role == p.role)) ps p f a b
-      (ap (λ t. t && (p.role == p.role)) (and_left (bytes_eq p.digest d) (p.role == role_at (shape p.graph) 0) passes) ∙ eq-eqb p.role p.role refl)
-      (ap (λ t. t && (f.role == role_at (shape f.graph) 0)) (and_left (bytes_eq f.digest d) (f.role == p.role) fits) ∙ s)
+  pub its_start : role_at (shape p.graph) 0 ≡ p.role
+  its_start = sym (eqb-true p.role (role_at (shape p.graph) 0) (and_right (bytes_eq p.digest d) (p.role == role_at (shape p.graph) 0) passes))
 
-  pub is_starter : Some f ≡ starter ps d
-  is_starter = ap (λ z. Some z) same ∙ sym a
+  module _ (f : Program) (b : program_for ps d p.role ≡ Some f) (s : (f.role == role_at (shape f.graph) 0) ≡ true) where
+    fits : (bytes_eq f.digest d && (f.role == p.role)) ≡ true
+    fits = find_passes (λ (z : Program). bytes_eq z.digest d && (z.role == p.role)) ps f b
 
-  pub is_first : program_for ps d f.role ≡ Some f
-  is_first = ap (program_for ps d) (eqb-true f.role p.role (and_right (bytes_eq f.digest d) (f.role == p.role) fits)) ∙ b
-
-  pub its_digest : f.digest ≡ d
-  its_digest = same_bytes f.digest d (and_left (bytes_eq f.digest d) (f.role == p.role) fits)
+    pub is_first : program_for ps d p.role ≡ Some p
+    is_first = b ∙ ap (λ z. Some z) (same_first (λ (p : Program). bytes_eq p.digest d && (p.role == role_at (shape p.graph) 0)) (λ (z : Program). bytes_eq z.digest d && (z.role == p.role)) ps p f a b
+        (ap (λ t. t && (p.role == p.role)) (and_left (bytes_eq p.digest d) (p.role == role_at (shape p.graph) 0) passes) ∙ eq-eqb p.role p.role refl)
+        (ap (λ t. t && (f.role == role_at (shape f.graph) 0)) (and_left (bytes_eq f.digest d) (f.role == p.role) fits) ∙ s))

@@ -16,7 +16,7 @@ use Rattle.sg_protocol.specs.Session.{Session, new_session, at_turn}
 use Rattle.sg_protocol.specs.Representation.{Held}
 use Rattle.sg_protocol.specs.Reachable.{IsReachableAtTurn}
 use Rattle.sg_protocol.specs.Texts.{real, session_id, session_text_of}
-use Rattle.sg_protocol.specs.Verdict.{row, rows, rows_of_session, rows_of_join, rows_of_next, join_rows, next_rows, decided}
+use Rattle.sg_protocol.specs.Verdict.{row, rows, rows_of_session, rows_of_join, rows_of_next, join_rows, next_rows, receipt, decided, verdict_on}
 use Rattle.sg_role.specs.Accepting.{Acceptance, goes_on, state_after}
 use Rattle.sg_role.specs.Faults.{Refuses}
 use Rattle.sg_role.specs.Model.{RoleState}
@@ -25,12 +25,13 @@ use Rattle.sg_role.specs.declared.fault.Refusal.TheVariants as role
 use Rattle.sg_walk.specs.declared.event.Event.{Event as WalkEvent}
 use Rattle.sg_walk.specs.Model.{event_of}
 use Rattle.sg_node.specs.declared.fault.Refusal.{Refusal as NodeRefusal}
-use Rattle.sg_node.specs.Answers.{IsAnswer, delivery_answer}
+use Rattle.sg_node.specs.Answers.{IsAnswer, delivery_answer, may_take_memory}
 use Rattle.sg_node.specs.declared.sessions.Live.TheVariants.{AtTurn}
 use Rattle.sg_node.specs.Faults.{of_role, refusal}
 use Rattle.sg_node.specs.Slots.{held_at, left_after}
 use Rattle.sg_node.specs.Invariant.{IfLive}
 use Rattle.sg_node.proofs.InSlots.{turn_held}
+use Rattle.sg_node.proofs.Memory.{by_session, by_join}
 
 -- a refusal of the role is the node's
 pub role_refused : (e : Event) (x : Option Refusal) (r : RoleRefusal) → Refuses x r → IsAnswer (decided e x) (option_map NotDelivered (refusal (of_role r)))
@@ -184,6 +185,13 @@ module _ (m : Node) (f : Frame) where
       module _ (t : (is_cast m.keys p.graph c f.receiver && nat_lt f.sender (length c.names)) ≡ true) (g : stranger m.keys c ≡ None) where
         known_rows : first_some (rows real m f) ≡ first_some (later_rows (bytes_eq f.sid (session_id real c)))
         known_rows = ap first_some join_rows_are ∙ ap (λ b. first_some (by_test b (stranger m.keys c))) t ∙ ap (λ o. first_some (by_test true o)) g
+
+        -- once the graph, the cast and the keys are right, memory may be taken
+        pub may_take : may_take_memory (verdict_on real m (Ok f)) ≡ true
+        may_take =
+            ap (λ x. may_take_memory (decided (receipt f) x)) known_rows
+            ∙ by_join (receipt f) (not (bytes_eq f.sid (session_id real c))) (has_joined m.joins f.sid f.receiver) (nat_le 65536 (length m.joins)) (nat_le 4096 (length m.live))
+            (rows_of_session real m.keys p (new_session f.sid c f.receiver) f) (by_session (receipt f) m.keys p (new_session f.sid c f.receiver) f)
 
         pub bad_session : bytes_eq f.sid (session_id real c) ≡ false → first_some (rows real m f) ≡ Some BadSession
         bad_session b = known_rows ∙ ap (λ b. first_some (later_rows b)) b

@@ -24,7 +24,7 @@ use Rattle.sg_protocol.proofs.RealHash.{real_hash}
 use Rattle.sg_role.specs.Accepting.{goes_on}
 use Rattle.sg_role.specs.Sending.{with_notes}
 use Rattle.sg_role.specs.Model.{RoleState}
-use Rattle.sg_node.specs.Answers.{IsAnswer}
+use Rattle.sg_node.specs.Answers.{IsAnswer, may_take_memory}
 use Rattle.sg_node.specs.declared.join.Obstacle.{Obstacle}
 use Rattle.sg_node.specs.declared.join.Obstacle.TheVariants as Why
 use Rattle.sg_node.specs.declared.node.Node.TheInside.{Inside}
@@ -34,6 +34,7 @@ use Rattle.sg_node.specs.Joining.{obstacle_to, fault_for}
 use Rattle.sg_node.specs.Slots.{held_in}
 use Rattle.sg_node.specs.Invariant.{IsSlot, HoldsNode, node_state}
 use Rattle.sg_node.proofs.Joined.{as_many, held_more, slots_more, rows_of_obstacles, start_goes_on}
+use Rattle.sg_node.proofs.Memory.{started_may}
 
 module _ (m : Node) (c : Cast) where
   abbrev under : Option Program → Answer
@@ -59,6 +60,10 @@ module _ (m : Node) (c : Cast) where
         answer_start real m c ≡ started (session_id real c) p.role (option_and_then (λ o. start_fault (fault_for o)) (obstacle_to m.joins (length m.live) (session_id real c) p.role))
     by_obstacles f g = by_rows ∙ ap (λ b. by_test b (stranger m.keys c)) f ∙ ap (by_test true) g
         ∙ ap (started (session_id real c) p.role) (rows_of_obstacles (has_joined m.joins (session_id real c) p.role) (nat_le 65536 (length m.joins)) (nat_le 4096 (length m.live)))
+
+    -- once the graph, the cast and the keys are right, memory may be taken
+    pub start_may : is_cast m.keys p.graph c p.role ≡ true → stranger m.keys c ≡ None → may_take_memory (answer_start real m c) ≡ true
+    start_may f g = ap may_take_memory (by_obstacles f g) ∙ started_may (session_id real c) p.role (obstacle_to m.joins (length m.live) (session_id real c) p.role)
 
 -- what is noted of a start that comes to the test of the joins
 abbrev pub text_noted : Cast → Notes

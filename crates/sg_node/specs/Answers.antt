@@ -37,6 +37,18 @@ abbrev pub is_sending : Answer → Bool
 is_sending (Sends e to f) = true
 is_sending other = false
 
+-- Memory may be asked for before this is answered: it isn't a refusal of a start or a delivery for which the graph, the cast, the keys and what is live suffice
+abbrev pub may_take_memory : Answer → Bool
+may_take_memory (NotStarted Protocol.StartFault.UnknownGraph) = false
+may_take_memory (NotStarted Protocol.StartFault.BadCast) = false
+may_take_memory (NotStarted (Protocol.StartFault.UnknownPeer name)) = false
+may_take_memory (NotDelivered Protocol.Refusal.UnknownGraph) = false
+may_take_memory (NotDelivered Protocol.Refusal.BadCast) = false
+may_take_memory (NotDelivered (Protocol.Refusal.UnknownPeer name)) = false
+may_take_memory (NotDelivered Protocol.Refusal.UnknownSession) = false
+may_take_memory (NotDelivered Protocol.Refusal.NotWaiting) = false
+may_take_memory other = true
+
 -- the answer to an abandonment
 abbrev pub abandon_answer : Result (Unit {0}) UnknownSession → Answer
 abandon_answer (Ok u) = Abandoned

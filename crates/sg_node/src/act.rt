@@ -62,7 +62,7 @@ impl<'p> Node<'p> {
                 self.sessions.put(index, Live::Waiting(wait));
                 Err(ActFault::NotYourTurn)
             }
-            None => Err(ActFault::UnknownSession),
+            None => unreachable!(),
         }
     }
 }

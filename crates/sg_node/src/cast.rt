@@ -1,5 +1,5 @@
 //! Which casts a node takes part in, and in which programs.
-ghost use Rattle.std.specs.Prelude.{◌≡◌, ◌==◌, ◌&&◌, bytes_eq, length, nat_lt, Some, IfSome};
+ghost use Rattle.std.specs.Prelude.{◌≡◌, ◌==◌, ◌&&◌, bytes_eq, length, nat_lt, IsTrue, Some};
 ghost use Rattle.std.specs.Option.{option_copied};
 ghost use Rattle.sg_model.specs.Lists.{all_differ, has_text};
 ghost use Rattle.sg_model.specs.Shape.{role_at};
@@ -55,23 +55,6 @@ fn has_name(names: &[Name], name: &Name) -> bool
     false
 }
 
-/// The first program of a graph with this digest for the role that starts it. It answers `None` if a program of another
-/// graph with this digest stands before it for this role, so that SHA-256 has collided. It takes no memory.
-pub(crate) fn starter<'p>(programs: &'p Programs, digest: &[u8; 32]) -> Option<Option<&'p Program>>
-    ensures found { IfSome result (λ p. option_copied p ≡ starter programs.now digest.now) }
-    ensures first { IfSome result (λ p. IfSome p (λ q. program_for programs.now digest.now q.now.role ≡ Some q.now)) }
-    ensures starts { IfSome result (λ p. IfSome p (λ q. role_at (shape q.now.graph) 0 ≡ q.now.role)) }
-    ensures digest { IfSome result (λ p. IfSome p (λ q. q.now.digest ≡ digest.now)) }
-{
-    let Some(program) = first_starter(programs, digest) else {
-        return Some(None);
-    };
-    match program_for(programs, digest, program.role()) {
-        Some(first) if starts(first) => Some(Some(first)),
-        _ => None,
-    }
-}
-
 /// The first program of a graph with this digest for the role that starts it. It takes no memory.
 pub(crate) fn first_starter<'p>(programs: &'p Programs, digest: &[u8; 32]) -> Option<&'p Program>
     ensures { option_copied result ≡ starter programs.now digest.now }
@@ -82,6 +65,20 @@ pub(crate) fn first_starter<'p>(programs: &'p Programs, digest: &[u8; 32]) -> Op
         }
     }
     None
+}
+
+/// Whether the first program of a graph with this digest that starts it is also the first for its role. If it isn't, another graph has
+/// this digest, so that SHA-256 has collided. It takes no memory.
+pub(crate) fn is_first(programs: &Programs, digest: &[u8; 32], program: &Program) -> bool
+    requires { starter programs.now digest.now ≡ Some program.now }
+    ensures first { IsTrue result → program_for programs.now digest.now program.now.role ≡ Some program.now }
+    ensures starts { role_at (shape program.now.graph) 0 ≡ program.now.role }
+    ensures digest { program.now.digest ≡ digest.now }
+{
+    match program_for(programs, digest, program.role()) {
+        Some(first) => starts(first),
+        None => false,
+    }
 }
 
 // The program's role is that of the start node.

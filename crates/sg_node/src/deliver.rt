@@ -1,20 +1,21 @@
 //! How a node takes a delivery.
-ghost use Rattle.std.specs.Prelude.{◌≡◌, ◌≢◌, ◌<◌, ◌++◌, ◌&&◌, ◌↔◌, [], ◌∷◌, true, IsTrue, nat_lt, length, slice_get, option_and_then, Ok, Err, None, Some, IfOk, IsOk, OnErr, OnOk};
+ghost use Rattle.std.specs.Prelude.{◌≡◌, ◌≢◌, ◌<◌, ◌++◌, ◌&&◌, ◌↔◌, ◌⊎◌, [], ◌∷◌, true, IsTrue, nat_lt, length, slice_get, option_and_then, Ok, Err, None, Some, IfOk, IsErr, IsOk, OnErr, OnOk};
 ghost use Rattle.std.specs.Option.{option_copied};
 ghost use Rattle.indexmap.specs.IndexMap.{set_value_at};
+ghost use Rattle.sg_model.specs.Limits.{most_frame_bytes};
 ghost use Rattle.sg_protocol.specs.Acting.{answer};
 ghost use Rattle.sg_protocol.specs.Calls.{Deliver};
 ghost use Rattle.sg_protocol.specs.Node.{Node as DefinedNode, program_for, is_cast, stranger};
 ghost use Rattle.sg_protocol.specs.NodeStates.{RepresentsNode, RepresentsPast, state_taking};
 ghost use Rattle.sg_protocol.specs.Notes.{Notes, notes as noted_of, notes_of_read};
 ghost use Rattle.sg_protocol.specs.Past.{Past, node_of};
-ghost use Rattle.sg_protocol.specs.Reading.{read};
+ghost use Rattle.sg_protocol.specs.Reading.{read, read_version};
 ghost use Rattle.sg_protocol.specs.Spelling.{SpellsFrame};
 ghost use Rattle.sg_protocol.specs.Texts.{real, session_id, session_text_of};
 ghost use Rattle.sg_protocol.specs.Verdict.{verdict_on};
 ghost use Rattle.sg_walk.specs.Model.{event_of};
 ghost use Rattle.sg_role.specs.Sending.{with_notes};
-ghost use Rattle.sg_node.specs.Answers.{IsAnswer, delivery_answer, GoesOn};
+ghost use Rattle.sg_node.specs.Answers.{IsAnswer, delivery_answer, GoesOn, may_take_memory};
 ghost use Rattle.sg_node.specs.Joining.{refusal_for};
 ghost use Rattle.sg_node.specs.Slots.{left_after};
 ghost use Rattle.sg_node.specs.declared.sessions.Live.TheVariants.{Waiting};
@@ -42,6 +43,8 @@ impl<'p> Node<'p> {
             → notes.new ≡ with_notes notes.old (noted_of real (node_of past) (Deliver bytes.now)) }
         ensures back { OnErr result (self.new ≡ self.old) }
         ensures memory { result ≡ Err Refusal.OutOfMemory → notes.new ≡ notes.old }
+        // Memory runs out neither for too many bytes nor for a wrong beginning.
+        ensures early { (most_frame_bytes < length bytes.now) ⊎ IsErr (read_version 0 bytes.now) → result ≢ Err Refusal.OutOfMemory }
     {
         facts_of_bytes(bytes);
         match decode(self.alloc, bytes) {
@@ -67,6 +70,9 @@ impl<'p> Node<'p> {
             → notes.new ≡ with_notes notes.old (noted_of real (node_of past) (Deliver bytes.now)) }
         ensures back { OnErr result (self.new ≡ self.old) }
         ensures memory { result ≡ Err Refusal.OutOfMemory → notes.new ≡ notes.old }
+        // Memory never runs out for an unknown graph, a bad cast, an unknown peer, an unknown session, or a session that doesn't wait.
+        ensures early { (past : Past) → RepresentsPast self.old past → result ≡ Err Refusal.OutOfMemory
+            → may_take_memory (answer real (node_of past) (Deliver bytes.now)) ≡ true }
     {
         facts_of_bytes(bytes);
         let _programs = self.programs;
@@ -82,6 +88,7 @@ impl<'p> Node<'p> {
         ensures notes { (n : DefinedNode) → RepresentsNode self.old n → result ≢ Err Refusal.OutOfMemory
             → notes.new ≡ with_notes notes.old (notes_of_read real n (Ok frame.now)) }
         ensures memory { result ≡ Err Refusal.OutOfMemory → notes.new ≡ notes.old }
+        ensures early { (n : DefinedNode) → RepresentsNode self.old n → result ≡ Err Refusal.OutOfMemory → may_take_memory (verdict_on real n (Ok frame.now)) ≡ true }
     {
         match &frame.join {
             Some(cast) => self.join(frame, *cast.get(), bytes, notes),
@@ -104,6 +111,7 @@ impl<'p> Node<'p> {
         ensures notes { (n : DefinedNode) → RepresentsNode self.old n → result ≢ Err Refusal.OutOfMemory
             → notes.new ≡ with_notes notes.old (notes_of_read real n (Ok frame.now)) }
         ensures memory { result ≡ Err Refusal.OutOfMemory → notes.new ≡ notes.old }
+        ensures early { (n : DefinedNode) → RepresentsNode self.old n → result ≡ Err Refusal.OutOfMemory → may_take_memory (verdict_on real n (Ok frame.now)) ≡ true }
     {
         let Some(index) = self.sessions.find_for(frame) else {
             return Err(Refusal::UnknownSession);
@@ -117,7 +125,7 @@ impl<'p> Node<'p> {
                 }
             }
             Some(Live::AtTurn(_turn)) => Err(Refusal::NotWaiting),
-            None => Err(Refusal::NotWaiting),
+            None => unreachable!(),
         }
     }
 
@@ -137,6 +145,7 @@ impl<'p> Node<'p> {
         ensures notes { (n : DefinedNode) → RepresentsNode self.old n → result ≢ Err Refusal.OutOfMemory
             → notes.new ≡ with_notes notes.old (notes_of_read real n (Ok frame.now)) }
         ensures memory { result ≡ Err Refusal.OutOfMemory → notes.new ≡ notes.old }
+        ensures early { (n : DefinedNode) → RepresentsNode self.old n → result ≡ Err Refusal.OutOfMemory → may_take_memory (verdict_on real n (Ok frame.now)) ≡ true }
     {
         let Some(program) = program_of(self.programs, &cast, frame) else {
             return Err(Refusal::UnknownGraph);
@@ -282,7 +291,7 @@ fn take<'p>(
                 TurnOrDone::Done(_done) => Ok(event),
             }
         }
-        _ => Err(Refusal::NotWaiting),
+        _ => unreachable!(),
     }
 }
 

@@ -138,7 +138,7 @@ pub(crate) fn join_session<'p>(
     let role = before.role();
     let ticket = claim(joins, sid, role);
     let Some((event, taken)) = first_receipt(ticket, before, accepted) else {
-        return Err(Refusal::OutOfMemory);
+        unreachable!();
     };
     if let TurnOrDone::Turn(turn) = taken {
         sessions.push(sid, role, Live::AtTurn(turn));

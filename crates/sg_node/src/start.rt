@@ -11,10 +11,10 @@ ghost use Rattle.sg_protocol.specs.Past.{Past, node_of};
 ghost use Rattle.sg_protocol.specs.Ranges.{IsCast};
 ghost use Rattle.sg_protocol.specs.Texts.{real};
 ghost use Rattle.sg_role.specs.Sending.{with_notes};
-ghost use Rattle.sg_node.specs.Answers.{IsAnswer, start_answer, GoesOn};
+ghost use Rattle.sg_node.specs.Answers.{IsAnswer, start_answer, GoesOn, may_take_memory};
 ghost use Rattle.sg_node.specs.Joining.{fault_for};
 
-use crate::cast::{is_cast, starter};
+use crate::cast::{first_starter, is_cast, is_first};
 use crate::join::{Obstacle, begin_session, first_obstacle, make_room, note_session};
 use crate::{Node, StartFault};
 use sg_base::Sid;
@@ -25,7 +25,8 @@ use sg_walk::Event;
 
 impl<'p> Node<'p> {
     /// Starts a session of a cast, at the start node of its graph, or gives the first cause for which it is refused. After a
-    /// refusal the node is as before.
+    /// refusal the node is as before. Memory isn't taken before the graph, the cast and the keys are found right. It is also told as wanting
+    /// if another graph with the same digest stands before for the same role, so that SHA-256 has collided.
     pub fn start(&mut self, cast: Cast, notes: &mut Notes) -> Result<Event, StartFault>
         ensures answer { (past : Past) → RepresentsPast self.old past → IsAnswer (answer real (node_of past) (Start cast)) (start_answer result) }
         ensures state { (past : Past) → RepresentsPast self.old past → result ≢ Err StartFault.OutOfMemory → GoesOn self.old self.new (Start cast) past }
@@ -33,12 +34,12 @@ impl<'p> Node<'p> {
             → notes.new ≡ with_notes notes.old (noted_of real (node_of past) (Start cast)) }
         ensures back { OnErr result (self.new ≡ self.old) }
         ensures memory { result ≡ Err StartFault.OutOfMemory → notes.new ≡ notes.old }
+        // Memory never runs out for an unknown graph, a bad cast or an unknown peer.
+        ensures early { (past : Past) → RepresentsPast self.old past → result ≡ Err StartFault.OutOfMemory
+            → may_take_memory (answer real (node_of past) (Start cast)) ≡ true }
     {
         facts_of_cast(&cast);
-        let Some(found) = starter(self.programs, &cast.graph()) else {
-            return Err(StartFault::OutOfMemory);
-        };
-        let Some(program) = found else {
+        let Some(program) = first_starter(self.programs, &cast.graph()) else {
             return Err(StartFault::UnknownGraph);
         };
         if !is_cast(&self.keys, program.graph(), &cast, program.role()) {
@@ -46,6 +47,9 @@ impl<'p> Node<'p> {
         }
         if let Some(name) = self.keys.covers(&cast) {
             return Err(StartFault::UnknownPeer { name });
+        }
+        if !is_first(self.programs, &cast.graph(), program) {
+            return Err(StartFault::OutOfMemory);
         }
         self.begin(program, cast, notes)
     }

@@ -57,8 +57,8 @@ invariant_of-self-in-Err c = record { programs = c.self.invariant.programs; slot
 pub invariant_of-self-in-Some-Waiting : goal.invariant_of-self-in-Some-Waiting
 invariant_of-self-in-Some-Waiting c = record { programs = c.self.invariant.programs; slots = subst (AllByRecursion (IsSlot c.self.inside.programs.now c.self.inside.joins.pairs)) (sym (c.put-in-Some-Waiting.ensures.slots ∙ ap (λ z. set_value_at z c.in-Some.index (Some (Waiting c.in-Some-Waiting.wait))) c.take.ensures.slots ∙ set_twice c.self.inside.sessions.slots c.in-Some.index None (Some (Waiting c.in-Some-Waiting.wait)) ∙ set_same c.self.inside.sessions.slots c.in-Some.index (Some (Waiting c.in-Some-Waiting.wait)) (sym c.take.ensures.taken ∙ c.in-Some-Waiting.is ∙ ap (λ z. Some z) c.in-Some-Waiting.field-0-is) (first_at c.self.inside c.self.invariant c.args.sid c.in-Some.index (sym c.in-Some.ensures)).within)) c.self.invariant.slots }
 
-pub invariant_of-self-in-None : goal.invariant_of-self-in-None
-invariant_of-self-in-None c = some_none (first_at c.self.inside c.self.invariant c.args.sid c.in-Some.index (sym c.in-Some.ensures)).live (sym (first_at c.self.inside c.self.invariant c.args.sid c.in-Some.index (sym c.in-Some.ensures)).there ∙ sym c.take.ensures.taken ∙ c.in-None.is)
+pub unreachable-requires : goal.unreachable-requires
+unreachable-requires c = some_none (first_at c.self.inside c.self.invariant c.args.sid c.in-Some.index (sym c.in-Some.ensures)).live (sym (first_at c.self.inside c.self.invariant c.args.sid c.in-Some.index (sym c.in-Some.ensures)).there ∙ sym c.take.ensures.taken ∙ c.in-None.is)
 
 pub returns-in-Ok-clause-answer : goal.returns-in-Ok-clause-answer
 returns-in-Ok-clause-answer c = λ past st. act_answer c.self.inside c.self.invariant (node_of past) (subst (λ (z : NodeState). RepresentsPast z past) (sym c.self.view_is) st) c.args.sid c.args.label (values_of c.args.values.now) c.args.confounders.now c.in-Some.index (sym c.in-Some.ensures) c.in-Some-AtTurn.turn (sym c.take.ensures.taken ∙ c.in-Some-AtTurn.is ∙ ap (λ z. Some z) c.in-Some-AtTurn.field-0-is) c.facts_of_values.ensures c.in-Ok.sent (record { accepted = c.in-Ok.ensures.accepted; state = c.in-Ok.ensures.state }) c.keep.result (c.keep.ensures.event ∙ c.in-Ok.ensures.event) (λ s q. c.keep.ensures.frame ∙ c.in-Ok.ensures.frame s q)
@@ -92,18 +92,6 @@ returns-in-Some-Waiting-clause-notes c = λ past st k. with_none c.args.notes.no
 
 pub returns-in-Some-Waiting-clause-back : goal.returns-in-Some-Waiting-clause-back
 returns-in-Some-Waiting-clause-back c = (ap (λ z. record { keys = c.self.inside.keys; programs = c.self.inside.programs.now; joins = c.self.inside.joins.pairs; live = held_in z }) (c.put-in-Some-Waiting.ensures.slots ∙ ap (λ z. set_value_at z c.in-Some.index (Some (Waiting c.in-Some-Waiting.wait))) c.take.ensures.slots ∙ set_twice c.self.inside.sessions.slots c.in-Some.index None (Some (Waiting c.in-Some-Waiting.wait)) ∙ set_same c.self.inside.sessions.slots c.in-Some.index (Some (Waiting c.in-Some-Waiting.wait)) (sym c.take.ensures.taken ∙ c.in-Some-Waiting.is ∙ ap (λ z. Some z) c.in-Some-Waiting.field-0-is) (first_at c.self.inside c.self.invariant c.args.sid c.in-Some.index (sym c.in-Some.ensures)).within) ∙ c.self.view_is, refl)
-
-pub returns-in-None-clause-answer : goal.returns-in-None-clause-answer
-returns-in-None-clause-answer c = some_none (first_at c.self.inside c.self.invariant c.args.sid c.in-Some.index (sym c.in-Some.ensures)).live (sym (first_at c.self.inside c.self.invariant c.args.sid c.in-Some.index (sym c.in-Some.ensures)).there ∙ sym c.take.ensures.taken ∙ c.in-None.is)
-
-pub returns-in-None-clause-state : goal.returns-in-None-clause-state
-returns-in-None-clause-state c = some_none (first_at c.self.inside c.self.invariant c.args.sid c.in-Some.index (sym c.in-Some.ensures)).live (sym (first_at c.self.inside c.self.invariant c.args.sid c.in-Some.index (sym c.in-Some.ensures)).there ∙ sym c.take.ensures.taken ∙ c.in-None.is)
-
-pub returns-in-None-clause-notes : goal.returns-in-None-clause-notes
-returns-in-None-clause-notes c = some_none (first_at c.self.inside c.self.invariant c.args.sid c.in-Some.index (sym c.in-Some.ensures)).live (sym (first_at c.self.inside c.self.invariant c.args.sid c.in-Some.index (sym c.in-Some.ensures)).there ∙ sym c.take.ensures.taken ∙ c.in-None.is)
-
-pub returns-in-None-clause-back : goal.returns-in-None-clause-back
-returns-in-None-clause-back c = some_none (first_at c.self.inside c.self.invariant c.args.sid c.in-Some.index (sym c.in-Some.ensures)).live (sym (first_at c.self.inside c.self.invariant c.args.sid c.in-Some.index (sym c.in-Some.ensures)).there ∙ sym c.take.ensures.taken ∙ c.in-None.is)
 
 pub returns-in-Err-clause-memory : goal.returns-in-Err-clause-memory
 returns-in-Err-clause-memory c = λ past st k.

@@ -21,7 +21,7 @@ use Rattle.sg_node.proofs.Acts.{with_none}
 use Rattle.sg_node.proofs.Receipts.{err_or, in_ok, not_err, no_err, received, refused_by}
 use Rattle.sg_node.specs.declared.sessions.Live.TheVariants.{Waiting}
 use Rattle.sg_node.proofs.Indices.{some_none}
-use Rattle.sg_node.proofs.Continuing.{AcceptedBy, first_for, unknown, at_its_turn, version_is, refused, taken, noted, next_slots, next_state}
+use Rattle.sg_node.proofs.Continuing.{AcceptedBy, first_for, unknown, at_its_turn, version_is, refused, may_take, taken, noted, next_slots, next_state}
 use Rattle.sg_node.proofs.node.Node.continue_session.Goals as goal
 
 pub returns-in_default-clause-answer : goal.returns-in_default-clause-answer
@@ -36,11 +36,8 @@ returns-in-Some-AtTurn-clause-answer c = λ m st. (at_its_turn c.self.inside c.s
 pub returns-in-Some-AtTurn-clause-notes : goal.returns-in-Some-AtTurn-clause-notes
 returns-in-Some-AtTurn-clause-notes c = λ m st k. with_none c.args.notes.now ∙ ap (with_notes c.args.notes.now) (sym (at_its_turn c.self.inside c.self.invariant c.args.frame.now c.in-Some.index _ (sym c.in-Some.ensures) (sym c.in-Some-AtTurn.ensures ∙ ap (λ z. Some z) c.in-Some-AtTurn.field-0-is) c.requires.continues m (subst (λ (z : NodeState). RepresentsNode z m) (sym c.self.view_is) st)).1)
 
-pub returns-in-None-clause-answer : goal.returns-in-None-clause-answer
-returns-in-None-clause-answer c = λ m st. some_none (first_for c.self.inside c.self.invariant c.args.frame.now c.in-Some.index (sym c.in-Some.ensures)).live (sym (first_for c.self.inside c.self.invariant c.args.frame.now c.in-Some.index (sym c.in-Some.ensures)).there ∙ sym c.in-None.ensures)
-
-pub returns-in-None-clause-notes : goal.returns-in-None-clause-notes
-returns-in-None-clause-notes c = λ m st k. some_none (first_for c.self.inside c.self.invariant c.args.frame.now c.in-Some.index (sym c.in-Some.ensures)).live (sym (first_for c.self.inside c.self.invariant c.args.frame.now c.in-Some.index (sym c.in-Some.ensures)).there ∙ sym c.in-None.ensures)
+pub unreachable-requires : goal.unreachable-requires
+unreachable-requires c = some_none (first_for c.self.inside c.self.invariant c.args.frame.now c.in-Some.index (sym c.in-Some.ensures)).live (sym (first_for c.self.inside c.self.invariant c.args.frame.now c.in-Some.index (sym c.in-Some.ensures)).there ∙ sym c.in-None.ensures)
 
 pub examine-requires-clause-version : goal.examine-requires-clause-version
 examine-requires-clause-version c = subst (λ (s : RoleState). c.args.frame.now.version ≡ (s.held.cast).version) (sym c.before-kept.ensures.before) (version_is c.self.inside c.self.invariant c.args.frame.now c.in-Some.index c.in-Some-Waiting.wait (sym c.in-Some.ensures) (sym c.in-Some-Waiting.ensures ∙ ap (λ z. Some z) c.in-Some-Waiting.field-0-is))
@@ -74,3 +71,9 @@ returns-in-Err-clause-answer c = λ m st. refused_by (verdict_on real m (Ok c.ar
 
 pub returns-in-Err-clause-notes : goal.returns-in-Err-clause-notes
 returns-in-Err-clause-notes c = λ m st k. noted c.self.inside c.self.invariant c.args.frame.now c.in-Some.index c.in-Some-Waiting.wait (sym c.in-Some.ensures) (sym c.in-Some-Waiting.ensures ∙ ap (λ z. Some z) c.in-Some-Waiting.field-0-is) c.requires.continues m (subst (λ (z : NodeState). RepresentsNode z m) (sym c.self.view_is) st) c.args.notes.now c.examine.new.notes (subst (λ (s : RoleState). (x : Session) → RepresentsBefore s.program.graph s.held x → c.examine.new.notes ≡ with_notes c.args.notes.now (notes_in_session real c.self.inside.keys s.program x c.args.frame.now (row_number (first_some (rows_of_session real c.self.inside.keys s.program x c.args.frame.now))))) c.before-kept.ensures.before (λ x b. c.in-Err.ensures.notes x b (λ q. k (ap Err (c.refused.ensures ∙ ap of_role (ap (λ z. err_or z c.in-Err.refusal) q))))))
+
+pub returns-in-Ok-clause-early : goal.returns-in-Ok-clause-early
+returns-in-Ok-clause-early c = λ m st q. no_err c.take.result refusals.OutOfMemory c.take.ensures.ok q
+
+pub returns-in-Err-clause-early : goal.returns-in-Err-clause-early
+returns-in-Err-clause-early c = λ m st q. may_take c.self.inside c.self.invariant c.args.frame.now c.in-Some.index c.in-Some-Waiting.wait (sym c.in-Some.ensures) (sym c.in-Some-Waiting.ensures ∙ ap (λ z. Some z) c.in-Some-Waiting.field-0-is) c.requires.continues m (subst (λ (z : NodeState). RepresentsNode z m) (sym c.self.view_is) st)

@@ -1,4 +1,4 @@
-use Rattle.std.proofs.Common.{sym, ◌∙◌, ap, subst}
+use Rattle.std.proofs.Common.{◌≡◌, true, sym, ◌∙◌, ap, subst}
 use Rattle.std.specs.List.{AllByRecursion}
 use Rattle.sg_protocol.specs.IsSchedule.{IsProgram}
 use Rattle.sg_protocol.specs.NodeStates.{IsReachableLive, NodeState}
@@ -7,7 +7,7 @@ use Rattle.sg_protocol.specs.Past.{node_of}
 use Rattle.sg_protocol.specs.Texts.{real}
 use Rattle.sg_protocol.specs.Verdict.{verdict_on}
 use Rattle.sg_role.specs.Sending.{with_notes}
-use Rattle.sg_node.specs.Answers.{IsAnswer, delivery_answer}
+use Rattle.sg_node.specs.Answers.{IsAnswer, delivery_answer, may_take_memory}
 use Rattle.sg_node.proofs.Going.{all_reachable}
 use Rattle.sg_node.proofs.Taking.{goes_by}
 use Rattle.sg_node.proofs.node.Node.deliver_frame.Goals as goal
@@ -20,3 +20,6 @@ returns-clause-state c = λ past st k. goes_by c.args.self.now c.receive.new.sel
 
 pub returns-clause-notes : goal.returns-clause-notes
 returns-clause-notes c = λ past st k. c.receive.ensures.notes (node_of past) st k ∙ ap (λ r. with_notes c.args.notes.now (notes_of_read real (node_of past) r)) (sym c.requires.read)
+
+pub returns-clause-early : goal.returns-clause-early
+returns-clause-early c = λ past st k. subst (λ r. may_take_memory (verdict_on real (node_of past) r) ≡ true) (sym c.requires.read) (c.receive.ensures.early (node_of past) st k)

@@ -4,6 +4,7 @@ use Rattle.sg_protocol.specs.NodeStates.{NodeState, RepresentsNode}
 use Rattle.sg_role.specs.Sending.{with_notes}
 use Rattle.sg_node.proofs.Acts.{with_none}
 use Rattle.sg_node.proofs.Entering.{no_program_for, wrong_cast, unknown_peer}
+use Rattle.sg_node.proofs.Receipts.{may_take}
 use Rattle.sg_node.proofs.node.Node.join.Goals as goal
 
 pub returns-in_default-clause-answer : goal.returns-in_default-clause-answer
@@ -32,3 +33,9 @@ join_known-requires-clause-cast c = subst (λ (z : NodeState). (is_cast z.keys c
 
 pub join_known-requires-clause-covered : goal.join_known-requires-clause-covered
 join_known-requires-clause-covered c = subst (λ (z : NodeState). stranger z.keys c.args.cast ≡ None) c.self.view_is (sym c.covers.ensures ∙ c.in_default-covers.is)
+
+pub returns-clause-early : goal.returns-clause-early
+returns-clause-early c = λ m st k. may_take m c.args.frame.now c.args.cast c.requires.joins c.in-Some.program.now
+    (subst (λ ps. program_for ps c.args.cast.graph c.args.frame.now.receiver ≡ Some c.in-Some.program.now) (subst (λ (z : NodeState). RepresentsNode z m) (sym c.self.view_is) st).programs (sym c.in-Some.ensures))
+    (subst (λ ks. (is_cast ks c.in-Some.program.now.graph c.args.cast c.args.frame.now.receiver && nat_lt c.args.frame.now.sender (length c.args.cast.names)) ≡ true) (subst (λ (z : NodeState). RepresentsNode z m) (sym c.self.view_is) st).keys (sym c.if-not-fits.ensures))
+    (subst (λ ks. stranger ks c.args.cast ≡ None) (subst (λ (z : NodeState). RepresentsNode z m) (sym c.self.view_is) st).keys (sym c.covers.ensures ∙ c.in_default-covers.is))

@@ -1,18 +1,20 @@
-use Rattle.std.proofs.Common.{◌≡◌, sym, ap, subst, rules, arith}
+use Rattle.std.proofs.Common.{◌≡◌, true, None, Some, sym, ap, subst, rules, arith}
 use Rattle.std.proofs.lemmas.Grind.{common_steps}
 use Rattle.std.specs.List.{AllByRecursion}
 use Rattle.sg_protocol.specs.Acting.{answer_start}
 use Rattle.sg_protocol.specs.Calls.{Start, NotStarted}
 use Rattle.sg_protocol.specs.Calls as Protocol
 use Rattle.sg_protocol.specs.IsSchedule.{IsProgram}
+use Rattle.sg_protocol.specs.Node.{starter, is_cast, stranger}
 use Rattle.sg_protocol.specs.NodeStates.{NodeState, IsReachableLive, RepresentsPast, state_after}
 use Rattle.sg_protocol.specs.Past.{Past, node_of}
 use Rattle.sg_protocol.specs.Texts.{real}
 use Rattle.sg_node.proofs.Going.{all_reachable, goes_on}
+use Rattle.sg_node.proofs.Starts.{start_may}
 use Rattle.sg_node.proofs.node.Node.start.Goals as goal
 
-pub returns-in_default-found-clause-state : goal.returns-in_default-found-clause-state
-returns-in_default-found-clause-state c =
+pub returns-in_default-clause-state : goal.returns-in_default-clause-state
+returns-in_default-clause-state c =
     let all : (past : Past) → RepresentsPast c.args.self.now past → answer_start real (node_of past) c.args.cast ≡ NotStarted Protocol.StartFault.UnknownGraph = first_of (search rules, grind (arith, common_steps)) in
     λ past st k. goes_on c.args.self.now c.args.self.now (Start c.args.cast) past (subst (λ (z : NodeState). AllByRecursion (IsProgram real) z.programs) c.self.view_is c.self.invariant.programs) (subst (λ (z : NodeState). AllByRecursion (IsReachableLive real z.programs) z.live) c.self.view_is (all_reachable c.self.inside c.self.invariant)) c.facts_of_cast.ensures st (ap (state_after c.args.self.now (Start c.args.cast)) (sym (all past st)))
 
@@ -28,3 +30,23 @@ returns-in-Some-covers-clause-state c =
 
 pub returns-clause-state : goal.returns-clause-state
 returns-clause-state c = λ past st k. goes_on c.args.self.now c.begin.new.self (Start c.args.cast) past (subst (λ (z : NodeState). AllByRecursion (IsProgram real) z.programs) c.self.view_is c.self.invariant.programs) (subst (λ (z : NodeState). AllByRecursion (IsReachableLive real z.programs) z.live) c.self.view_is (all_reachable c.self.inside c.self.invariant)) c.facts_of_cast.ensures st (c.begin.ensures.state (node_of past) st k)
+
+pub returns-then-not-is_first-clause-early : goal.returns-then-not-is_first-clause-early
+returns-then-not-is_first-clause-early c = λ past st k.
+    let found : starter c.args.self.now.programs c.args.cast.graph ≡ Some c.in-Some.program.now = search rules in
+    let right : is_cast c.args.self.now.keys c.in-Some.program.now.graph c.args.cast c.in-Some.program.now.role ≡ true = search rules in
+    let covered : stranger c.args.self.now.keys c.args.cast ≡ None = search rules in
+    start_may (node_of past) c.args.cast c.in-Some.program.now
+    (subst (λ ps. starter ps c.args.cast.graph ≡ Some c.in-Some.program.now) st.programs found)
+    (subst (λ k. is_cast k c.in-Some.program.now.graph c.args.cast c.in-Some.program.now.role ≡ true) st.keys right)
+    (subst (λ k. stranger k c.args.cast ≡ None) st.keys covered)
+
+pub returns-clause-early : goal.returns-clause-early
+returns-clause-early c = λ past st k.
+    let found : starter c.args.self.now.programs c.args.cast.graph ≡ Some c.in-Some.program.now = search rules in
+    let right : is_cast c.args.self.now.keys c.in-Some.program.now.graph c.args.cast c.in-Some.program.now.role ≡ true = search rules in
+    let covered : stranger c.args.self.now.keys c.args.cast ≡ None = search rules in
+    start_may (node_of past) c.args.cast c.in-Some.program.now
+    (subst (λ ps. starter ps c.args.cast.graph ≡ Some c.in-Some.program.now) st.programs found)
+    (subst (λ k. is_cast k c.in-Some.program.now.graph c.args.cast c.in-Some.program.now.role ≡ true) st.keys right)
+    (subst (λ k. stranger k c.args.cast ≡ None) st.keys covered)

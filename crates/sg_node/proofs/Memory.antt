@@ -1,0 +1,64 @@
+-- Which answers may take memory.
+use Rattle.std.specs.Prelude.{◌≡◌, ℕ, nat_le, ◌+◌, not, Bool, true, false, if◌then◌else◌, List, [], ◌∷◌, refl, Option, Some, None, option_map, option_and_then, find, position}
+use Rattle.sg_model.specs.Lists.{first_some}
+use Rattle.sg_protocol.specs.Acting.{started}
+use Rattle.sg_protocol.specs.Calls.{Event, Refusal, BadSession, Joined, CacheFull, SessionsFull, BadFrameTag, NoSuchView, BadTime, BadEvidence, BadOpening}
+use Rattle.sg_protocol.specs.Checks.{texts_checked}
+use Rattle.sg_protocol.specs.Frame.{Item, Frame}
+use Rattle.sg_protocol.specs.Keyring.{Keyring, Program}
+use Rattle.sg_protocol.specs.Session.{Session, own_time}
+use Rattle.sg_protocol.specs.Texts.{real}
+use Rattle.sg_protocol.specs.Verdict.{row, bad_time, decided, is_shown, has_frame_tag, has_item_tag, is_right, rows_of_session}
+use Rattle.sg_node.specs.Answers.{may_take_memory}
+use Rattle.sg_node.specs.declared.join.Obstacle.{Obstacle}
+use Rattle.sg_node.specs.declared.join.Obstacle.TheVariants as Why
+use Rattle.sg_node.specs.Faults.{start_fault}
+use Rattle.sg_node.specs.Joining.{fault_for}
+
+-- a start that comes to the obstacles
+pub started_may : (sid : List ℕ) (r : ℕ) (o : Option Obstacle) → may_take_memory (started sid r (option_and_then (λ o. start_fault (fault_for o)) o)) ≡ true
+started_may sid r None = refl
+started_may sid r (Some Why.Joined) = refl
+started_may sid r (Some Why.Cache) = refl
+started_may sid r (Some Why.Sessions) = refl
+
+-- the verdict by some rows
+module _ (e : Event) where
+  abbrev pub may_by : List (Option Refusal) → Bool
+  may_by xs = may_take_memory (decided e (first_some xs))
+
+  pub by_row : (b : Bool) (r : Refusal) (xs : List (Option Refusal)) → may_take_memory (decided e (Some r)) ≡ true → may_by xs ≡ true → may_by (row b r ∷ xs) ≡ true
+  by_row true r xs k h = k
+  by_row false r xs k h = h
+
+  by_option : {A : Type 0} (g : A → Refusal) (o : Option A) (xs : List (Option Refusal)) → ((a : A) → may_take_memory (decided e (Some (g a))) ≡ true) → may_by xs ≡ true → may_by (option_map g o ∷ xs) ≡ true
+  by_option g None xs k h = h
+  by_option g (Some a) xs k h = k a
+
+  by_time : (n before : ℕ) (is : List Item) (xs : List (Option Refusal)) → may_by xs ≡ true → may_by (bad_time n before is ∷ xs) ≡ true
+  by_time n before [] xs h = h
+  by_time n before (i ∷ is) xs h = go (nat_le i.time before)
+    where
+      go : (b : Bool) → may_by ((if b then Some (BadTime n i.time (before + 1)) else bad_time (n + 1) i.time is) ∷ xs) ≡ true
+      go true = refl
+      go false = by_time (n + 1) i.time is xs h
+
+  -- a frame that comes to its session
+  pub by_session : (keys : Keyring) (p : Program) (s : Session) (f : Frame) → may_by (rows_of_session real keys p s f) ≡ true
+  by_session keys p s f =
+      let openings : List (Option Refusal) = option_map (λ o. BadOpening o.variable) (find (λ o. not (is_right real p.graph s f o)) f.openings) ∷ [] in
+      let items : List (Option Refusal) = option_map (λ n. BadEvidence (n + 1)) (position (λ c. not (has_item_tag real keys s c)) (texts_checked p.graph s f)) ∷ openings in
+      let times : List (Option Refusal) = bad_time 1 (own_time s) f.items ∷ items in
+      by_row (not (has_frame_tag real keys s f)) BadFrameTag (row (not (is_shown p s f)) NoSuchView ∷ times) refl
+      (by_row (not (is_shown p s f)) NoSuchView times refl
+      (by_time 1 (own_time s) f.items items
+      (by_option (λ n. BadEvidence (n + 1)) (position (λ c. not (has_item_tag real keys s c)) (texts_checked p.graph s f)) openings (λ n. refl)
+      (by_option (λ o. BadOpening o.variable) (find (λ o. not (is_right real p.graph s f o)) f.openings) [] (λ o. refl) refl))))
+
+  -- a frame that joins and comes to the session's identifier
+  pub by_join : (a b c d : Bool) (xs : List (Option Refusal)) → may_by xs ≡ true → may_by (row a BadSession ∷ row b Joined ∷ row c CacheFull ∷ row d SessionsFull ∷ xs) ≡ true
+  by_join true b c d xs h = refl
+  by_join false true c d xs h = refl
+  by_join false false true d xs h = refl
+  by_join false false false true xs h = refl
+  by_join false false false false xs h = h
