@@ -1,11 +1,16 @@
 -- Which answers may take memory.
-use Rattle.std.specs.Prelude.{◌≡◌, ℕ, nat_le, ◌+◌, not, Bool, true, false, if◌then◌else◌, List, [], ◌∷◌, refl, Option, Some, None, option_map, option_and_then, find, position}
+use Rattle.std.specs.Prelude.{◌≡◌, ℕ, nat_le, nat_lt, ◌+◌, ◌<◌, ◌⊎◌, length, not, Result, Ok, Err, is_ok, IsErr, Bool, true, false, if◌then◌else◌, List, [], ◌∷◌, refl, Option, Some, None, option_map, option_and_then, find, position}
+use Rattle.std.proofs.Common.{ap, sym, ◌∙◌, inl, inr, arith}
+use Rattle.std.proofs.lemmas.Bool.{cases_Bool}
+use Rattle.sg_model.proofs.Small.{clash}
+use Rattle.sg_model.specs.Limits.{most_frame_bytes}
 use Rattle.sg_model.specs.Lists.{first_some}
 use Rattle.sg_protocol.specs.Acting.{started}
 use Rattle.sg_protocol.specs.Calls.{Event, Refusal, BadSession, Joined, CacheFull, SessionsFull, BadFrameTag, NoSuchView, BadTime, BadEvidence, BadOpening}
 use Rattle.sg_protocol.specs.Checks.{texts_checked}
 use Rattle.sg_protocol.specs.Frame.{Item, Frame}
 use Rattle.sg_protocol.specs.Keyring.{Keyring, Program}
+use Rattle.sg_protocol.specs.Reading.{Read, on, after, read, read_version, read_frame_of, whole}
 use Rattle.sg_protocol.specs.Session.{Session, own_time}
 use Rattle.sg_protocol.specs.Texts.{real}
 use Rattle.sg_protocol.specs.Verdict.{row, bad_time, decided, is_shown, has_frame_tag, has_item_tag, is_right, rows_of_session}
@@ -62,3 +67,20 @@ module _ (e : Event) where
   by_join false false true d xs h = refl
   by_join false false false true xs h = refl
   by_join false false false false xs h = h
+
+-- ---- what is read
+
+-- nothing is read after a wrong beginning
+no_frame : (r : Result (Read ℕ) ℕ) → IsErr r → is_ok (whole (on r read_frame_of)) ≡ false
+no_frame (Err at) h = refl
+no_frame (Ok x) h = clash false h refl
+
+-- what is read is not too long, and has a magic
+pub not_read : (bs : List ℕ) (f : Frame) → read bs ≡ Ok f → (most_frame_bytes < length bs) ⊎ IsErr (read_version 0 bs) → ⊥
+not_read bs f e h = elim (cases_Bool (nat_lt most_frame_bytes (length bs))) [
+  | inl t ↦ clash (is_ok (read bs)) (ap is_ok e) (ap (λ b. is_ok (if b then Err most_frame_bytes else whole (after read_version read_frame_of 0 bs))) t)
+  | inr n ↦ elim h [
+    | inl long ↦ omega (arith, n, long)
+    | inr wrong ↦ clash (is_ok (read bs)) (ap is_ok e) (ap (λ b. is_ok (if b then Err most_frame_bytes else whole (after read_version read_frame_of 0 bs))) n ∙ no_frame (read_version 0 bs) wrong)
+  ]
+]

@@ -35,7 +35,8 @@ use sg_walk::Event;
 
 impl<'p> Node<'p> {
     /// Takes bytes that were delivered: the receipt of the frame that they spell, in the session that it continues or joins, or the
-    /// first cause for which it is refused. After a refusal the node is as before.
+    /// first cause for which it is refused. After a refusal the node is as before. Too many bytes and a wrong beginning are refused
+    /// without memory.
     pub fn deliver(&mut self, bytes: &[u8], notes: &mut Notes) -> Result<Event, Refusal>
         ensures answer { (past : Past) → RepresentsPast self.old past → IsAnswer (answer real (node_of past) (Deliver bytes.now)) (delivery_answer result) }
         ensures state { (past : Past) → RepresentsPast self.old past → result ≢ Err Refusal.OutOfMemory → GoesOn self.old self.new (Deliver bytes.now) past }
@@ -55,7 +56,8 @@ impl<'p> Node<'p> {
     }
 
     /// Takes bytes that were delivered, of which the frame that they spell was read before. The result is that of `deliver`; after
-    /// a refusal the node is as before.
+    /// a refusal the node is as before. An unknown graph, a bad cast, an unknown peer, an unknown session and a session at its turn are
+    /// refused without memory.
     pub fn deliver_frame(
         &mut self,
         frame: &Frame,

@@ -25,8 +25,8 @@ use sg_walk::Event;
 
 impl<'p> Node<'p> {
     /// Starts a session of a cast, at the start node of its graph, or gives the first cause for which it is refused. After a
-    /// refusal the node is as before. Memory isn't taken before the graph, the cast and the keys are found right. It is also told as wanting
-    /// if another graph with the same digest stands before for the same role, so that SHA-256 has collided.
+    /// refusal the node is as before. No memory is taken before the graph, the cast and the keys are found right. `OutOfMemory` is also
+    /// given if the first program for the starting role is of another graph with the same digest, so that SHA-256 has collided.
     pub fn start(&mut self, cast: Cast, notes: &mut Notes) -> Result<Event, StartFault>
         ensures answer { (past : Past) → RepresentsPast self.old past → IsAnswer (answer real (node_of past) (Start cast)) (start_answer result) }
         ensures state { (past : Past) → RepresentsPast self.old past → result ≢ Err StartFault.OutOfMemory → GoesOn self.old self.new (Start cast) past }

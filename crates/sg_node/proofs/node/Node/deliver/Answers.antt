@@ -12,6 +12,7 @@ use Rattle.sg_protocol.specs.Verdict.{verdict_on}
 use Rattle.sg_role.specs.Sending.{with_notes}
 use Rattle.sg_node.proofs.Acts.{with_none}
 use Rattle.sg_node.proofs.Going.{all_reachable}
+use Rattle.sg_node.proofs.Memory.{not_read}
 use Rattle.sg_node.proofs.Taking.{stays_by}
 use Rattle.sg_node.proofs.node.Node.deliver.Goals as goal
 
@@ -23,3 +24,6 @@ returns-in-Err-Malformed-clause-state c = λ past st k. stays_by c.args.self.now
 
 pub returns-in-Err-Malformed-clause-notes : goal.returns-in-Err-Malformed-clause-notes
 returns-in-Err-Malformed-clause-notes c = λ past st k. with_none c.args.notes.now ∙ ap (with_notes c.args.notes.now) (sym (ap (notes_of_read real (node_of past)) (subst (Refuses (read c.args.bytes.now)) c.in-Err-Malformed.field-0-is c.in-Err-Malformed.ensures.exact)))
+
+pub returns-in-Ok-clause-early : goal.returns-in-Ok-clause-early
+returns-in-Ok-clause-early c = λ h q. not_read c.args.bytes.now c.in-Ok.frame c.in-Ok.ensures.exact h
