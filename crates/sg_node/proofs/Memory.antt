@@ -2,6 +2,7 @@
 use Rattle.std.specs.Prelude.{◌≡◌, ℕ, nat_le, nat_lt, ◌+◌, ◌<◌, ◌⊎◌, length, not, Result, Ok, Err, is_ok, IsErr, Bool, true, false, if◌then◌else◌, List, [], ◌∷◌, refl, Option, Some, None, option_map, option_and_then, find, position}
 use Rattle.std.proofs.Common.{ap, ◌∙◌, inl, inr, arith}
 use Rattle.std.proofs.lemmas.Bool.{cases_Bool}
+use Rattle.std.proofs.lemmas.Bool.Decides.{nat_tests}
 use Rattle.sg_model.proofs.Small.{clash}
 use Rattle.sg_model.specs.Limits.{most_frame_bytes}
 use Rattle.sg_model.specs.Lists.{first_some}
@@ -40,13 +41,13 @@ module _ (e : Event) where
   by_option g None xs k h = h
   by_option g (Some a) xs k h = k a
 
+  by_bit : (b : Bool) (r : Refusal) (o : Option Refusal) (xs : List (Option Refusal)) → may_take_memory (decided e (Some r)) ≡ true → may_by (o ∷ xs) ≡ true → may_by ((if b then Some r else o) ∷ xs) ≡ true
+  by_bit true r o xs k h = k
+  by_bit false r o xs k h = h
+
   by_time : (n before : ℕ) (is : List Item) (xs : List (Option Refusal)) → may_by xs ≡ true → may_by (bad_time n before is ∷ xs) ≡ true
   by_time n before [] xs h = h
-  by_time n before (i ∷ is) xs h = go (nat_le i.time before)
-    where
-      go : (b : Bool) → may_by ((if b then Some (BadTime n i.time (before + 1)) else bad_time (n + 1) i.time is) ∷ xs) ≡ true
-      go true = refl
-      go false = by_time (n + 1) i.time is xs h
+  by_time n before (i ∷ is) xs h = by_bit (nat_le i.time before) (BadTime n i.time (before + 1)) (bad_time (n + 1) i.time is) xs refl (by_time (n + 1) i.time is xs h)
 
   -- a frame that comes to its session
   pub by_session : (keys : Keyring) (p : Program) (s : Session) (f : Frame) → may_by (rows_of_session real keys p s f) ≡ true
@@ -80,7 +81,7 @@ pub not_read : (bs : List ℕ) (f : Frame) → read bs ≡ Ok f → (most_frame_
 not_read bs f e h = elim (cases_Bool (nat_lt most_frame_bytes (length bs))) [
   | inl t ↦ clash (is_ok (read bs)) (ap is_ok e) (ap (λ b. is_ok (if b then Err most_frame_bytes else whole (after read_version read_frame_of 0 bs))) t)
   | inr n ↦ elim h [
-    | inl long ↦ omega (arith, n, long)
+    | inl long ↦ grind (arith, nat_tests, n, long)
     | inr wrong ↦ clash (is_ok (read bs)) (ap is_ok e) (ap (λ b. is_ok (if b then Err most_frame_bytes else whole (after read_version read_frame_of 0 bs))) n ∙ no_frame (read_version 0 bs) wrong)
   ]
 ]
