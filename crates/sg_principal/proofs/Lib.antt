@@ -1,3 +1,4 @@
 pub mod Playing
 pub mod Keeping
 pub mod Serving
+pub mod OneLedger

@@ -1,3 +1,4 @@
 pub mod Runs
 pub mod Ledgers
 pub mod Serves
+pub mod Laws

@@ -4,9 +4,13 @@ ghost use Rattle.sg_model.specs.Limits.{most_graph_file, most_logs_file, most_sc
 ghost use Rattle.sg_ending.specs.Laws.{EndsOnce};
 ghost use Rattle.sg_design.specs.Claimed.{Suggests};
 ghost use Rattle.sg_design.specs.Ends.{Checks, Compiles, Composes};
+ghost use Rattle.sg_design.specs.Laws.{ClaimsEndOnce};
+ghost use Rattle.sg_principal.specs.Laws.{LedgersAreMadeByBytes};
 ghost use Rattle.sg_replay.specs.Ends.{Audits, Drives, Replays};
+ghost use Rattle.sg_setup.specs.Laws.{PrincipalsAreOne, SetupsAreOne};
 
 use sg_drive::laws::generated_is_one;
+use sg_ledger::Disk;
 
 /// The endings of a command on one file exclude each other: unless a file fails or memory runs out, the same files ask for the same ending.
 /// Of a graph that is refused this says which graph it is, not for which fault.
@@ -21,3 +25,22 @@ pub fn one_file_ends_once()
 {
     generated_is_one();
 }
+
+/// The endings of `claims` on a file of a graph and one of claims exclude each other. Of answers that are not written whole this doesn't say whether all
+/// claims hold.
+pub fn claims_end_once()
+    ensures { ClaimsEndOnce }
+{}
+
+/// The same files hold one principal, and one setup of a run, or none for one cause: unless a file fails or memory runs out, a run doesn't play with
+/// files that are refused, and the same files are refused in one way. Of a program whose graph is refused this says which graph it is, not for which
+/// fault.
+pub fn runs_lack_once()
+    ensures principals { PrincipalsAreOne }
+    ensures setups { SetupsAreOne }
+{}
+
+/// The bytes of a disk's file, if they are known, decide whether a ledger is made, unless the disk fails or memory runs out.
+pub fn ledger_is_made_once<D: Disk>()
+    ensures { LedgersAreMadeByBytes D.bound D.seen D.may_leave D.faults }
+{}
