@@ -1,10 +1,9 @@
 -- The same files hold one setup, or none for one cause.
-use Rattle.std.proofs.Common.{◌≡◌, ◌≢◌, ℕ, zero, suc, ◌+◌, ◌<◌, ◌≤◌, inl, inr, true, false, List, [], ◌∷◌, ◌++◌, length, take, get_or, Some, Result, Ok, Err, refl, sym, ap, ◌∙◌, subst, arith, length-append, add-one}
+use Rattle.std.proofs.Common.{◌≡◌, ◌≢◌, ℕ, zero, suc, ◌+◌, ◌<◌, ◌≤◌, inl, inr, false, List, [], ◌∷◌, ◌++◌, length, take, get_or, Some, Ok, Err, refl, sym, ap, ◌∙◌, subst, arith, length-append, add-one}
 use Rattle.std.specs.List.{list_any}
 use Rattle.std.proofs.Math.Seq.{take-append_seam, get_or-append_seam}
 use Rattle.std.proofs.lemmas.Bool.{cases_lt}
 use Rattle.std.proofs.lemmas.List.{take_all, take_more}
-use Rattle.sg_compile.specs.Laws.{told}
 use Rattle.sg_compile.specs.Loading.{IsLoadFault}
 use Rattle.sg_compile.specs.declared.check.CompileFault.{CompileFault}
 use Rattle.sg_compile.specs.declared.check.CompileFault.TheVariants.{OutOfMemory as CompileMemory}
@@ -270,10 +269,10 @@ module _ (known : List (List ℕ × List ℕ)) where
       elim (cases_lt i j) [
         | inl y ↦ absurd (never_there files j t.programs i m m' d (let l = t.within in omega (arith, l)) t.held y s p)
         | inr z ↦
-          elim (cases_lt j i) [
-            | inl y ↦ absurd (never_there files i s.programs j n n' e (let l = s.within in omega (arith, l)) s.held y t q)
-            | inr w ↦ (let same : j ≡ i = omega (arith, z, w) in stops_once files m m' n n' d e i s (subst (StopsAt files n n' e) same t) p q)
-          ]
+            elim (cases_lt j i) [
+              | inl y ↦ absurd (never_there files i s.programs j n n' e (let l = s.within in omega (arith, l)) s.held y t q)
+              | inr w ↦ (let same : j ≡ i = omega (arith, z, w) in stops_once files m m' n n' d e i s (subst (StopsAt files n n' e) same t) p q)
+            ]
       ]
 
   -- ---- a principal
