@@ -47,6 +47,11 @@ are_opening (a ∷ b ∷ ws) = bytes_eq a (codes "graph") && bytes_eq b (codes "
 unfoldable pub opens : Line → Bool
 opens line = are_opening (words (content line))
 
+-- the first line that isn't skipped is the line `graph {`
+abbrev pub begins_block : List Line → Bool
+begins_block [] = false
+begins_block (l ∷ ls) = if is_skipped l then begins_block ls else opens l
+
 -- the sessions after the graph that the text spells, if it spells one
 abbrev pub with_graph : Result Graph ParseFault → ℕ → List Line → Result Logs Fault
 with_graph (Ok g) n ls = read_sessions g n nothing ls

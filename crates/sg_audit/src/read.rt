@@ -1,13 +1,14 @@
 //! Logs from bytes.
-ghost use Rattle.std.specs.Prelude.{◌≡◌, ◌<◌, ◌^◌, ◌+◌, ◌⊎◌, [], All, map, length, Ok, IfOk, IfErr, MatchResult};
+ghost use Rattle.std.specs.Prelude.{◌≡◌, ◌≢◌, ◌<◌, ◌^◌, ◌+◌, ◌⊎◌, [], All, map, length, Ok, Err, IfOk, IfErr, IsFalse, IsTrue, MatchResult, OnOk};
 ghost use Rattle.sg_audit.specs.Sessions.{Logs as Spelled};
 ghost use Rattle.sg_audit.specs.Spells.{SpellsLogs, IsFault};
 ghost use Rattle.sg_parse.specs.Reading.{read as parsed};
-ghost use Rattle.sg_audit.specs.Read.{add_line, read, read_block, read_lines, read_sessions, with_graph};
+ghost use Rattle.sg_audit.specs.Read.{add_line, begins_block, read, read_block, read_lines, read_sessions, with_graph};
 ghost use Rattle.sg_audit.specs.SoFar.{nothing};
 ghost use Rattle.sg_audit.specs.TakingLines.{Refuses, Takes, fault_at, logs_held, session_of};
 ghost use Rattle.sg_audit.specs.Agree.{AreLogs};
 ghost use Rattle.sg_audit.specs.Model.{logs_of, reported_of};
+ghost use Rattle.sg_sched.specs.Text.{lines as lines_of};
 
 use crate::fault::{LogFault, Mistake, Stop};
 use crate::line::read_line;
@@ -21,7 +22,8 @@ use sg_sched::{Words, is_skipped, line_content};
 use std::alloc::Global;
 
 /// The logs that the bytes spell, or the first wrong line from the top, lines counted from 1, and what is wrong with it; or out of
-/// memory. There are fewer than 4,294,967,295 bytes. It reads each byte once and takes time in proportion to their number.
+/// memory. There are fewer than 4,294,967,295 bytes. It reads each byte once and takes time in proportion to their number. It takes no
+/// memory before the line `graph {`.
 pub fn read_logs(alloc: Global, bytes: &[u8]) -> Result<Logs, LogFault>
     requires { length bytes.now + 1 < 2 ^ 32 }
     // What is read is spelled so.
@@ -32,6 +34,8 @@ pub fn read_logs(alloc: Global, bytes: &[u8]) -> Result<Logs, LogFault>
     ensures wrong { IfErr result (λ e. (e ≡ LogFault.OutOfMemory) ⊎ IsFault bytes.now e) }
     // What has a fault is refused with the first one, unless memory runs out.
     ensures refused { (e : LogFault) → IsFault bytes.now e → MatchResult result (λ held. ⊥) (λ f. (f ≡ LogFault.OutOfMemory) ⊎ (f ≡ e)) }
+    // Memory never runs out if the line `graph {` isn't the first that is neither blank nor a comment.
+    ensures early { IsFalse (begins_block (lines_of bytes.now)) → result ≢ Err LogFault.OutOfMemory }
     // Each session can be audited.
     ensures fit { IfOk result (λ l. All (λ s. AreLogs l.graph (logs_of s) (reported_of s)) l.sessions) }
 {
@@ -43,6 +47,7 @@ pub fn read_logs(alloc: Global, bytes: &[u8]) -> Result<Logs, LogFault>
 fn read_text(alloc: Global, bytes: &[u8]) -> Result<Logs, LogFault>
     requires { length bytes.now + 1 < 2 ^ 32 }
     ensures exact { MatchResult result (λ l. read bytes.now ≡ Ok (logs_held l)) (Refuses (read bytes.now)) }
+    ensures early { IsFalse (begins_block (lines_of bytes.now)) → result ≢ Err LogFault.OutOfMemory }
     ensures fit { IfOk result (λ l. All (λ s. AreLogs l.graph (logs_of s) (reported_of s)) l.sessions) }
 {
     let mut lines = Lines::new(bytes);
@@ -56,7 +61,9 @@ fn read_text(alloc: Global, bytes: &[u8]) -> Result<Logs, LogFault>
 
 // Takes lines off up to `graph {`.
 fn skip_to_block(lines: &mut Lines<'_>) -> Result<(), LogFault>
-    ensures { MatchResult result (λ _. read_lines (lines.old.number + 1) lines.old.lines ≡ read_block lines.new.number [] lines.new.lines) (Refuses (read_lines (lines.old.number + 1) lines.old.lines)) }
+    ensures exact { MatchResult result (λ _. read_lines (lines.old.number + 1) lines.old.lines ≡ read_block lines.new.number [] lines.new.lines) (Refuses (read_lines (lines.old.number + 1) lines.old.lines)) }
+    ensures begins { OnOk result (IsTrue (begins_block lines.old.lines)) }
+    ensures early { result ≢ Err LogFault.OutOfMemory }
 {
     'lines: while let Some(line) = lines.next() {
         if is_skipped(line_content(line)) {
