@@ -20,7 +20,7 @@ use Rattle.sg_drive.specs.Setup.{numbered_session, setup}
 use Rattle.sg_drive.specs.Summary.{IsSummary}
 use Rattle.sg_drive.specs.declared.fault.GenerateFault.{GenerateFault}
 use Rattle.sg_drive.specs.declared.fault.GenerateFault.TheVariants.{RecordFull}
-use Rattle.sg_ending.specs.Ending.{Ending, Written, NoCommand, NoGraph, NoExpansion, GraphRefused, NoRole, WrongLine, KeysRefused, ScriptRefused, ClaimsRefused, ClaimFails, ProgramRefused, NoLedger, BadSlot, LedgerNotEmpty, FileFailed, WriteFailed, LinkFailed, InputFailed, DiskFailed, NoMemory, NoSuchFile, TooLarge}
+use Rattle.sg_ending.specs.Ending.{Ending, NoMemory, TooLarge}
 use Rattle.sg_ending.specs.Output.{Output}
 use Rattle.sg_replay.specs.Driven.{StopsDrive, Sums}
 use Rattle.sg_replay.specs.Ends.{Drives, IsDriving}
@@ -67,26 +67,6 @@ module _ (seed sessions : ℕ) (g : Graph) (programs : List Program) where
 
     -- the program ends without a summary
     pub stopped : (out : Output) (ending : Ending) → StopsDrive seed sessions g programs ending → Drives seed sessions bytes out out ending
-    stopped out Written h = absurd h
-    stopped out NoCommand h = absurd h
-    stopped out (NoGraph fault) h = absurd h
-    stopped out (NoExpansion fault) h = absurd h
-    stopped out (GraphRefused g fault) h = absurd h
-    stopped out (NoRole role) h = absurd h
-    stopped out (WrongLine line wrong) h = absurd h
-    stopped out (KeysRefused fault) h = absurd h
-    stopped out (ScriptRefused fault) h = absurd h
-    stopped out (ClaimsRefused fault) h = absurd h
-    stopped out ClaimFails h = absurd h
-    stopped out (ProgramRefused number cause) h = absurd h
-    stopped out NoLedger h = absurd h
-    stopped out (BadSlot slot) h = absurd h
-    stopped out LedgerNotEmpty h = absurd h
-    stopped out (FileFailed file) h = absurd h
-    stopped out WriteFailed h = absurd h
-    stopped out LinkFailed h = absurd h
-    stopped out InputFailed h = absurd h
-    stopped out DiskFailed h = absurd h
     stopped out NoMemory h = refl
-    stopped out (NoSuchFile file) h = absurd h
     stopped out (TooLarge what) h = (refl, h.0, record { graph = g; programs = programs; spelled = spelled; compiled = compiled; few = few; overfull = h.1 })
+    stopped out _ h = absurd h

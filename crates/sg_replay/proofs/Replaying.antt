@@ -14,7 +14,7 @@ use Rattle.sg_world.specs.Account.{CanBeNamed, account}
 use Rattle.sg_world.specs.Faults.{IsFull}
 use Rattle.sg_world.specs.Laws.{HasPrograms, LawsHold}
 use Rattle.sg_world.specs.Replay.{Replay, up_to}
-use Rattle.sg_ending.specs.Ending.{Ending, Written, NoCommand, NoGraph, NoExpansion, GraphRefused, NoRole, WrongLine, KeysRefused, ScriptRefused, ClaimsRefused, ClaimFails, ProgramRefused, NoLedger, BadSlot, LedgerNotEmpty, FileFailed, WriteFailed, LinkFailed, InputFailed, DiskFailed, NoMemory, NoSuchFile, TooLarge}
+use Rattle.sg_ending.specs.Ending.{Ending, NoMemory, TooLarge}
 use Rattle.sg_ending.specs.Output.{Output}
 use Rattle.sg_replay.specs.Ends.{IsReplay, Replays}
 use Rattle.sg_replay.specs.Replayed.{CanBeReplayed, HasNoRoom, Reports, Stops, replay_of}
@@ -35,29 +35,9 @@ module _ (programs : List Program) (s : Schedule) where
 
   -- a step that finds no room stops the replay
   pub stops : (n : ℕ) (w : Replay) (ending : Ending) → w ≡ up_to n (replay_of programs s) → n < length s.steps → HasNoRoom w ending → Stops programs s ending
-  stops n w Written e l h = absurd h
-  stops n w NoCommand e l h = absurd h
-  stops n w (NoGraph fault) e l h = absurd h
-  stops n w (NoExpansion fault) e l h = absurd h
-  stops n w (GraphRefused g fault) e l h = absurd h
-  stops n w (NoRole role) e l h = absurd h
-  stops n w (WrongLine line wrong) e l h = absurd h
-  stops n w (KeysRefused fault) e l h = absurd h
-  stops n w (ScriptRefused fault) e l h = absurd h
-  stops n w (ClaimsRefused fault) e l h = absurd h
-  stops n w ClaimFails e l h = absurd h
-  stops n w (ProgramRefused number cause) e l h = absurd h
-  stops n w NoLedger e l h = absurd h
-  stops n w (BadSlot slot) e l h = absurd h
-  stops n w LedgerNotEmpty e l h = absurd h
-  stops n w (FileFailed file) e l h = absurd h
-  stops n w WriteFailed e l h = absurd h
-  stops n w LinkFailed e l h = absurd h
-  stops n w InputFailed e l h = absurd h
-  stops n w DiskFailed e l h = absurd h
   stops n w NoMemory e l h = tt
-  stops n w (NoSuchFile file) e l h = absurd h
   stops n w (TooLarge what) e l h = (h.0, record { before = n; begins = l; full = subst IsFull e h.1 })
+  stops n w _ e l h = absurd h
 
   -- each step that was taken can be reported
   pub named : (w : Replay) → w ≡ replay_of programs s → CanBeReplayed s → All (CanBeNamed w.schedule) w.schedule.steps
@@ -79,26 +59,6 @@ module _ (programs : List Program) (s : Schedule) where
 
     -- the program ends without a report
     pub stopped : (out : Output) (ending : Ending) → Stops programs s ending → Replays bytes out out ending
-    stopped out Written h = absurd h
-    stopped out NoCommand h = absurd h
-    stopped out (NoGraph fault) h = absurd h
-    stopped out (NoExpansion fault) h = absurd h
-    stopped out (GraphRefused g fault) h = absurd h
-    stopped out (NoRole role) h = absurd h
-    stopped out (WrongLine line wrong) h = absurd h
-    stopped out (KeysRefused fault) h = absurd h
-    stopped out (ScriptRefused fault) h = absurd h
-    stopped out (ClaimsRefused fault) h = absurd h
-    stopped out ClaimFails h = absurd h
-    stopped out (ProgramRefused number cause) h = absurd h
-    stopped out NoLedger h = absurd h
-    stopped out (BadSlot slot) h = absurd h
-    stopped out LedgerNotEmpty h = absurd h
-    stopped out (FileFailed file) h = absurd h
-    stopped out WriteFailed h = absurd h
-    stopped out LinkFailed h = absurd h
-    stopped out InputFailed h = absurd h
-    stopped out DiskFailed h = absurd h
     stopped out NoMemory h = refl
-    stopped out (NoSuchFile file) h = absurd h
     stopped out (TooLarge what) h = (refl, inr (h.0, record { schedule = s; programs = programs; spelled = spelled; compiled = compiled; few = few; overfull = h.1 }))
+    stopped out _ h = absurd h

@@ -1,6 +1,6 @@
 -- With which statuses the program ends after a play.
 use Rattle.std.proofs.Common.{◌≡◌, ℕ, ◌⊎◌, inl, inr, List, Option, Some, None, refl, sym, subst}
-use Rattle.sg_ending.specs.Ending.{Ending, Written, NoCommand, NoGraph, NoExpansion, GraphRefused, NoRole, WrongLine, KeysRefused, ScriptRefused, ClaimsRefused, ClaimFails, ProgramRefused, NoLedger, BadSlot, LedgerNotEmpty, FileFailed, WriteFailed, LinkFailed, InputFailed, DiskFailed, NoMemory, NoSuchFile, TooLarge, status_of, line_of}
+use Rattle.sg_ending.specs.Ending.{Ending, Written, WriteFailed, LinkFailed, InputFailed, DiskFailed, NoMemory, status_of, line_of}
 use Rattle.sg_ending.specs.Output.{Output}
 use Rattle.sg_principal.specs.Ledgers.{CanHaveKept}
 use Rattle.sg_principal.specs.Runs.{CanHavePlayed}
@@ -15,25 +15,7 @@ of_play Written h = inl refl
 of_play WriteFailed h = inr (inl refl)
 of_play LinkFailed h = inr (inr (inl refl))
 of_play NoMemory h = inr (inr (inr refl))
-of_play NoCommand h = absurd h
-of_play (NoGraph fault) h = absurd h
-of_play (NoExpansion fault) h = absurd h
-of_play (GraphRefused g fault) h = absurd h
-of_play (NoRole role) h = absurd h
-of_play (WrongLine line wrong) h = absurd h
-of_play (KeysRefused fault) h = absurd h
-of_play (ScriptRefused fault) h = absurd h
-of_play (ClaimsRefused fault) h = absurd h
-of_play ClaimFails h = absurd h
-of_play (ProgramRefused number cause) h = absurd h
-of_play NoLedger h = absurd h
-of_play (BadSlot slot) h = absurd h
-of_play LedgerNotEmpty h = absurd h
-of_play (FileFailed file) h = absurd h
-of_play InputFailed h = absurd h
-of_play DiskFailed h = absurd h
-of_play (NoSuchFile file) h = absurd h
-of_play (TooLarge what) h = absurd h
+of_play _ h = absurd h
 
 -- and after one over a ledger
 of_keep : (e : Ending) → CanHaveKept e → IsOfKeep (status_of e)
@@ -42,24 +24,7 @@ of_keep Written h = inl (of_play Written h)
 of_keep WriteFailed h = inl (of_play WriteFailed h)
 of_keep LinkFailed h = inl (of_play LinkFailed h)
 of_keep NoMemory h = inl (of_play NoMemory h)
-of_keep NoCommand h = absurd h
-of_keep (NoGraph fault) h = absurd h
-of_keep (NoExpansion fault) h = absurd h
-of_keep (GraphRefused g fault) h = absurd h
-of_keep (NoRole role) h = absurd h
-of_keep (WrongLine line wrong) h = absurd h
-of_keep (KeysRefused fault) h = absurd h
-of_keep (ScriptRefused fault) h = absurd h
-of_keep (ClaimsRefused fault) h = absurd h
-of_keep ClaimFails h = absurd h
-of_keep (ProgramRefused number cause) h = absurd h
-of_keep NoLedger h = absurd h
-of_keep (BadSlot slot) h = absurd h
-of_keep LedgerNotEmpty h = absurd h
-of_keep (FileFailed file) h = absurd h
-of_keep InputFailed h = absurd h
-of_keep (NoSuchFile file) h = absurd h
-of_keep (TooLarge what) h = absurd h
+of_keep _ h = absurd h
 
 -- and after one for an application
 of_serve : (e : Ending) → CanHaveServed e → IsOfServe (status_of e)
@@ -69,23 +34,7 @@ of_serve WriteFailed h = inl (of_keep WriteFailed tt)
 of_serve LinkFailed h = inl (of_keep LinkFailed tt)
 of_serve DiskFailed h = inl (of_keep DiskFailed tt)
 of_serve NoMemory h = inl (of_keep NoMemory tt)
-of_serve NoCommand h = absurd h
-of_serve (NoGraph fault) h = absurd h
-of_serve (NoExpansion fault) h = absurd h
-of_serve (GraphRefused g fault) h = absurd h
-of_serve (NoRole role) h = absurd h
-of_serve (WrongLine line wrong) h = absurd h
-of_serve (KeysRefused fault) h = absurd h
-of_serve (ScriptRefused fault) h = absurd h
-of_serve (ClaimsRefused fault) h = absurd h
-of_serve ClaimFails h = absurd h
-of_serve (ProgramRefused number cause) h = absurd h
-of_serve NoLedger h = absurd h
-of_serve (BadSlot slot) h = absurd h
-of_serve LedgerNotEmpty h = absurd h
-of_serve (FileFailed file) h = absurd h
-of_serve (NoSuchFile file) h = absurd h
-of_serve (TooLarge what) h = absurd h
+of_serve _ h = absurd h
 
 -- a status that is said is that of the ending, or that of a failed write, or that of 'out of memory'
 module _ (P : ℕ → Type 0) (six : P 6) (eight : P 8) where
