@@ -1,3 +1,4 @@
 pub mod NodeJoins
 pub mod Lives
 pub mod Plays
+pub mod Serving

@@ -42,13 +42,13 @@ pub runs_are_lives : RunsAreLives
 runs_are_lives opened [] h = ([], tt, refl)
 runs_are_lives opened (r ∷ rs) h =
     let past : Past = r.past in
-    let f : RepresentsFirst r.image opened past.calls r.reported r.sent = h.1 in
+    let f : RepresentsFirst r.image opened past.calls r.reported r.sent = h.0.left in
     let life : Past = record { keys = past.keys; programs = past.programs; first = opened; calls = f.prefix } in
-    let own : AreAnswers real (new_node past.keys past.programs opened) past.calls = subst (λ js. AreAnswers real (new_node past.keys past.programs js) past.calls) (h.0).0 (h.0).1 in
+    let own : AreAnswers real (new_node past.keys past.programs opened) past.calls = subst (λ js. AreAnswers real (new_node past.keys past.programs js) past.calls) h.0.over.0 h.0.over.1 in
     let answered : AreAnswers real (new_node past.keys past.programs opened) f.prefix = first_answers real (new_node past.keys past.programs opened) f.prefix f.rest (subst (AreAnswers real (new_node past.keys past.programs opened)) f.is own) in
     let joins : (node_of life).joins ≡ opened ++ joins_made f.prefix = joins_after_all real (new_node past.keys past.programs opened) f.prefix answered in
-    let next : (h.2).0 ≡ opened ++ joins_made f.prefix = only_joins r.image (h.2).0 (opened ++ joins_made f.prefix) (h.2).1 f.represents in
-    let rest : (lives : List (ℕ × Past)) × AreLives real (h.2).0 (map (λ (l : ℕ × Past). l.1) lives) × (reported_in_lives lives ≡ reported_in_runs rs) = runs_are_lives (h.2).0 rs (h.2).2 in
+    let next : (h.1).0 ≡ opened ++ joins_made f.prefix = only_joins r.image (h.1).0 (opened ++ joins_made f.prefix) (h.1).1 f.represents in
+    let rest : (lives : List (ℕ × Past)) × AreLives real (h.1).0 (map (λ (l : ℕ × Past). l.1) lives) × (reported_in_lives lives ≡ reported_in_runs rs) = runs_are_lives (h.1).0 rs (h.1).2 in
     let reported : take r.reported f.prefix ≡ take r.reported past.calls = sym (ap (take r.reported) f.is ∙ take_within r.reported f.prefix f.rest f.enough) in (
       (r.reported, life) ∷ rest.0,
       (refl, answered, subst (λ js. AreLives real js (map (λ (l : ℕ × Past). l.1) rest.0)) (next ∙ sym joins) rest.1),

@@ -1,18 +1,22 @@
 -- A run of `keep` is a run over a ledger.
-use Rattle.std.specs.Prelude.{◌≡◌, ℕ, ◌+◌, ◌≤◌, List, [], ◌∷◌, ◌++◌, length, find, refl, Option, Some, None, Result, Ok, Err}
+use Rattle.std.specs.Prelude.{◌≡◌, ℕ, ◌+◌, ◌≤◌, List, [], ◌∷◌, ◌++◌, length, take, drop, find, refl, Option, Some, None, Result, Ok, Err}
 use Rattle.std.specs.Option.{option_map_or}
-use Rattle.std.proofs.Common.{ap, sym, subst, arith, append-nil}
+use Rattle.std.proofs.Common.{ap, sym, ◌∙◌, subst, arith, append-nil, append_assoc}
+use Rattle.std.proofs.Math.Seq.{take-append_seam}
+use Rattle.std.proofs.lemmas.List.{length-append, take-append-drop}
+use Rattle.std.proofs.lemmas.List.Concat.{flat_map-append}
 use Rattle.sg_base.specs.declared.address.Addr.{Addr}
-use Rattle.sg_keep.specs.Joins.{joins_made}
-use Rattle.sg_keep.specs.KeptRuns.{HasKept, KeptPrefix, KeptBegun, RepresentsFirst}
+use Rattle.sg_base.specs.Outside.{Appends}
+use Rattle.sg_keep.specs.KeptRuns.{HasKept, KeptPrefix, RepresentsFirst}
 use Rattle.sg_keep.specs.declared.fault.KeepFault.{KeepFault}
 use Rattle.sg_keep.specs.declared.fault.KeepFault.TheVariants.{Played, DiskFailed}
-use Rattle.sg_ledger.specs.Format.{Join, Represents}
+use Rattle.sg_keep.proofs.Going.{by_deliveries, by_starts, in_step_on}
+use Rattle.sg_ledger.specs.Format.{Join}
 use Rattle.sg_model.specs.Names.{Name}
 use Rattle.sg_play.specs.Choosing.{is_ready}
 use Rattle.sg_play.specs.Ends.{Outside}
 use Rattle.sg_play.specs.Played.{Play, answer_in, called, chosen, act_by, or_abandons, acts, plays, plays_on, sid_answered, with_turn, without, cast_of_start, next_random, starts, all_starts, all_deliveries, beginning, played}
-use Rattle.sg_play.specs.Steps.{frames_of}
+use Rattle.sg_play.specs.Steps.{Step, frames_of, lines_of}
 use Rattle.sg_play.specs.declared.fault.PlayFault.TheVariants.{LinkFailed, WriteFailed, OutOfMemory}
 use Rattle.sg_protocol.specs.Acting.{answer}
 use Rattle.sg_protocol.specs.Calls.{Call, Answer, Start, Abandon, Deliver, Sends}
@@ -25,7 +29,8 @@ use Rattle.sg_protocol.specs.Texts.{Hash, real}
 use Rattle.sg_protocol.specs.Named.{live_with}
 use Rattle.sg_protocol.specs.Turn.{turn_of}
 use Rattle.sg_script.specs.Script.{Start as ScriptStart, Choice, Script}
-use Rattle.sg_lives.specs.LedgerRuns.{IsOver, KeptIsRun}
+use Rattle.sg_lives.specs.LedgerRuns.{HasWritten, IsOver, IsRun, LedgerRun}
+use Rattle.sg_lives.specs.PlayedRuns.{IsPlayedRun, KeptIsRun}
 
 -- one answer more
 answers_more : (sha : Hash) (n : Node) (cs : List AnsweredCall) (c : Call) → AreAnswers sha n cs → AreAnswers sha n (cs ++ record { call = c; answer = answer sha (node_after_all n cs) c } ∷ [])
@@ -79,23 +84,66 @@ module _ (opened : List Join) where
   played_over : (keys : Keyring) (programs : List Program) (script : Script) (deliveries random : List (List ℕ)) → IsOver opened (played keys programs opened script deliveries random).past
   played_over keys programs script deliveries random = deliveries_over deliveries (all_starts (beginning keys programs opened script.choices random) script.starts) (starts_over script.starts (beginning keys programs opened script.choices random) (refl, tt))
 
--- what was left is of first calls
-abbrev IsLeft : List ℕ → List Join → List AnsweredCall → Type 0
-IsLeft image opened calls = (reported : ℕ) × (sent : List (Addr × List ℕ)) × RepresentsFirst image opened calls reported sent
+-- ---- what was written
 
-left_by : (start now : Outside) (image : List ℕ) (p : Play) (result : Result (Unit {0}) KeepFault) → HasKept start now (λ i. i ≡ image) p result → IsLeft image p.past.first p.past.calls
-left_by start now image p (Ok u) h = (
-  length p.past.calls,
-  frames_of p.steps,
-  record { prefix = p.past.calls; rest = []; is = sym (append-nil p.past.calls); enough = omega arith; sent = h.2; represents = h.1 image refl },
-)
-left_by start now image p (Err (Played LinkFailed)) h = (length h.given.prefix, frames_of h.given.prefix, h.kept image refl)
-left_by start now image p (Err (Played WriteFailed)) h = (length h.given.prefix + 1, frames_of h.given.prefix ++ h.given.step.frames, h.kept image refl)
-left_by start now image p (Err (Played OutOfMemory)) h = (length h.given.prefix, frames_of h.given.prefix, h.kept image refl)
-left_by start now image p (Err DiskFailed) h = (length h.given.prefix, frames_of h.given.prefix, h.kept image refl)
+-- the lines of these steps
+of_whole : (old new : Option (List ℕ)) (steps : List Step) → Appends old new (lines_of steps) → HasWritten old new steps
+of_whole old new steps h = record { written = lines_of steps; rest = []; is = sym (append-nil (lines_of steps)); lines = h }
+
+-- and those of one more in part
+of_begun : (old new : Option (List ℕ)) (prefix : List Step) (step : Step) (bytes : ℕ) → Appends old new (lines_of prefix ++ take bytes step.line) → HasWritten old new (prefix ++ step ∷ [])
+of_begun old new prefix step bytes h =
+    let some = take bytes step.line in
+    let others = drop bytes step.line in
+    record {
+      written = lines_of prefix ++ some;
+      rest = others;
+      is = flat_map-append (λ (s : Step). s.line) prefix (step ∷ []) ∙ ap (λ (l : List ℕ). lines_of prefix ++ l) (append-nil step.line ∙ sym (take-append-drop bytes step.line)) ∙ sym (append_assoc (lines_of prefix) some others);
+      lines = h;
+    }
+
+-- ---- what was left
+
+module _ (old new : Outside) (opened : List Join) (p : Play) (over : IsOver opened p.past) (in_step : length p.steps ≡ length p.past.calls) (image : List ℕ) where
+  abbrev IsLeft : Type 0
+  IsLeft = (r : LedgerRun) × (r.image ≡ image) × IsRun opened r × IsPlayedRun old new p r
+
+  -- with these first steps, whose lines were begun
+  left_with : (steps rest : List Step) → p.steps ≡ steps ++ rest → RepresentsFirst image p.past.first p.past.calls (length steps) (frames_of steps) → HasWritten old.written new.written steps → Appends old.sent new.sent (frames_of steps) → IsLeft
+  left_with steps rest is left written sent = (
+    record { past = p.past; reported = length steps; sent = frames_of steps; image = image },
+    refl,
+    record { over = over; left = subst (λ (js : List Join). RepresentsFirst image js p.past.calls (length steps) (frames_of steps)) over.0 left },
+    record { past = refl; written = subst (HasWritten old.written new.written) (sym (ap (take (length steps)) is ∙ take-append_seam steps rest)) written; sent = sent },
+  )
+
+  module _ (may_leave : List ℕ → Type 0) (may : may_leave image) where
+    of_prefix : KeptPrefix old new may_leave p → IsLeft
+    of_prefix h = left_with h.given.prefix h.given.rest h.given.is (h.kept image may) (of_whole old.written new.written h.given.prefix h.given.whole.lines) h.given.whole.frames
+
+    left_by : (result : Result (Unit {0}) KeepFault) → HasKept old new may_leave p result → IsLeft
+    left_by (Ok u) h =
+        left_with p.steps [] (sym (append-nil p.steps)) (record { prefix = p.past.calls; rest = []; is = sym (append-nil p.past.calls); enough = omega (arith, in_step); sent = h.2; represents = h.1 image may })
+        (of_whole old.written new.written p.steps h.0.lines) h.0.frames
+    left_by (Err (Played LinkFailed)) h = of_prefix h
+    left_by (Err (Played WriteFailed)) h =
+        let steps = h.given.prefix ++ h.given.step ∷ [] in
+        let count : length steps ≡ length h.given.prefix + 1 = length-append h.given.prefix (h.given.step ∷ []) in
+        let frames : frames_of steps ≡ frames_of h.given.prefix ++ h.given.step.frames = flat_map-append (λ (s : Step). s.frames) h.given.prefix (h.given.step ∷ []) ∙ ap (λ (fs : List (Addr × List ℕ)). frames_of h.given.prefix ++ fs) (append-nil h.given.step.frames) in
+        left_with steps h.given.rest (h.given.is ∙ sym (append_assoc h.given.prefix (h.given.step ∷ []) h.given.rest))
+        (subst (λ (n : ℕ). RepresentsFirst image p.past.first p.past.calls n (frames_of steps)) (sym count) (subst (RepresentsFirst image p.past.first p.past.calls (length h.given.prefix + 1)) (sym frames) (h.kept image may)))
+        (of_begun old.written new.written h.given.prefix h.given.step h.given.bytes h.given.lines) (subst (Appends old.sent new.sent) (sym frames) h.given.frames)
+    left_by (Err (Played OutOfMemory)) h = of_prefix h
+    left_by (Err DiskFailed) h = of_prefix h
+
+-- as many steps as calls
+played_in_step : (keys : Keyring) (programs : List Program) (opened : List Join) (script : Script) (deliveries random : List (List ℕ)) →
+    let p = played keys programs opened script deliveries random in length p.steps ≡ length p.past.calls
+played_in_step keys programs opened script deliveries random =
+    let begun : Play = beginning keys programs opened script.choices random in
+    let started : Play = all_starts begun script.starts in
+    in_step_on started (all_deliveries started deliveries) (by_deliveries started deliveries) (in_step_on begun started (by_starts begun script.starts) refl)
 
 pub kept_is_run : KeptIsRun
-kept_is_run start now image keys programs opened script deliveries random result h =
-    let p : Play = played keys programs opened script deliveries random in
-    let over : IsOver opened p.past = played_over opened keys programs script deliveries random in
-    (over, subst (λ js. IsLeft image js p.past.calls) over.0 (left_by start now image p result h))
+kept_is_run old new may_leave image keys programs opened script deliveries random result h may =
+    left_by old new opened (played keys programs opened script deliveries random) (played_over opened keys programs script deliveries random) (played_in_step keys programs opened script deliveries random) image may_leave may result h

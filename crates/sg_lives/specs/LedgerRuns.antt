@@ -1,18 +1,15 @@
 -- Runs over one ledger, one after another, and cut off at any moment, are lives of one principal.
-use Rattle.std.specs.Prelude.{◌≡◌, ℕ, List, [], ◌∷◌, Result, map, flat_map, take, false, All, IsTrue, ⊤}
+use Rattle.std.specs.Prelude.{◌≡◌, ℕ, List, [], ◌∷◌, ◌++◌, Option, map, flat_map, take, false, All, IsTrue, ⊤}
 use Rattle.sg_base.specs.declared.address.Addr.{Addr}
-use Rattle.sg_keep.specs.KeptRuns.{HasKept, RepresentsFirst}
-use Rattle.sg_keep.specs.declared.fault.KeepFault.{KeepFault}
+use Rattle.sg_base.specs.Outside.{Appends}
+use Rattle.sg_keep.specs.KeptRuns.{RepresentsFirst}
 use Rattle.sg_ledger.specs.Format.{Join, Represents}
-use Rattle.sg_play.specs.Ends.{Outside}
-use Rattle.sg_play.specs.Played.{played}
+use Rattle.sg_play.specs.Steps.{Step, lines_of}
 use Rattle.sg_protocol.specs.Calls.{Event, events_of_answer}
-use Rattle.sg_protocol.specs.Keyring.{Keyring, Program}
 use Rattle.sg_protocol.specs.Node.{has_joined}
 use Rattle.sg_protocol.specs.Past.{Past, AreAnswers, new_node, pairs_differ}
 use Rattle.sg_protocol.specs.Restarts.{AreLives, joined_by, reported_in_lives}
 use Rattle.sg_protocol.specs.Texts.{real}
-use Rattle.sg_script.specs.Script.{Script}
 
 -- a run over a ledger: what its node was asked; of how many of the first calls the lines were begun, and the frames that the link took; and what was left of the disk, when the run ended or a crash cut it off
 pub record LedgerRun : Type 0 where
@@ -25,10 +22,15 @@ pub record LedgerRun : Type 0 where
 abbrev pub IsOver : List Join → Past → Type 0
 IsOver opened past = (past.first ≡ opened) × AreAnswers real (new_node past.keys past.programs past.first) past.calls
 
--- Runs over one ledger, one after another, of which the first opens it with these joins. What a run leaves represents the joins that it opened the ledger with and then those of its first calls: of all that it reported, and with those of each frame that it sent. The next run opens what was left
+-- A run opened the ledger with these joins. What it leaves represents these and then those of its first calls: of all that it reported, and with those of each frame that it sent
+pub record IsRun (opened : List Join) (r : LedgerRun) : Type 0 where
+  pub over : IsOver opened r.past
+  pub left : RepresentsFirst r.image opened r.past.calls r.reported r.sent
+
+-- Runs over one ledger, one after another, of which the first opens it with these joins, and each next one what was left
 abbrev pub AreRuns : List Join → List LedgerRun → Type 0
 AreRuns opened [] = ⊤
-AreRuns opened (r ∷ rs) = IsOver opened r.past × RepresentsFirst r.image opened r.past.calls r.reported r.sent × ((next : List Join) × Represents r.image next × AreRuns next rs)
+AreRuns opened (r ∷ rs) = IsRun opened r × ((next : List Join) × Represents r.image next × AreRuns next rs)
 
 -- what the runs reported
 abbrev pub reported_in_runs : List LedgerRun → List Event
@@ -43,8 +45,9 @@ abbrev pub RunsReportJoinsOnce : Type 0
 RunsReportJoinsOnce = (opened : List Join) (runs : List LedgerRun) → AreRuns opened runs →
     IsTrue (pairs_differ (joined_by (reported_in_runs runs))) × All (λ (j : Join). has_joined opened j.0 j.1 ≡ false) (joined_by (reported_in_runs runs))
 
--- However a run of `keep` ended, an image that a crash may then leave of the disk is left by such a run, of its play's past
-abbrev pub KeptIsRun : Type 0
-KeptIsRun = (start now : Outside) (image : List ℕ) (keys : Keyring) (programs : List Program) (opened : List Join) (script : Script) (deliveries random : List (List ℕ)) (result : Result (Unit {0}) KeepFault) →
-    let p = played keys programs opened script deliveries random in
-    HasKept start now (λ i. i ≡ image) p result → IsOver opened p.past × ((reported : ℕ) × (sent : List (Addr × List ℕ)) × RepresentsFirst image opened p.past.calls reported sent)
+-- what was written since is a prefix of the lines of these steps
+pub record HasWritten (old new : Option (List ℕ)) (steps : List Step) : Type 0 where
+  pub written : List ℕ
+  pub rest : List ℕ
+  pub is : lines_of steps ≡ written ++ rest
+  pub lines : Appends old new written

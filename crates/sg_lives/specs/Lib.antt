@@ -1,1 +1,3 @@
 pub mod LedgerRuns
+pub mod PlayedRuns
+pub mod ServedRuns

@@ -30,7 +30,7 @@ use Rattle.sg_serve.specs.Served.{opening}
 use Rattle.sg_serve.specs.Serving.{Reply, Serving, acts_by, acts_if, calls, graph_at, of_session, repeats, replies, says, sends_again, sids_of, starts, takes, turn_line}
 
 -- one call more, or none
-abbrev Goes : Past → Past → Type 0
+abbrev pub Goes : Past → Past → Type 0
 Goes a b = (b ≡ a) ⊎ ((c : Call) × (b ≡ past_after real a c))
 
 abbrev GoesTo : Serving → Reply → Type 0
@@ -83,7 +83,7 @@ run_option : (took : Bool) (r : Run) (o : Option Request) (d : Run) → Goes r.s
 run_option took r None d h = h
 run_option took r (Some q) d h = by_asked took r q
 
-by_line : (took : Bool) (r : Run) (line : Line) → Goes r.serving.play.past (with_line took r line).serving.play.past
+pub by_line : (took : Bool) (r : Run) (line : Line) → Goes r.serving.play.past (with_line took r line).serving.play.past
 by_line took r TooLong = inl refl
 by_line took r (Whole bytes) = run_option took r (request_of bytes) _ (inl refl)
 
