@@ -143,8 +143,8 @@ module _ (start now : Outside) (may_leave : List ℕ → Type 0) (k : Keeper) (p
     asked_then = subst (λ (pl : Player). HasAsked pl p c reported graph []) (sym same) a.asked
 
     -- the outcome was not given
-    pub untold : (f : PlayFault) → Ended start now (called p c).steps (Err f) → HasKept start now may_leave (with_turn p c) (Err (Played f))
-    untold f e = end_on start now may_leave (called p c) (with_turn p c) (Played f) (after_call p c).0 (played_end start now may_leave (called p c) steps_so owns.sent all f e)
+    pub unreported : (f : PlayFault) → Ended start now (called p c).steps (Err f) → HasKept start now may_leave (with_turn p c) (Err (Played f))
+    unreported f e = end_on start now may_leave (called p c) (with_turn p c) (Played f) (after_call p c).0 (played_end start now may_leave (called p c) steps_so owns.sent all f e)
 
     -- the turn ended early
     pub unplayed : (f : PlayFault) → Ended start now (with_turn p c).steps (Err f) → HasKept start now may_leave (with_turn p c) (Err (Played f))

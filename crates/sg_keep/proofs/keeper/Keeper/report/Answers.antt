@@ -7,7 +7,7 @@ use Rattle.sg_play.specs.Played.{answer_in, called}
 use Rattle.sg_play.proofs.Keeping.{keeps_same, keeps_then}
 use Rattle.sg_play.proofs.Running.{turn_given}
 use Rattle.sg_play.proofs.Reporting.{reported_given}
-use Rattle.sg_keep.proofs.Asking.{asked_then, holds_on, represents_kept, unkept, unplayed, untold}
+use Rattle.sg_keep.proofs.Asking.{asked_then, holds_on, represents_kept, unkept, unplayed, unreported}
 use Rattle.sg_keep.proofs.Counting.{disk_falls_only, later_counts, of_play, play_went, unkept_counts}
 use Rattle.sg_keep.proofs.keeper.Keeper.report.Goals as goal
 
@@ -39,7 +39,7 @@ returns-in-Err-give-clause-progress g c = λ p k start a w h.
     let graph = option_copied c.args.graph in
     let m = c.keep_join.new.self in
     let now : Outside = record { written = g.O.Sink.written c.give.new.out; sent = g.L.Link.sent c.give.new.link } in
-    untold start now (g.D.Disk.may_leave c.keep_join.new.disk) c.args.self.now p k reported graph a m c.keep_join.ensures.player c.in-Ok.ensures.holds c.in-Err-give.fault
+    unreported start now (g.D.Disk.may_leave c.keep_join.new.disk) c.args.self.now p k reported graph a m c.keep_join.ensures.player c.in-Ok.ensures.holds c.in-Err-give.fault
     (c.in-Err-give.ensures.progress p k start (asked_then start now (g.D.Disk.may_leave c.keep_join.new.disk) c.args.self.now p k reported graph a m c.keep_join.ensures.player c.in-Ok.ensures.holds) a.stays h)
 
 pub returns-in-Ok-play_if-clause-faults : goal.returns-in-Ok-play_if-clause-faults
