@@ -6,3 +6,4 @@ pub mod Adding
 pub mod Asking
 pub mod Owning
 pub mod Reading
+pub mod Moments

@@ -1,5 +1,5 @@
 -- What a play over a ledger has given the outside and what it has kept, where it ended.
-use Rattle.std.specs.Prelude.{◌≡◌, ◌≤◌, ◌+◌, ℕ, List, ◌++◌, length, Result, Ok, Err, All, Contains}
+use Rattle.std.specs.Prelude.{◌≡◌, ◌⊎◌, ◌≤◌, ◌+◌, ℕ, List, ◌++◌, length, Result, Ok, Err, All, Contains}
 use Rattle.sg_base.specs.declared.address.Addr.{Addr}
 use Rattle.sg_ledger.specs.Format.{Join, Represents}
 use Rattle.sg_play.specs.Ends.{Begun, Outside, Whole, WholePrefix}
@@ -16,6 +16,14 @@ use Rattle.sg_keep.specs.declared.fault.KeepFault.TheVariants.{Played, DiskFaile
 -- each image, what a crash may leave of the disk, represents these joins
 abbrev pub AllRepresent : (may_leave : List ℕ → Type 0) → List Join → Type 0
 AllRepresent may_leave joins = (image : List ℕ) → may_leave image → Represents image joins
+
+-- a file represents these joins, and then others
+abbrev pub RepresentsMore : List Join → (image : List ℕ) → Type 0
+RepresentsMore joins image = (more : List Join) × Represents image (joins ++ more)
+
+-- a file represents the joins from before a call, or those from after it
+abbrev pub RepresentsEither : (before after : List Join) → (image : List ℕ) → Type 0
+RepresentsEither before after image = Represents image before ⊎ Represents image after
 
 -- these bytes are a frame whose session and sender are one of these joins
 abbrev pub IsOfJoin : List Join → (bytes : List ℕ) → Type 0

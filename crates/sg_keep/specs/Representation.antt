@@ -1,5 +1,6 @@
 -- What a keeper represents: a play, and a ledger with the joins of its node.
-use Rattle.std.specs.Prelude.{◌≡◌, ℕ, List, [], false, length, Option, Some, None, Result, Ok, Err}
+use Rattle.std.specs.Prelude.{◌≡◌, ℕ, List, [], ◌++◌, false, length, Option, Some, None, Result, Ok, Err}
+use Rattle.sg_ledger.specs.Format.{Join}
 use Rattle.sg_node.specs.Answers.{IsAnsweredPast}
 use Rattle.sg_play.specs.Ends.{Outside, Whole}
 use Rattle.sg_play.specs.Played.{Play}
@@ -37,6 +38,10 @@ pub record HasAskedNode (k : Keeper) (may_leave : List ℕ → Type 0) (reported
   pub is_reported : reported ≡ Some (reported_answer number (answer real (node_of past) call))
   pub ledger : k.ledger ≡ record { joins = (node_of past).joins; failed = false }
   pub images : AllRepresent may_leave (node_of past).joins
+
+-- joins are these, and then others
+abbrev pub HasMore : (before now : List Join) → Type 0
+HasMore before now = (more : List Join) × (now ≡ before ++ more)
 
 -- the player represents the play, which has as many steps as calls, and whose frames are of the joins that the calls made
 pub record RepresentsKept (k : Keeper) (p : Play) : Type 0 where

@@ -2,13 +2,14 @@
 ghost use Rattle.std.specs.Prelude.{◌≡◌, ◌≤◌, ◌⊎◌, false, List, ℕ, Err, Some, option_and_then, IfErr, IfSome, OnErr, OnOk};
 ghost use Rattle.std.specs.Option.{option_copied};
 ghost use Rattle.sg_base.specs.Outside.{HasRisen};
+ghost use Rattle.sg_ledger.specs.Disk.{LeavesOnly};
 ghost use Rattle.sg_ledger.specs.Format.{Represents};
 ghost use Rattle.sg_play.specs.Ends.{Outside, Whole};
 ghost use Rattle.sg_play.specs.Played.{Play, with_turn};
 ghost use Rattle.sg_protocol.specs.Calls.{Call};
 ghost use Rattle.sg_report.specs.Outcome.{outcome_of};
 ghost use Rattle.sg_keep.specs.Joins.{IsNew, join_reported, with_join};
-ghost use Rattle.sg_keep.specs.KeptRuns.{AllRepresent};
+ghost use Rattle.sg_keep.specs.KeptRuns.{AllRepresent, RepresentsEither};
 
 use crate::KeepFault;
 use crate::join::join_in;
@@ -47,6 +48,8 @@ impl<'p> Keeper<'p> {
             (record { link = L.faults link.new; out = O.faults out.new; disk = D.faults disk.new }) result }
         ensures deliveries { L.deliveries link.new ≡ L.deliveries link.old }
         ensures holds { OnOk result (HoldsJoins self.new (D.may_leave disk.new)) }
+        ensures joins { OnOk result (self.new.ledger.joins ≡ self.old.player.node.joins) }
+        ensures any_moment { LeavesOnly D.moment D.left_since disk.old disk.new (RepresentsEither self.old.ledger.joins self.old.player.node.joins) }
         ensures progress { (p : Play) (c : Call) (start : Outside) → IsAsked self.old p c (outcome_of outcome.now) (option_copied graph.entry) → R.random fresh.old ≡ Some p.random
             → Whole start (record { written = O.written out.old; sent = L.sent link.old }) p.steps
             → Progressed start (record { written = O.written out.new; sent = L.sent link.new }) (D.may_leave disk.new) self.new (R.random fresh.new) (with_turn p c) result }
@@ -77,6 +80,7 @@ impl<'p> Keeper<'p> {
         ensures holds { OnOk result (HoldsJoins self.new (D.may_leave disk.new)) }
         ensures images { OnErr result ((image : List ℕ) → D.may_leave disk.new image
             → Represents image self.old.ledger.joins ⊎ Represents image self.old.player.node.joins) }
+        ensures any_moment { LeavesOnly D.moment D.left_since disk.old disk.new (RepresentsEither self.old.ledger.joins self.old.player.node.joins) }
     {
         add_join(&mut self.ledger, outcome, disk)
     }
@@ -100,6 +104,8 @@ pub fn add_join<D: Disk>(
     ensures images { OnOk result (AllRepresent (D.may_leave disk.new) ledger.new.joins) }
     ensures between { OnErr result ((image : List ℕ) → D.may_leave disk.new image
         → Represents image ledger.old.joins ⊎ Represents image (with_join ledger.old.joins (option_and_then join_reported (outcome_of outcome.now)))) }
+    ensures any_moment { LeavesOnly D.moment D.left_since disk.old disk.new
+        (RepresentsEither ledger.old.joins (with_join ledger.old.joins (option_and_then join_reported (outcome_of outcome.now)))) }
 {
     let Some(join) = join_in(outcome) else {
         return Ok(());

@@ -1,11 +1,12 @@
 //! A play over a ledger: the starts of a script, and then deliveries.
 ghost use Rattle.std.specs.Prelude.{◌≡◌, ◌≤◌, ℕ, List, Some, take, drop, OnOk, false};
+ghost use Rattle.sg_ledger.specs.Disk.{LeavesOnly};
 ghost use Rattle.sg_play.specs.Ends.{Outside, Whole};
 ghost use Rattle.sg_play.specs.Played.{Play, all_deliveries, all_starts, played, starts, with_turn};
 ghost use Rattle.sg_protocol.specs.Calls.{Deliver};
 ghost use Rattle.sg_keep.specs.Faults.{CountsFaults};
-ghost use Rattle.sg_keep.specs.KeptRuns.{AllRepresent, HasKept};
-ghost use Rattle.sg_keep.specs.Representation.{Progressed, HoldsJoins, RepresentsKept};
+ghost use Rattle.sg_keep.specs.KeptRuns.{AllRepresent, HasKept, RepresentsMore};
+ghost use Rattle.sg_keep.specs.Representation.{Progressed, HasMore, HoldsJoins, RepresentsKept};
 
 use crate::KeepFault;
 use crate::keeper::Keeper;
@@ -35,6 +36,8 @@ impl<'p> Keeper<'p> {
             (record { link = L.faults link.new; out = O.faults out.new; disk = D.faults disk.new }) result }
         ensures deliveries { L.deliveries link.new ≡ L.deliveries link.old }
         ensures holds { OnOk result (HoldsJoins self.new (D.may_leave disk.new)) }
+        ensures more { OnOk result (HasMore self.old.ledger.joins self.new.ledger.joins) }
+        ensures any_moment { LeavesOnly D.moment D.left_since disk.old disk.new (RepresentsMore self.old.ledger.joins) }
         ensures progress { (p : Play) (start : Outside) → RepresentsKept self.old p → R.random fresh.old ≡ Some p.random
             → Whole start (record { written = O.written out.old; sent = L.sent link.old }) p.steps
             → Progressed start (record { written = O.written out.new; sent = L.sent link.new }) (D.may_leave disk.new) self.new (R.random fresh.new) (all_starts p starts.now) result }
@@ -64,6 +67,8 @@ impl<'p> Keeper<'p> {
             (record { link = L.faults link.new; out = O.faults out.new; disk = D.faults disk.new }) result }
         ensures deliveries { L.deliveries link.new ≡ L.deliveries link.old }
         ensures holds { OnOk result (HoldsJoins self.new (D.may_leave disk.new)) }
+        ensures more { OnOk result (HasMore self.old.ledger.joins self.new.ledger.joins) }
+        ensures any_moment { LeavesOnly D.moment D.left_since disk.old disk.new (RepresentsMore self.old.ledger.joins) }
         ensures progress { (p : Play) (start : Outside) → RepresentsKept self.old p → R.random fresh.old ≡ Some p.random
             → Whole start (record { written = O.written out.old; sent = L.sent link.old }) p.steps
             → Progressed start (record { written = O.written out.new; sent = L.sent link.new }) (D.may_leave disk.new) self.new (R.random fresh.new) (starts p start_of.now) result }
@@ -96,6 +101,7 @@ impl<'p> Keeper<'p> {
         ensures left { OnOk result ((deliveries : List (List ℕ)) → L.deliveries link.old ≡ Some deliveries → L.deliveries link.new ≡ Some (drop most deliveries)) }
         ensures at_most { (deliveries : List (List ℕ)) → L.deliveries link.old ≡ Some deliveries → (n : ℕ) × (n ≤ most) × (L.deliveries link.new ≡ Some (drop n deliveries)) }
         ensures holds { OnOk result (HoldsJoins self.new (D.may_leave disk.new)) }
+        ensures any_moment { LeavesOnly D.moment D.left_since disk.old disk.new (RepresentsMore self.old.ledger.joins) }
     {
         for _taken in 0..most {
             match link.recv(alloc) {
@@ -129,6 +135,8 @@ impl<'p> Keeper<'p> {
             (record { link = L.faults link.new; out = O.faults out.new; disk = D.faults disk.new }) result }
         ensures deliveries { L.deliveries link.new ≡ L.deliveries link.old }
         ensures holds { OnOk result (HoldsJoins self.new (D.may_leave disk.new)) }
+        ensures more { OnOk result (HasMore self.old.ledger.joins self.new.ledger.joins) }
+        ensures any_moment { LeavesOnly D.moment D.left_since disk.old disk.new (RepresentsMore self.old.ledger.joins) }
         ensures progress { (p : Play) (start : Outside) → RepresentsKept self.old p → R.random fresh.old ≡ Some p.random
             → Whole start (record { written = O.written out.old; sent = L.sent link.old }) p.steps
             → Progressed start (record { written = O.written out.new; sent = L.sent link.new }) (D.may_leave disk.new) self.new (R.random fresh.new) (with_turn p (Deliver bytes.now)) result }
@@ -165,6 +173,9 @@ pub fn keep<'p, L: Link, R: Fresh, O: Sink, D: Disk>(
     ensures disk_bound { D.bound disk.new ≡ D.bound disk.old }
     ensures faults { CountsFaults (record { link = L.faults link.old; out = O.faults out.old; disk = D.faults disk.old })
         (record { link = L.faults link.new; out = O.faults out.new; disk = D.faults disk.new }) result }
+
+    // At each moment of the call a crash leaves a file that represents the joins of the ledger, and then others.
+    ensures any_moment { LeavesOnly D.moment D.left_since disk.old disk.new (RepresentsMore ledger.joins) }
 
     // If the deliveries and the random bytes to come are known: what was written and sent is what the play says, up to where it ended,
     // and what a crash leaves of the disk is the ledger with the joins of the play up to there, and so with the session and the sender of

@@ -1,11 +1,14 @@
-use Rattle.std.proofs.Common.{inl, inr, ⊎_elim, Err, ap, ◌∙◌, subst, arith}
+use Rattle.std.proofs.Common.{List, inl, inr, ⊎_elim, Err, ap, ◌∙◌, subst, arith}
 use Rattle.std.specs.Prelude.{option_and_then}
-use Rattle.sg_ledger.specs.Format.{Represents}
+use Rattle.sg_ledger.specs.Disk.{LeavesOnly}
+use Rattle.sg_ledger.specs.Format.{Join, Represents}
 use Rattle.sg_ledger.specs.declared.ledger.AddJoinFault.{AddJoinFault}
 use Rattle.sg_report.specs.Outcome.{outcome_of}
-use Rattle.sg_keep.specs.Joins.{join_reported}
+use Rattle.sg_keep.specs.Joins.{join_reported, with_join}
+use Rattle.sg_keep.specs.KeptRuns.{RepresentsEither}
 use Rattle.sg_keep.proofs.Adding.{new_of, with_none, with_one}
 use Rattle.sg_keep.proofs.Asking.{working}
+use Rattle.sg_keep.proofs.Moments.{not_asked_either}
 use Rattle.sg_keep.proofs.keeper.add_join.Goals as goal
 
 pub returns-in_default-clause-added : goal.returns-in_default-clause-added
@@ -33,3 +36,23 @@ returns-in-Err-Failed-clause-between g c = λ image left.
     let more = with_one c.args.ledger.now.joins (option_and_then join_reported (outcome_of c.args.outcome.now)) c.join_in.result c.join_in.ensures c.in-Some.join c.in-Some.is in
     ⊎_elim (λ s. inl s) (λ s. inr (subst (Represents image) more s))
     (c.add.ensures.any_moment.each image (g.met.D.Disk.counts_now c.add.new.disk (g.D.Disk.moment c.args.disk.now) image c.add.ensures.any_moment.later left))
+
+pub returns-in_default-clause-any_moment : goal.returns-in_default-clause-any_moment
+returns-in_default-clause-any_moment g c =
+    not_asked_either g.D.Disk.moment g.D.Disk.left_since c.args.disk.now (g.D.Disk.may_leave c.args.disk.now) (g.met.D.Disk.only_now c.args.disk.now) c.args.ledger.now.joins c.requires.images
+    (with_join c.args.ledger.now.joins (option_and_then join_reported (outcome_of c.args.outcome.now)))
+
+pub returns-in-Ok-clause-any_moment : goal.returns-in-Ok-clause-any_moment
+returns-in-Ok-clause-any_moment g c =
+    subst (λ (js : List Join). LeavesOnly g.D.Disk.moment g.D.Disk.left_since c.args.disk.now c.add.new.disk (RepresentsEither c.args.ledger.now.joins js))
+    (with_one c.args.ledger.now.joins (option_and_then join_reported (outcome_of c.args.outcome.now)) c.join_in.result c.join_in.ensures c.in-Some.join c.in-Some.is) c.add.ensures.any_moment
+
+pub returns-in-Err-Failed-clause-any_moment : goal.returns-in-Err-Failed-clause-any_moment
+returns-in-Err-Failed-clause-any_moment g c =
+    subst (λ (js : List Join). LeavesOnly g.D.Disk.moment g.D.Disk.left_since c.args.disk.now c.add.new.disk (RepresentsEither c.args.ledger.now.joins js))
+    (with_one c.args.ledger.now.joins (option_and_then join_reported (outcome_of c.args.outcome.now)) c.join_in.result c.join_in.ensures c.in-Some.join c.in-Some.is) c.add.ensures.any_moment
+
+pub returns-in-Err-OutOfMemory-clause-any_moment : goal.returns-in-Err-OutOfMemory-clause-any_moment
+returns-in-Err-OutOfMemory-clause-any_moment g c =
+    subst (λ (js : List Join). LeavesOnly g.D.Disk.moment g.D.Disk.left_since c.args.disk.now c.add.new.disk (RepresentsEither c.args.ledger.now.joins js))
+    (with_one c.args.ledger.now.joins (option_and_then join_reported (outcome_of c.args.outcome.now)) c.join_in.result c.join_in.ensures c.in-Some.join c.in-Some.is) c.add.ensures.any_moment

@@ -10,6 +10,7 @@ use Rattle.sg_keep.specs.KeptRuns.{HasKept}
 use Rattle.sg_keep.specs.declared.keeper.Keeper.{Keeper}
 use Rattle.sg_keep.proofs.Asking.{came_kept, holds_first, not_begun, represents_first, starts_ended}
 use Rattle.sg_keep.proofs.Counting.{falls_of, later_counts, memory_counts, none_for_memory}
+use Rattle.sg_keep.proofs.Moments.{more_on, not_asked}
 use Rattle.sg_keep.proofs.run.keep.Goals as goal
 
 pub returns-in_default-clause-faults : goal.returns-in_default-clause-faults
@@ -77,3 +78,13 @@ returns-clause-kept g c = λ deliveries random reported drawn.
     subst (λ (z : Script). HasKept start now leaves (played c.args.keys.now c.args.programs.now first z (take c.args.most deliveries) random) c.take_all.result) is
     (came_kept start now leaves c.take_all.new.self (g.R.Fresh.random c.take_all.new.fresh) (played c.args.keys.now c.args.programs.now first script (take c.args.most deliveries) random) c.take_all.result c.take_all.ensures.holds
     (c.take_all.ensures.progress (all_starts begun script.starts) start deliveries (c.in-Ok-start_all.ensures.deliveries ∙ reported) started.0 started.2 started.1))
+
+pub returns-in_default-clause-any_moment : goal.returns-in_default-clause-any_moment
+returns-in_default-clause-any_moment g c = not_asked g.D.Disk.moment g.D.Disk.left_since c.args.disk.now (g.D.Disk.may_leave c.args.disk.now) (g.met.D.Disk.only_now c.args.disk.now) c.args.ledger.joins c.requires.represents
+
+pub returns-in-Err-clause-any_moment : goal.returns-in-Err-clause-any_moment
+returns-in-Err-clause-any_moment g c = not_asked g.D.Disk.moment g.D.Disk.left_since c.args.disk.now (g.D.Disk.may_leave c.args.disk.now) (g.met.D.Disk.only_now c.args.disk.now) c.args.ledger.joins c.requires.represents
+
+pub returns-clause-any_moment : goal.returns-clause-any_moment
+returns-clause-any_moment g c =
+    more_on g.D.Disk.moment g.D.Disk.left_since c.args.disk.now c.start_all.new.disk c.take_all.new.disk c.args.ledger.joins c.start_all.new.self.ledger.joins c.in-Ok-start_all.ensures.more c.start_all.ensures.any_moment c.take_all.ensures.any_moment

@@ -1,9 +1,10 @@
 use Rattle.std.proofs.Common.{◌≡◌, ◌⊎◌, ℕ, List, inl, inr, ⊎_elim, refl, sym, subst}
 use Rattle.std.specs.Prelude.{option_and_then}
-use Rattle.sg_ledger.specs.Format.{Represents}
+use Rattle.sg_ledger.specs.Disk.{LeavesOnly}
+use Rattle.sg_ledger.specs.Format.{Join, Represents}
 use Rattle.sg_report.specs.Outcome.{outcome_of}
 use Rattle.sg_keep.specs.Joins.{join_reported, with_join}
-use Rattle.sg_keep.specs.KeptRuns.{AllRepresent}
+use Rattle.sg_keep.specs.KeptRuns.{AllRepresent, RepresentsEither}
 use Rattle.sg_keep.specs.Representation.{HoldsJoins}
 use Rattle.sg_keep.proofs.Adding.{on_err, on_ok_both}
 use Rattle.sg_keep.proofs.Asking.{holds_after, is_new, node_joins, not_failed, represent_now, working}
@@ -38,3 +39,10 @@ returns-clause-images g c =
     let k = c.args.self.now in
     on_err c.add_join.result ((image : List ℕ) → after image → Represents image k.ledger.joins ⊎ Represents image (with_join k.ledger.joins join)) ((image : List ℕ) → after image → Represents image k.ledger.joins ⊎ Represents image k.player.node.joins)
     (λ h image left. ⊎_elim (λ s. inl s) (λ s. inr (subst (Represents image) (sym (node_joins k before reported c.requires.asked join refl)) s)) (h image left)) c.add_join.ensures.between
+
+pub returns-clause-any_moment : goal.returns-clause-any_moment
+returns-clause-any_moment g c =
+    let reported = outcome_of c.args.outcome.now in
+    let k = c.args.self.now in
+    subst (λ (js : List Join). LeavesOnly g.D.Disk.moment g.D.Disk.left_since c.args.disk.now c.add_join.new.disk (RepresentsEither k.ledger.joins js))
+    (sym (node_joins k (g.D.Disk.may_leave c.args.disk.now) reported c.requires.asked (option_and_then join_reported reported) refl)) c.add_join.ensures.any_moment

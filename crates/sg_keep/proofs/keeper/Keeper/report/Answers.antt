@@ -2,8 +2,10 @@ use Rattle.std.proofs.Common.{◌∙◌, Ok, Err, option_and_then, refl, ap}
 use Rattle.std.specs.Option.{option_copied}
 use Rattle.sg_report.specs.Outcome.{outcome_of}
 use Rattle.sg_report.specs.Reported.{sid_reported}
+use Rattle.sg_ledger.specs.Format.{OpenLedger}
 use Rattle.sg_play.specs.Ends.{Outside}
 use Rattle.sg_play.specs.Played.{answer_in, called}
+use Rattle.sg_play.specs.declared.player.Player.{Player}
 use Rattle.sg_play.proofs.Keeping.{keeps_same, keeps_then}
 use Rattle.sg_play.proofs.Running.{turn_given}
 use Rattle.sg_play.proofs.Reporting.{reported_given}
@@ -97,3 +99,6 @@ returns-in-Err-play_if-clause-progress g c = λ p k start a w h.
     let sid = c.sid_reported.ensures.reported ∙ ap (option_and_then sid_reported) a.asked.is_reported ∙ reported_given _ (answer_in p k) in
     let turn = turn_given start now c.play_if.new.self (g.R.Fresh.random c.play_if.new.fresh) p k c.sid_reported.result (Err c.in-Err-play_if.fault) sid (c.in-Err-play_if.ensures.progress (called p k) start given.0 w given.1) in
     unplayed start now leaves c.args.self.now p k reported graph a m c.keep_join.ensures.player c.in-Ok.ensures.holds c.in-Err-play_if.fault turn
+
+pub returns-in-Ok-play_if-clause-joins : goal.returns-in-Ok-play_if-clause-joins
+returns-in-Ok-play_if-clause-joins g c = ap (λ (l : OpenLedger). l.joins) c.in-Ok.ensures.holds.ledger ∙ ap (λ (pl : Player). pl.node.joins) c.keep_join.ensures.player

@@ -10,10 +10,11 @@ use Rattle.sg_keep.specs.Representation.{Progressed}
 use Rattle.sg_keep.proofs.Counting.{falls_of, falls_on, later_counts, no_fall, went}
 use Rattle.sg_keep.proofs.Ending.{end_on, to_same}
 use Rattle.sg_keep.proofs.Going.{starts_on}
+use Rattle.sg_keep.proofs.Moments.{all_held, more_none, more_on, more_then, not_asked}
 use Rattle.sg_keep.proofs.keeper.Keeper.start_all.Goals as goal
 
 pub loop-start-init : goal.loop-start-init
-loop-start-init g c = record { link_bound = refl; disk_bound = refl; falls = no_fall (record { link = g.L.Link.faults c.args.link.now; out = g.O.Sink.faults c.args.out.now; disk = g.D.Disk.faults c.args.disk.now }); deliveries = refl; holds = c.requires.holds; progress = λ p start s w h. (s, h, w) }
+loop-start-init g c = record { link_bound = refl; disk_bound = refl; falls = no_fall (record { link = g.L.Link.faults c.args.link.now; out = g.O.Sink.faults c.args.out.now; disk = g.D.Disk.faults c.args.disk.now }); deliveries = refl; holds = c.requires.holds; more = more_none c.args.self.now.ledger.joins; any_moment = not_asked g.D.Disk.moment g.D.Disk.left_since c.args.disk.now (g.D.Disk.may_leave c.args.disk.now) (g.met.D.Disk.only_now c.args.disk.now) c.args.self.now.ledger.joins (all_held c.args.self.now (g.D.Disk.may_leave c.args.disk.now) c.requires.holds); progress = λ p start s w h. (s, h, w) }
 
 pub loop-start-preserved : goal.loop-start-preserved
 loop-start-preserved g c =
@@ -28,6 +29,8 @@ loop-start-preserved g c =
       falls = falls_on old mid new inv.falls (falls_of mid new c.start_one.result c.start_one.ensures.faults);
       deliveries = one.deliveries ∙ inv.deliveries;
       holds = one.holds;
+      more = more_then c.args.self.now.ledger.joins c.loop-start.self.ledger.joins c.start_one.new.self.ledger.joins inv.more one.more;
+      any_moment = more_on g.D.Disk.moment g.D.Disk.left_since c.args.disk.now c.loop-start.disk c.start_one.new.disk c.args.self.now.ledger.joins c.loop-start.self.ledger.joins inv.more inv.any_moment c.start_one.ensures.any_moment;
       progress = λ p start s w h.
           let now : Outside = record { written = g.O.Sink.written c.start_one.new.out; sent = g.L.Link.sent c.start_one.new.link } in
           let at = c.loop-start.start-index in
@@ -61,3 +64,8 @@ pub returns-clause-progress : goal.returns-clause-progress
 returns-clause-progress g c = λ p start s w h.
     let now : Outside = record { written = g.O.Sink.written c.loop-start.out; sent = g.L.Link.sent c.loop-start.link } in
     subst (λ (z : List ScriptStart). Progressed start now (g.D.Disk.may_leave c.loop-start.disk) c.loop-start.self (g.R.Fresh.random c.loop-start.fresh) (all_starts p z) (Ok tt)) (take_all c.loop-start.start-index c.args.starts.now c.loop-start-test.false) (c.loop-start.invariant.progress p start s w h)
+
+pub returns-in-Err-clause-any_moment : goal.returns-in-Err-clause-any_moment
+returns-in-Err-clause-any_moment g c =
+    let inv = c.loop-start.invariant in
+    more_on g.D.Disk.moment g.D.Disk.left_since c.args.disk.now c.loop-start.disk c.start_one.new.disk c.args.self.now.ledger.joins c.loop-start.self.ledger.joins inv.more inv.any_moment c.start_one.ensures.any_moment

@@ -1,7 +1,9 @@
 use Rattle.std.proofs.Common.{◌≡◌, Some, Ok, take}
+use Rattle.sg_ledger.specs.Disk.{LeavesOnly}
 use Rattle.sg_play.specs.Ends.{Outside, Whole}
 use Rattle.sg_play.specs.Played.{Play, all_starts}
-use Rattle.sg_keep.specs.Representation.{Progressed, HoldsJoins, RepresentsKept}
+use Rattle.sg_keep.specs.KeptRuns.{RepresentsMore}
+use Rattle.sg_keep.specs.Representation.{Progressed, HasMore, HoldsJoins, RepresentsKept}
 use Rattle.sg_keep.proofs.Counting.{NoFall}
 use Rattle.sg_keep.proofs.keeper.Keeper.start_all.Given as goal
 
@@ -12,6 +14,8 @@ invariant-loop-start g l = record {
   falls : NoFall (record { link = g.L.Link.faults l.initial.link; out = g.O.Sink.faults l.initial.out; disk = g.D.Disk.faults l.initial.disk }) (record { link = g.L.Link.faults l.link; out = g.O.Sink.faults l.out; disk = g.D.Disk.faults l.disk });
   deliveries : g.L.Link.deliveries l.link ≡ g.L.Link.deliveries l.initial.link;
   holds : HoldsJoins l.self (g.D.Disk.may_leave l.disk);
+  more : HasMore l.initial.self.ledger.joins l.self.ledger.joins;
+  any_moment : LeavesOnly g.D.Disk.moment g.D.Disk.left_since l.initial.disk l.disk (RepresentsMore l.initial.self.ledger.joins);
   progress : (p : Play) (start : Outside) → RepresentsKept l.initial.self p → g.R.Fresh.random l.initial.fresh ≡ Some p.random → Whole start (record { written = g.O.Sink.written l.initial.out; sent = g.L.Link.sent l.initial.link }) p.steps
       → Progressed start (record { written = g.O.Sink.written l.out; sent = g.L.Link.sent l.link }) (g.D.Disk.may_leave l.disk) l.self (g.R.Fresh.random l.fresh) (all_starts p (take l.start-index l.starts)) (Ok tt);
 }

@@ -5,10 +5,12 @@ use Rattle.sg_report.specs.Outcome.{outcome_of}
 use Rattle.sg_play.specs.Ends.{Outside}
 use Rattle.sg_play.specs.Played.{Play, cast_of_start, starts, with_turn, without}
 use Rattle.sg_play.proofs.Running.{start_is, without_one}
+use Rattle.sg_keep.specs.declared.keeper.Keeper.{Keeper}
 use Rattle.sg_keep.proofs.Asking.{asked_node, is_asked, kept_without, memory_end}
 use Rattle.sg_keep.proofs.Counting.{memory_counts}
 use Rattle.sg_keep.proofs.Ending.{to_same}
 use Rattle.sg_keep.proofs.Going.{by_start}
+use Rattle.sg_keep.proofs.Moments.{all_held, asked_more, either_more, more_on_ok, not_asked}
 use Rattle.sg_keep.proofs.keeper.Keeper.start_one.Goals as goal
 
 pub report-requires : goal.report-requires
@@ -35,3 +37,26 @@ returns-in-Err-clause-faults g c = memory_counts (record { link = g.L.Link.fault
 pub returns-in-Err-clause-progress : goal.returns-in-Err-clause-progress
 returns-in-Err-clause-progress g c = λ p start s w h.
     memory_end start (record { written = g.O.Sink.written c.args.out.now; sent = g.L.Link.sent c.args.link.now }) (g.D.Disk.may_leave c.args.disk.now) c.args.self.now p (starts p c.args.start_of.now) c.requires.holds s (by_start p c.args.start_of.now) h c.in-Err.fault c.in-Err.ensures.memory
+
+pub returns-in-Ok-clause-more : goal.returns-in-Ok-clause-more
+returns-in-Ok-clause-more g c =
+    let h = c.requires.holds in
+    let leaves = g.D.Disk.may_leave c.args.disk.now in
+    let k : Keeper = record c.args.self.now { player = c.ask_start.new.self } in
+    let asked = asked_node c.args.self.now c.ask_start.new.self leaves (Start (cast_of_start c.args.self.now.player.programs.now c.args.start_of.now c.next-nonce.result)) (outcome_of c.in-Ok.outcome) (option_copied c.in-Ok.graph) h (c.in-Ok.ensures.is_asked 0 h.past h.represents) in
+    let more = asked_more k leaves (outcome_of c.in-Ok.outcome) asked in
+    more_on_ok c.report.result k.ledger.joins k.player.node.joins c.report.new.self.ledger.joins more c.report.ensures.joins
+
+pub returns-in-Ok-clause-any_moment : goal.returns-in-Ok-clause-any_moment
+returns-in-Ok-clause-any_moment g c =
+    let h = c.requires.holds in
+    let leaves = g.D.Disk.may_leave c.args.disk.now in
+    let k : Keeper = record c.args.self.now { player = c.ask_start.new.self } in
+    let asked = asked_node c.args.self.now c.ask_start.new.self leaves (Start (cast_of_start c.args.self.now.player.programs.now c.args.start_of.now c.next-nonce.result)) (outcome_of c.in-Ok.outcome) (option_copied c.in-Ok.graph) h (c.in-Ok.ensures.is_asked 0 h.past h.represents) in
+    let more = asked_more k leaves (outcome_of c.in-Ok.outcome) asked in
+    either_more g.D.Disk.moment g.D.Disk.left_since c.args.disk.now c.report.new.disk k.ledger.joins k.player.node.joins more c.report.ensures.any_moment
+
+pub returns-in-Err-clause-any_moment : goal.returns-in-Err-clause-any_moment
+returns-in-Err-clause-any_moment g c =
+    let leaves = g.D.Disk.may_leave c.args.disk.now in
+    not_asked g.D.Disk.moment g.D.Disk.left_since c.args.disk.now leaves (g.met.D.Disk.only_now c.args.disk.now) c.args.self.now.ledger.joins (all_held c.args.self.now leaves c.requires.holds)

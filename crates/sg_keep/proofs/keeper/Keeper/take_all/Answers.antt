@@ -11,6 +11,7 @@ use Rattle.sg_keep.proofs.Asking.{link_end, memory_end}
 use Rattle.sg_keep.proofs.Counting.{falls_of, falls_on, later_counts, link_full, link_counts, link_took, no_fall, went}
 use Rattle.sg_keep.proofs.Ending.{end_on, to_same}
 use Rattle.sg_keep.proofs.Going.{deliveries_on}
+use Rattle.sg_keep.proofs.Moments.{all_held, more_none, more_on, more_then, not_asked}
 use Rattle.sg_keep.proofs.keeper.Keeper.take_all.Goals as goal
 
 pub loop-taken-init : goal.loop-taken-init
@@ -19,6 +20,9 @@ loop-taken-init g c = record {
   disk_bound = refl;
   falls = no_fall (record { link = g.L.Link.faults c.args.link.now; out = g.O.Sink.faults c.args.out.now; disk = g.D.Disk.faults c.args.disk.now });
   holds = c.requires.holds;
+  more = more_none c.args.self.now.ledger.joins;
+  any_moment =
+      not_asked g.D.Disk.moment g.D.Disk.left_since c.args.disk.now (g.D.Disk.may_leave c.args.disk.now) (g.met.D.Disk.only_now c.args.disk.now) c.args.self.now.ledger.joins (all_held c.args.self.now (g.D.Disk.may_leave c.args.disk.now) c.requires.holds);
   left = λ deliveries reported. reported;
   progress = λ p start deliveries reported s w h. (s, h, w);
 }
@@ -38,6 +42,8 @@ loop-taken-preserved g c =
       disk_bound = one.disk_bound ∙ inv.disk_bound;
       falls = falls_on old mid new inv.falls (falls_on mid took new (link_took _ _ _ _ c.recv.ensures.never_falls) (falls_of took new c.deliver.result c.deliver.ensures.faults));
       holds = one.holds;
+      more = more_then c.args.self.now.ledger.joins c.loop-taken.self.ledger.joins c.deliver.new.self.ledger.joins inv.more one.more;
+      any_moment = more_on g.D.Disk.moment g.D.Disk.left_since c.args.disk.now c.loop-taken.disk c.deliver.new.disk c.args.self.now.ledger.joins c.loop-taken.self.ledger.joins inv.more inv.any_moment c.deliver.ensures.any_moment;
       left = λ deliveries reported. one.deliveries ∙ (first (drop k deliveries) (inv.left deliveries reported)).1 ∙ ap (λ l. Some l) (left_next k deliveries);
       progress = λ p start deliveries reported s w h.
           let now : Outside = record { written = g.O.Sink.written c.deliver.new.out; sent = g.L.Link.sent c.deliver.new.link } in
@@ -162,3 +168,8 @@ returns-clause-left g c = let all : c.loop-taken._taken ≡ c.args.most = omega 
 
 pub returns-clause-at_most : goal.returns-clause-at_most
 returns-clause-at_most g c = let within : c.loop-taken._taken ≤ c.args.most = omega arith in λ deliveries reported. (c.loop-taken._taken, within, c.loop-taken.invariant.left deliveries reported)
+
+pub returns-in-Err-clause-any_moment : goal.returns-in-Err-clause-any_moment
+returns-in-Err-clause-any_moment g c =
+    let inv = c.loop-taken.invariant in
+    more_on g.D.Disk.moment g.D.Disk.left_since c.args.disk.now c.loop-taken.disk c.deliver.new.disk c.args.self.now.ledger.joins c.loop-taken.self.ledger.joins inv.more inv.any_moment c.deliver.ensures.any_moment

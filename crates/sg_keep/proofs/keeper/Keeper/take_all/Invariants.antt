@@ -1,7 +1,9 @@
 use Rattle.std.proofs.Common.{◌≡◌, ℕ, List, Some, Ok, take, drop}
+use Rattle.sg_ledger.specs.Disk.{LeavesOnly}
 use Rattle.sg_play.specs.Ends.{Outside, Whole}
 use Rattle.sg_play.specs.Played.{Play, all_deliveries}
-use Rattle.sg_keep.specs.Representation.{Progressed, HoldsJoins, RepresentsKept}
+use Rattle.sg_keep.specs.KeptRuns.{RepresentsMore}
+use Rattle.sg_keep.specs.Representation.{Progressed, HasMore, HoldsJoins, RepresentsKept}
 use Rattle.sg_keep.proofs.Counting.{NoFall}
 use Rattle.sg_keep.proofs.keeper.Keeper.take_all.Given as goal
 
@@ -11,6 +13,8 @@ invariant-loop-taken g l = record {
   disk_bound : g.D.Disk.bound l.disk ≡ g.D.Disk.bound l.initial.disk;
   falls : NoFall (record { link = g.L.Link.faults l.initial.link; out = g.O.Sink.faults l.initial.out; disk = g.D.Disk.faults l.initial.disk }) (record { link = g.L.Link.faults l.link; out = g.O.Sink.faults l.out; disk = g.D.Disk.faults l.disk });
   holds : HoldsJoins l.self (g.D.Disk.may_leave l.disk);
+  more : HasMore l.initial.self.ledger.joins l.self.ledger.joins;
+  any_moment : LeavesOnly g.D.Disk.moment g.D.Disk.left_since l.initial.disk l.disk (RepresentsMore l.initial.self.ledger.joins);
   left : (deliveries : List (List ℕ)) → g.L.Link.deliveries l.initial.link ≡ Some deliveries → g.L.Link.deliveries l.link ≡ Some (drop l._taken deliveries);
   progress : (p : Play) (start : Outside) (deliveries : List (List ℕ)) → g.L.Link.deliveries l.initial.link ≡ Some deliveries → RepresentsKept l.initial.self p → g.R.Fresh.random l.initial.fresh ≡ Some p.random
       → Whole start (record { written = g.O.Sink.written l.initial.out; sent = g.L.Link.sent l.initial.link }) p.steps
