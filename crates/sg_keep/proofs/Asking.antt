@@ -115,15 +115,18 @@ module _ (k : Keeper) (may_leave : List ℕ → Type 0) (reported : Option Repor
 -- ---- the call is reported
 
 module _ (start now : Outside) (may_leave : List ℕ → Type 0) (k : Keeper) (p : Play) (c : Call) (reported : Option Reported) (graph : Option Graph) (a : IsAsked k p c reported graph) where
-  -- the joins of the node with the call
-  node_has : k.player.node.joins ≡ (called p c).past.first ++ joins_made (called p c).past.calls
+  -- the joins of the ledger, and those of the node with the call
+  pub ledger_has : k.ledger.joins ≡ p.past.first ++ joins_made p.past.calls
+  ledger_has = a.ledger ∙ joins_of_node p.past a.answered_before
+
+  pub node_has : k.player.node.joins ≡ (called p c).past.first ++ joins_made (called p c).past.calls
   node_has = a.asked.node.joins ∙ joins_of_node (past_after real p.past c) a.asked.answered_past
 
   -- its join was not kept
   pub unkept : (f : KeepFault) → IsBetween f → ((image : List ℕ) → may_leave image → Represents image k.ledger.joins ⊎ Represents image k.player.node.joins) → Whole start now p.steps → HasKept start now may_leave (with_turn p c) (Err f)
   unkept f causes images w =
       end_on start now may_leave (called p c) (with_turn p c) f (after_call p c).0
-      (not_kept start now may_leave p c f k.ledger.joins k.player.node.joins causes a.in_step a.sent (a.ledger ∙ joins_of_node p.past a.answered_before) node_has images w)
+      (not_kept start now may_leave p c f k.ledger.joins k.player.node.joins causes a.in_step a.sent ledger_has node_has images w)
 
   -- its join is kept
   module _ (m : Keeper) (same : m.player ≡ k.player) (h : HoldsJoins m may_leave) where

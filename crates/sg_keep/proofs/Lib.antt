@@ -7,3 +7,5 @@ pub mod Asking
 pub mod Owning
 pub mod Reading
 pub mod Moments
+pub mod Silent
+pub mod AtMost

@@ -1,10 +1,12 @@
 -- What a play over a ledger has given the outside and what it has kept, where it ended.
-use Rattle.std.specs.Prelude.{◌≡◌, ◌⊎◌, ◌≤◌, ◌+◌, ℕ, List, ◌++◌, length, Result, Ok, Err, All, Contains}
+use Rattle.std.specs.Prelude.{◌≡◌, ◌⊎◌, ◌≤◌, ◌+◌, ℕ, List, ◌++◌, length, take, Option, Result, Ok, Err, All, Contains}
 use Rattle.sg_base.specs.declared.address.Addr.{Addr}
+use Rattle.sg_base.specs.Outside.{Appends}
+use Rattle.sg_ledger.specs.Disk.{LeavesOnly}
 use Rattle.sg_ledger.specs.Format.{Join, Represents}
 use Rattle.sg_play.specs.Ends.{Begun, Outside, Whole, WholePrefix}
 use Rattle.sg_play.specs.Played.{Play}
-use Rattle.sg_play.specs.Steps.{frames_of}
+use Rattle.sg_play.specs.Steps.{frames_of, lines_of}
 use Rattle.sg_play.specs.declared.fault.PlayFault.TheVariants.{LinkFailed, WriteFailed, OutOfMemory}
 use Rattle.sg_protocol.specs.Frame.{Frame}
 use Rattle.sg_protocol.specs.Past.{AnsweredCall}
@@ -67,3 +69,26 @@ HasKept start now may_leave p (Err (Played LinkFailed)) = KeptPrefix start now m
 HasKept start now may_leave p (Err (Played WriteFailed)) = KeptBegun start now may_leave p
 HasKept start now may_leave p (Err (Played OutOfMemory)) = KeptPrefix start now may_leave p
 HasKept start now may_leave p (Err DiskFailed) = KeptPrefix start now may_leave p
+
+-- a file represents the joins that the ledger was opened with, and then those of the first of these calls: at most one join more than the first `count`
+-- calls made
+pub record RepresentsAtMost (opened : List Join) (calls : List AnsweredCall) (count : ℕ) (image : List ℕ) : Type 0 where
+  pub prefix : List AnsweredCall
+  pub rest : List AnsweredCall
+  pub is : calls ≡ prefix ++ rest
+  pub most : length (joins_made prefix) ≤ length (joins_made (take count calls)) + 1
+  pub represents : Represents image (opened ++ joins_made prefix)
+
+-- A crash at any moment from old to new leaves such a file, of a play's calls
+abbrev pub LeavesAtMost : {D : Type 0} (moment : D → ℕ) (left_since : D → ℕ → List ℕ → Type 0) (old new : D) → Play → (count : ℕ) → Type 0
+LeavesAtMost moment left_since old new p count = LeavesOnly moment left_since old new (RepresentsAtMost p.past.first p.past.calls count)
+
+-- The lines of the first `count` steps of a play were written, if what was written is known, and a crash at any moment left at most one join
+-- more than these steps made
+pub record KeptThroughout {D : Type 0} (moment : D → ℕ) (left_since : D → ℕ → List ℕ → Type 0) (old new : D) (start now : Option (List ℕ)) (p : Play) : Type 0 where
+  pub count : ℕ
+  pub within : count ≤ length p.steps
+  -- what was written behind them
+  pub rest : List ℕ
+  pub written : Appends start now (lines_of (take count p.steps) ++ rest)
+  pub any_moment : LeavesAtMost moment left_since old new p count

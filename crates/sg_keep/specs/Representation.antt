@@ -1,5 +1,5 @@
 -- What a keeper represents: a play, and a ledger with the joins of its node.
-use Rattle.std.specs.Prelude.{◌≡◌, ℕ, List, [], ◌++◌, false, length, Option, Some, None, Result, Ok, Err}
+use Rattle.std.specs.Prelude.{◌≡◌, ◌≤◌, ℕ, List, [], ◌++◌, false, length, Option, Some, None, Result, Ok, Err}
 use Rattle.sg_ledger.specs.Format.{Join}
 use Rattle.sg_node.specs.Answers.{IsAnsweredPast}
 use Rattle.sg_play.specs.Ends.{Outside, Whole}
@@ -15,7 +15,7 @@ use Rattle.sg_protocol.specs.Ranges.{IsCallInRange}
 use Rattle.sg_protocol.specs.Texts.{real}
 use Rattle.sg_report.specs.Reported.{Reported, reported_answer, sid_left}
 use Rattle.sg_keep.specs.Joins.{joins_made}
-use Rattle.sg_keep.specs.KeptRuns.{AllRepresent, AreOfJoins, HasKept}
+use Rattle.sg_keep.specs.KeptRuns.{AllRepresent, AreOfJoins, HasKept, KeptThroughout}
 use Rattle.sg_keep.specs.declared.fault.KeepFault.{KeepFault}
 use Rattle.sg_keep.specs.declared.keeper.Keeper.{Keeper}
 
@@ -62,3 +62,7 @@ pub record IsAsked (k : Keeper) (p : Play) (c : Call) (reported : Option Reporte
 abbrev pub Progressed : (start now : Outside) → (may_leave : List ℕ → Type 0) → Keeper → (random : Option (List (List ℕ))) → Play → Result (Unit {0}) KeepFault → Type 0
 Progressed start now may_leave k random p (Ok u) = RepresentsKept k p × Whole start now p.steps × (random ≡ Some p.random)
 Progressed start now may_leave k random p (Err f) = HasKept start now may_leave p (Err f)
+
+-- a part of a play, from one to another, was kept throughout, and the lines of the first of these were written before
+abbrev pub KeptFrom : {D : Type 0} (moment : D → ℕ) (left_since : D → ℕ → List ℕ → Type 0) (old new : D) (start now : Option (List ℕ)) (p q : Play) → Type 0
+KeptFrom moment left_since old new start now p q = (kept : KeptThroughout moment left_since old new start now q) × (length p.steps ≤ kept.count)

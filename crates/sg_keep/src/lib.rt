@@ -8,10 +8,12 @@
 //! Who has an order of its own adds the join of a call by `add_join` before it writes or sends anything of the call.
 //!
 //! At each moment of the call a crash leaves a file that represents the joins that the ledger was opened with, and then others, whatever is
-//! known of link and random bytes (`any_moment`). On each return, if these are known, the others are those of the first calls of the play
-//! (`specs/KeptRuns.antt`): with those of each call whose line was begun, and with the session and the sender of each frame that the link
-//! took (`kept`). Within the play only `Ledger::add` changes the disk, and says of each moment what the images represent: the joins from
-//! before, or these with the new one (`sg_ledger`).
+//! known of link and random bytes (`any_moment`). If these are known, the others are those of the first calls of the play
+//! (`specs/KeptRuns.antt`), and at most one join more than those of the steps whose lines were written by the end of the call
+//! (`throughout`). Disk, sink and link share no clock, so no clause says what was written when the crash came; but each call of the disk may
+//! fail, and then the play returns. On each return they are those of each call whose line was begun, with the session and the sender of
+//! each frame that the link took (`kept`). Within the play only `Ledger::add` changes the disk, and says of each moment what the images
+//! represent: the joins from before, or these with the new one (`sg_ledger`).
 #![tactic(auto)]
 
 mod fault;

@@ -1,12 +1,12 @@
 //! A play over a ledger: the starts of a script, and then deliveries.
-ghost use Rattle.std.specs.Prelude.{◌≡◌, ◌≤◌, ℕ, List, Some, take, drop, OnOk, false};
+ghost use Rattle.std.specs.Prelude.{◌≡◌, ◌≤◌, ℕ, List, Some, take, drop, length, OnOk, false};
 ghost use Rattle.sg_ledger.specs.Disk.{LeavesOnly};
 ghost use Rattle.sg_play.specs.Ends.{Outside, Whole};
 ghost use Rattle.sg_play.specs.Played.{Play, all_deliveries, all_starts, played, starts, with_turn};
 ghost use Rattle.sg_protocol.specs.Calls.{Deliver};
 ghost use Rattle.sg_keep.specs.Faults.{CountsFaults};
-ghost use Rattle.sg_keep.specs.KeptRuns.{AllRepresent, HasKept, RepresentsMore};
-ghost use Rattle.sg_keep.specs.Representation.{Progressed, HasMore, HoldsJoins, RepresentsKept};
+ghost use Rattle.sg_keep.specs.KeptRuns.{AllRepresent, HasKept, KeptThroughout, LeavesAtMost, RepresentsMore};
+ghost use Rattle.sg_keep.specs.Representation.{Progressed, HasMore, HoldsJoins, KeptFrom, RepresentsKept};
 
 use crate::KeepFault;
 use crate::keeper::Keeper;
@@ -38,6 +38,9 @@ impl<'p> Keeper<'p> {
         ensures holds { OnOk result (HoldsJoins self.new (D.may_leave disk.new)) }
         ensures more { OnOk result (HasMore self.old.ledger.joins self.new.ledger.joins) }
         ensures any_moment { LeavesOnly D.moment D.left_since disk.old disk.new (RepresentsMore self.old.ledger.joins) }
+        ensures throughout { (p : Play) (start : Outside) → RepresentsKept self.old p → R.random fresh.old ≡ Some p.random
+            → Whole start (record { written = O.written out.old; sent = L.sent link.old }) p.steps
+            → KeptFrom D.moment D.left_since disk.old disk.new start.written (O.written out.new) p (all_starts p starts.now) }
         ensures progress { (p : Play) (start : Outside) → RepresentsKept self.old p → R.random fresh.old ≡ Some p.random
             → Whole start (record { written = O.written out.old; sent = L.sent link.old }) p.steps
             → Progressed start (record { written = O.written out.new; sent = L.sent link.new }) (D.may_leave disk.new) self.new (R.random fresh.new) (all_starts p starts.now) result }
@@ -69,6 +72,8 @@ impl<'p> Keeper<'p> {
         ensures holds { OnOk result (HoldsJoins self.new (D.may_leave disk.new)) }
         ensures more { OnOk result (HasMore self.old.ledger.joins self.new.ledger.joins) }
         ensures any_moment { LeavesOnly D.moment D.left_since disk.old disk.new (RepresentsMore self.old.ledger.joins) }
+        ensures leaves_at_most { (p : Play) → RepresentsKept self.old p → R.random fresh.old ≡ Some p.random
+            → LeavesAtMost D.moment D.left_since disk.old disk.new (starts p start_of.now) (length p.past.calls) }
         ensures progress { (p : Play) (start : Outside) → RepresentsKept self.old p → R.random fresh.old ≡ Some p.random
             → Whole start (record { written = O.written out.old; sent = L.sent link.old }) p.steps
             → Progressed start (record { written = O.written out.new; sent = L.sent link.new }) (D.may_leave disk.new) self.new (R.random fresh.new) (starts p start_of.now) result }
@@ -102,6 +107,10 @@ impl<'p> Keeper<'p> {
         ensures at_most { (deliveries : List (List ℕ)) → L.deliveries link.old ≡ Some deliveries → (n : ℕ) × (n ≤ most) × (L.deliveries link.new ≡ Some (drop n deliveries)) }
         ensures holds { OnOk result (HoldsJoins self.new (D.may_leave disk.new)) }
         ensures any_moment { LeavesOnly D.moment D.left_since disk.old disk.new (RepresentsMore self.old.ledger.joins) }
+        ensures throughout { (p : Play) (start : Outside) (deliveries : List (List ℕ)) → L.deliveries link.old ≡ Some deliveries
+            → RepresentsKept self.old p → R.random fresh.old ≡ Some p.random
+            → Whole start (record { written = O.written out.old; sent = L.sent link.old }) p.steps
+            → KeptFrom D.moment D.left_since disk.old disk.new start.written (O.written out.new) p (all_deliveries p (take most deliveries)) }
     {
         for _taken in 0..most {
             match link.recv(alloc) {
@@ -137,6 +146,8 @@ impl<'p> Keeper<'p> {
         ensures holds { OnOk result (HoldsJoins self.new (D.may_leave disk.new)) }
         ensures more { OnOk result (HasMore self.old.ledger.joins self.new.ledger.joins) }
         ensures any_moment { LeavesOnly D.moment D.left_since disk.old disk.new (RepresentsMore self.old.ledger.joins) }
+        ensures leaves_at_most { (p : Play) → RepresentsKept self.old p
+            → LeavesAtMost D.moment D.left_since disk.old disk.new (with_turn p (Deliver bytes.now)) (length p.past.calls) }
         ensures progress { (p : Play) (start : Outside) → RepresentsKept self.old p → R.random fresh.old ≡ Some p.random
             → Whole start (record { written = O.written out.old; sent = L.sent link.old }) p.steps
             → Progressed start (record { written = O.written out.new; sent = L.sent link.new }) (D.may_leave disk.new) self.new (R.random fresh.new) (with_turn p (Deliver bytes.now)) result }
@@ -183,6 +194,12 @@ pub fn keep<'p, L: Link, R: Fresh, O: Sink, D: Disk>(
     ensures kept { (deliveries random : List (List ℕ)) → L.deliveries link.old ≡ Some deliveries → R.random fresh.old ≡ Some random
         → HasKept (record { written = O.written out.old; sent = L.sent link.old }) (record { written = O.written out.new; sent = L.sent link.new }) (D.may_leave disk.new)
         (played keys.now programs.now ledger.joins script (take most deliveries) random) result }
+
+    // And at each moment of the call a crash leaves the ledger with the joins of a prefix of the play: at most one join more than was reported by
+    // the lines that were written.
+    ensures throughout { (deliveries random : List (List ℕ)) → L.deliveries link.old ≡ Some deliveries → R.random fresh.old ≡ Some random
+        → KeptThroughout D.moment D.left_since disk.old disk.new (O.written out.old) (O.written out.new)
+        (played keys.now programs.now ledger.joins script (take most deliveries) random) }
     ensures left { OnOk result ((deliveries : List (List ℕ)) → L.deliveries link.old ≡ Some deliveries → L.deliveries link.new ≡ Some (drop most deliveries)) }
     ensures at_most { (deliveries : List (List ℕ)) → L.deliveries link.old ≡ Some deliveries → (n : ℕ) × (n ≤ most) × (L.deliveries link.new ≡ Some (drop n deliveries)) }
 {

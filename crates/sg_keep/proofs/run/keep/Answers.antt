@@ -4,12 +4,14 @@ use Rattle.sg_protocol.specs.NodeStates.{new_state}
 use Rattle.sg_script.specs.Script.{Script, Start as ScriptStart}
 use Rattle.sg_play.proofs.Endings.{whole_none}
 use Rattle.sg_play.specs.Ends.{Outside}
-use Rattle.sg_play.specs.Played.{all_starts, beginning, played}
+use Rattle.sg_play.specs.Played.{all_deliveries, all_starts, beginning, played}
 use Rattle.sg_keep.specs.Faults.{Counts}
-use Rattle.sg_keep.specs.KeptRuns.{HasKept}
+use Rattle.sg_keep.specs.KeptRuns.{HasKept, KeptThroughout}
 use Rattle.sg_keep.specs.declared.keeper.Keeper.{Keeper}
 use Rattle.sg_keep.proofs.Asking.{came_kept, holds_first, not_begun, represents_first, starts_ended}
+use Rattle.sg_keep.proofs.AtMost.{not_begun_throughout, throughout_on, throughout_then}
 use Rattle.sg_keep.proofs.Counting.{falls_of, later_counts, memory_counts, none_for_memory}
+use Rattle.sg_keep.proofs.Going.{by_deliveries, by_starts, in_step_on}
 use Rattle.sg_keep.proofs.Moments.{more_on, not_asked}
 use Rattle.sg_keep.proofs.run.keep.Goals as goal
 
@@ -88,3 +90,54 @@ returns-in-Err-clause-any_moment g c = not_asked g.D.Disk.moment g.D.Disk.left_s
 pub returns-clause-any_moment : goal.returns-clause-any_moment
 returns-clause-any_moment g c =
     more_on g.D.Disk.moment g.D.Disk.left_since c.args.disk.now c.start_all.new.disk c.take_all.new.disk c.args.ledger.joins c.start_all.new.self.ledger.joins c.in-Ok-start_all.ensures.more c.start_all.ensures.any_moment c.take_all.ensures.any_moment
+
+pub returns-in_default-clause-throughout : goal.returns-in_default-clause-throughout
+returns-in_default-clause-throughout g c = λ deliveries random reported drawn.
+    let first = c.args.ledger.joins in
+    not_begun_throughout g.D.Disk.moment g.D.Disk.left_since c.args.disk.now (g.D.Disk.may_leave c.args.disk.now) (g.met.D.Disk.only_now c.args.disk.now) (g.O.Sink.written c.args.out.now)
+    c.args.keys.now c.args.programs.now first c.args.script (take c.args.most deliveries) random c.requires.represents
+
+pub returns-in-Err-clause-throughout : goal.returns-in-Err-clause-throughout
+returns-in-Err-clause-throughout g c = λ deliveries random reported drawn.
+    let first = c.args.ledger.joins in
+    not_begun_throughout g.D.Disk.moment g.D.Disk.left_since c.args.disk.now (g.D.Disk.may_leave c.args.disk.now) (g.met.D.Disk.only_now c.args.disk.now) (g.O.Sink.written c.args.out.now)
+    c.args.keys.now c.args.programs.now first c.args.script (take c.args.most deliveries) random c.requires.represents
+
+pub returns-in-Err-start_all-clause-throughout : goal.returns-in-Err-start_all-clause-throughout
+returns-in-Err-start_all-clause-throughout g c = λ deliveries random reported drawn.
+    let new = c.in-Ok.ensures.made ∙ (λ i. new_state (c.requires.keys i) c.args.programs.now (c.joins.ensures.joins i)) in
+    let start : Outside = record { written = g.O.Sink.written c.args.out.now; sent = g.L.Link.sent c.args.link.now } in
+    let keeper : Keeper = record { player = c.in-Ok-new.player; ledger = c.args.ledger } in
+    let first = c.args.ledger.joins in
+    let script : Script = record { starts = c.as_slice.result.now; choices = c.script.inside.choices } in
+    let is : script ≡ c.args.script = ap (λ (ss : List ScriptStart). record { starts = ss; choices = c.script.inside.choices }) c.as_slice.ensures ∙ c.script.view_is in
+    let begun = beginning c.args.keys.now c.args.programs.now first script.choices random in
+    let held = represents_first keeper c.args.keys.now c.args.programs.now first script.choices random (c.in-Ok-new.ensures.represents first random new) in
+    let started = all_starts begun script.starts in
+    let all = all_deliveries started (take c.args.most deliveries) in
+    let goes = by_deliveries started (take c.args.most deliveries) in
+    let in_step = in_step_on begun started (by_starts begun script.starts) refl in
+    let kept = c.start_all.ensures.throughout begun start held drawn (whole_none start) in
+    subst (λ (z : Script). KeptThroughout g.D.Disk.moment g.D.Disk.left_since c.args.disk.now c.start_all.new.disk start.written (g.O.Sink.written c.start_all.new.out) (played c.args.keys.now c.args.programs.now first z (take c.args.most deliveries) random)) is
+    (throughout_on g.D.Disk.moment g.D.Disk.left_since c.args.disk.now c.start_all.new.disk start.written (g.O.Sink.written c.start_all.new.out) started all goes in_step kept.0)
+
+pub returns-clause-throughout : goal.returns-clause-throughout
+returns-clause-throughout g c = λ deliveries random reported drawn.
+    let new = c.in-Ok.ensures.made ∙ (λ i. new_state (c.requires.keys i) c.args.programs.now (c.joins.ensures.joins i)) in
+    let start : Outside = record { written = g.O.Sink.written c.args.out.now; sent = g.L.Link.sent c.args.link.now } in
+    let keeper : Keeper = record { player = c.in-Ok-new.player; ledger = c.args.ledger } in
+    let first = c.args.ledger.joins in
+    let script : Script = record { starts = c.as_slice.result.now; choices = c.script.inside.choices } in
+    let is : script ≡ c.args.script = ap (λ (ss : List ScriptStart). record { starts = ss; choices = c.script.inside.choices }) c.as_slice.ensures ∙ c.script.view_is in
+    let begun = beginning c.args.keys.now c.args.programs.now first script.choices random in
+    let held = represents_first keeper c.args.keys.now c.args.programs.now first script.choices random (c.in-Ok-new.ensures.represents first random new) in
+    let started = all_starts begun script.starts in
+    let all = all_deliveries started (take c.args.most deliveries) in
+    let goes = by_deliveries started (take c.args.most deliveries) in
+    let in_step = in_step_on begun started (by_starts begun script.starts) refl in
+    let now = g.O.Sink.written c.take_all.new.out in
+    let kept = c.start_all.ensures.throughout begun start held drawn (whole_none start) in
+    let came = c.in-Ok-start_all.ensures.progress begun start held drawn (whole_none start) in
+    let later = c.take_all.ensures.throughout started start deliveries (c.in-Ok-start_all.ensures.deliveries ∙ reported) came.0 came.2 came.1 in
+    subst (λ (z : Script). KeptThroughout g.D.Disk.moment g.D.Disk.left_since c.args.disk.now c.take_all.new.disk start.written now (played c.args.keys.now c.args.programs.now first z (take c.args.most deliveries) random)) is
+    (throughout_then g.D.Disk.moment g.D.Disk.left_since c.args.disk.now c.start_all.new.disk c.take_all.new.disk start.written (g.O.Sink.written c.start_all.new.out) now started all goes in_step kept.0 later)

@@ -2,11 +2,13 @@ use Rattle.std.proofs.Common.{refl}
 use Rattle.std.specs.Option.{option_copied}
 use Rattle.sg_protocol.specs.Calls.{Deliver}
 use Rattle.sg_report.specs.Outcome.{outcome_of}
+use Rattle.sg_play.specs.Ends.{Outside}
 use Rattle.sg_play.specs.Played.{with_turn}
 use Rattle.sg_keep.specs.declared.keeper.Keeper.{Keeper}
-use Rattle.sg_keep.proofs.Asking.{asked_node, is_asked, memory_end}
+use Rattle.sg_keep.proofs.Asking.{asked_node, holds_all, is_asked, ledger_has, memory_end, node_has}
 use Rattle.sg_keep.proofs.Counting.{memory_counts}
 use Rattle.sg_keep.proofs.Going.{with_call}
+use Rattle.sg_keep.proofs.AtMost.{call_at_most, not_asked_at_most}
 use Rattle.sg_keep.proofs.Moments.{all_held, asked_more, either_more, more_on_ok, not_asked}
 use Rattle.sg_keep.proofs.keeper.Keeper.deliver.Goals as goal
 
@@ -50,3 +52,19 @@ pub returns-in-Err-clause-any_moment : goal.returns-in-Err-clause-any_moment
 returns-in-Err-clause-any_moment g c =
     let leaves = g.D.Disk.may_leave c.args.disk.now in
     not_asked g.D.Disk.moment g.D.Disk.left_since c.args.disk.now leaves (g.met.D.Disk.only_now c.args.disk.now) c.args.self.now.ledger.joins (all_held c.args.self.now leaves c.requires.holds)
+
+pub returns-in-Ok-clause-leaves_at_most : goal.returns-in-Ok-clause-leaves_at_most
+returns-in-Ok-clause-leaves_at_most g c = λ p s.
+    let leaves = g.D.Disk.may_leave c.args.disk.now in
+    let now : Outside = record { written = g.O.Sink.written c.args.out.now; sent = g.L.Link.sent c.args.link.now } in
+    let k : Keeper = record c.args.self.now { player = c.ask_deliver.new.self } in
+    let reported = outcome_of c.in-Ok.outcome in
+    let graph = option_copied c.in-Ok.graph in
+    let call = Deliver c.args.bytes.now in
+    let a = is_asked c.args.self.now c.ask_deliver.new.self leaves p call reported graph c.requires.holds s c.in-Ok.ensures.rest (λ number. c.in-Ok.ensures.is_asked number p.past s.player.node) refl in
+    call_at_most g.D.Disk.moment g.D.Disk.left_since c.args.disk.now c.report.new.disk p call k.ledger.joins k.player.node.joins (ledger_has now now leaves k p call reported graph a) (node_has now now leaves k p call reported graph a) c.report.ensures.any_moment
+
+pub returns-in-Err-clause-leaves_at_most : goal.returns-in-Err-clause-leaves_at_most
+returns-in-Err-clause-leaves_at_most g c = λ p s.
+    let leaves = g.D.Disk.may_leave c.args.disk.now in
+    not_asked_at_most g.D.Disk.moment g.D.Disk.left_since c.args.disk.now leaves (g.met.D.Disk.only_now c.args.disk.now) p (with_turn p (Deliver c.args.bytes.now)) (with_call p (Deliver c.args.bytes.now)) (holds_all c.args.self.now leaves p c.requires.holds s)

@@ -1,20 +1,23 @@
-use Rattle.std.proofs.Common.{◌+◌, List, take, Ok, Err, refl, ◌∙◌, subst}
+use Rattle.std.proofs.Common.{◌+◌, List, length, take, Ok, Err, refl, sym, ◌∙◌, subst, arith}
 use Rattle.std.proofs.lemmas.List.{take_all}
 use Rattle.sg_script.specs.Script.{Start as ScriptStart}
 use Rattle.sg_play.specs.Ends.{Outside}
 use Rattle.sg_play.specs.Played.{Play, all_starts, starts}
 use Rattle.sg_play.proofs.Looping.{start_next}
 use Rattle.sg_keep.specs.Faults.{Counts}
-use Rattle.sg_keep.specs.KeptRuns.{HasKept}
+use Rattle.sg_keep.specs.KeptRuns.{HasKept, LeavesAtMost}
 use Rattle.sg_keep.specs.Representation.{Progressed}
+use Rattle.sg_keep.proofs.Asking.{holds_all}
+use Rattle.sg_keep.proofs.AtMost.{kept_at, kept_by, leaves_on, leaves_then, no_fewer_calls, not_asked_at_most}
 use Rattle.sg_keep.proofs.Counting.{falls_of, falls_on, later_counts, no_fall, went}
 use Rattle.sg_keep.proofs.Ending.{end_on, to_same}
-use Rattle.sg_keep.proofs.Going.{starts_on}
+use Rattle.sg_keep.proofs.Going.{Goes, by_start, by_starts, nothing, starts_on}
 use Rattle.sg_keep.proofs.Moments.{all_held, more_none, more_on, more_then, not_asked}
+use Rattle.sg_keep.proofs.Silent.{represents_silent, silent, whole_silent, written_since}
 use Rattle.sg_keep.proofs.keeper.Keeper.start_all.Goals as goal
 
 pub loop-start-init : goal.loop-start-init
-loop-start-init g c = record { link_bound = refl; disk_bound = refl; falls = no_fall (record { link = g.L.Link.faults c.args.link.now; out = g.O.Sink.faults c.args.out.now; disk = g.D.Disk.faults c.args.disk.now }); deliveries = refl; holds = c.requires.holds; more = more_none c.args.self.now.ledger.joins; any_moment = not_asked g.D.Disk.moment g.D.Disk.left_since c.args.disk.now (g.D.Disk.may_leave c.args.disk.now) (g.met.D.Disk.only_now c.args.disk.now) c.args.self.now.ledger.joins (all_held c.args.self.now (g.D.Disk.may_leave c.args.disk.now) c.requires.holds); progress = λ p start s w h. (s, h, w) }
+loop-start-init g c = record { link_bound = refl; disk_bound = refl; falls = no_fall (record { link = g.L.Link.faults c.args.link.now; out = g.O.Sink.faults c.args.out.now; disk = g.D.Disk.faults c.args.disk.now }); deliveries = refl; holds = c.requires.holds; more = more_none c.args.self.now.ledger.joins; any_moment = not_asked g.D.Disk.moment g.D.Disk.left_since c.args.disk.now (g.D.Disk.may_leave c.args.disk.now) (g.met.D.Disk.only_now c.args.disk.now) c.args.self.now.ledger.joins (all_held c.args.self.now (g.D.Disk.may_leave c.args.disk.now) c.requires.holds); leaves_at_most = λ p start s w h. not_asked_at_most g.D.Disk.moment g.D.Disk.left_since c.args.disk.now (g.D.Disk.may_leave c.args.disk.now) (g.met.D.Disk.only_now c.args.disk.now) p p (nothing p) (holds_all c.args.self.now (g.D.Disk.may_leave c.args.disk.now) p c.requires.holds s); progress = λ p start s w h. (s, h, w) }
 
 pub loop-start-preserved : goal.loop-start-preserved
 loop-start-preserved g c =
@@ -31,6 +34,16 @@ loop-start-preserved g c =
       holds = one.holds;
       more = more_then c.args.self.now.ledger.joins c.loop-start.self.ledger.joins c.start_one.new.self.ledger.joins inv.more one.more;
       any_moment = more_on g.D.Disk.moment g.D.Disk.left_since c.args.disk.now c.loop-start.disk c.start_one.new.disk c.args.self.now.ledger.joins c.loop-start.self.ledger.joins inv.more inv.any_moment c.start_one.ensures.any_moment;
+      leaves_at_most = λ p start s w h.
+          let at = c.loop-start.start-index in
+          let so_far : Play = all_starts p (take at c.args.starts.now) in
+          let next : Play = starts so_far c.start-item.result in
+          let before = inv.progress p start s w h in
+          let g' = by_start so_far c.start-item.result in
+          let few = no_fewer_calls so_far next g' in
+          subst (λ (z : Play). LeavesAtMost g.D.Disk.moment g.D.Disk.left_since c.args.disk.now c.start_one.new.disk z (length z.past.calls)) (start_next p at c.args.starts.now c.start-item.result c.loop-start-test.true c.start-item.is)
+          (leaves_then g.D.Disk.moment g.D.Disk.left_since c.args.disk.now c.loop-start.disk c.start_one.new.disk so_far next g' (length so_far.past.calls) (length next.past.calls) (omega arith) few (inv.leaves_at_most p start s w h)
+          (leaves_on g.D.Disk.moment g.D.Disk.left_since c.loop-start.disk c.start_one.new.disk next next (nothing next) (length so_far.past.calls) (length next.past.calls) few few (one.leaves_at_most so_far before.0 before.2)));
       progress = λ p start s w h.
           let now : Outside = record { written = g.O.Sink.written c.start_one.new.out; sent = g.L.Link.sent c.start_one.new.link } in
           let at = c.loop-start.start-index in
@@ -69,3 +82,34 @@ pub returns-in-Err-clause-any_moment : goal.returns-in-Err-clause-any_moment
 returns-in-Err-clause-any_moment g c =
     let inv = c.loop-start.invariant in
     more_on g.D.Disk.moment g.D.Disk.left_since c.args.disk.now c.loop-start.disk c.start_one.new.disk c.args.self.now.ledger.joins c.loop-start.self.ledger.joins inv.more inv.any_moment c.start_one.ensures.any_moment
+
+pub returns-in-Err-clause-throughout : goal.returns-in-Err-clause-throughout
+returns-in-Err-clause-throughout g c = λ p start s w h.
+    let inv = c.loop-start.invariant in
+    let leaves = g.D.Disk.may_leave c.start_one.new.disk in
+    let at = c.loop-start.start-index in
+    let mid : Outside = record { written = g.O.Sink.written c.loop-start.out; sent = g.L.Link.sent c.loop-start.link } in
+    let now : Outside = record { written = g.O.Sink.written c.start_one.new.out; sent = g.L.Link.sent c.start_one.new.link } in
+    let from : Outside = record { written = mid.written; sent = start.sent } in
+    let so_far : Play = all_starts p (take at c.args.starts.now) in
+    let next : Play = starts so_far c.start-item.result in
+    let all : Play = all_starts p c.args.starts.now in
+    let before = inv.progress p start s w h in
+    let is = start_next p at c.args.starts.now c.start-item.result c.loop-start-test.true c.start-item.is in
+    let few = no_fewer_calls so_far next (by_start so_far c.start-item.result) in
+    let goes : Goes next all = subst (λ (z : Play). Goes z all) (sym is) (starts_on p (at + 1) c.args.starts.now) in
+    let more = written_since from now leaves (starts (silent so_far) c.start-item.result) c.in-Err.fault
+    (c.in-Err.ensures.progress (silent so_far) from (represents_silent c.loop-start.self so_far before.0) before.2 (whole_silent start mid so_far before.1)) in
+    let images = leaves_then g.D.Disk.moment g.D.Disk.left_since c.args.disk.now c.loop-start.disk c.start_one.new.disk so_far next (by_start so_far c.start-item.result) (length so_far.past.calls) (length so_far.past.calls) (omega arith) (omega arith)
+    (inv.leaves_at_most p start s w h) (c.start_one.ensures.leaves_at_most so_far before.0 before.2) in
+    kept_by g.D.Disk.moment g.D.Disk.left_since c.args.disk.now c.start_one.new.disk start.written mid.written now.written p so_far all (by_starts p (take at c.args.starts.now)) (starts_on p at c.args.starts.now) before.0.in_step before.1.lines more
+    (leaves_on g.D.Disk.moment g.D.Disk.left_since c.args.disk.now c.start_one.new.disk next all goes (length so_far.past.calls) (length so_far.past.calls) few (omega arith) images)
+
+pub returns-clause-throughout : goal.returns-clause-throughout
+returns-clause-throughout g c = λ p start s w h.
+    let inv = c.loop-start.invariant in
+    let at = c.loop-start.start-index in
+    let so_far : Play = all_starts p (take at c.args.starts.now) in
+    let before = inv.progress p start s w h in
+    kept_at g.D.Disk.moment g.D.Disk.left_since c.args.disk.now c.loop-start.disk start.written (g.O.Sink.written c.loop-start.out) p so_far (all_starts p c.args.starts.now) (by_starts p (take at c.args.starts.now)) (starts_on p at c.args.starts.now)
+    before.0.in_step before.1.lines (inv.leaves_at_most p start s w h)

@@ -1,4 +1,4 @@
-use Rattle.std.proofs.Common.{◌≡◌, refl}
+use Rattle.std.proofs.Common.{◌≡◌, length, refl, subst}
 use Rattle.std.specs.Option.{option_copied}
 use Rattle.sg_protocol.specs.Calls.{Start}
 use Rattle.sg_report.specs.Outcome.{outcome_of}
@@ -6,10 +6,12 @@ use Rattle.sg_play.specs.Ends.{Outside}
 use Rattle.sg_play.specs.Played.{Play, cast_of_start, starts, with_turn, without}
 use Rattle.sg_play.proofs.Running.{start_is, without_one}
 use Rattle.sg_keep.specs.declared.keeper.Keeper.{Keeper}
-use Rattle.sg_keep.proofs.Asking.{asked_node, is_asked, kept_without, memory_end}
+use Rattle.sg_keep.specs.KeptRuns.{LeavesAtMost}
+use Rattle.sg_keep.proofs.Asking.{asked_node, holds_all, is_asked, kept_without, ledger_has, memory_end, node_has}
 use Rattle.sg_keep.proofs.Counting.{memory_counts}
 use Rattle.sg_keep.proofs.Ending.{to_same}
 use Rattle.sg_keep.proofs.Going.{by_start}
+use Rattle.sg_keep.proofs.AtMost.{call_at_most, not_asked_at_most}
 use Rattle.sg_keep.proofs.Moments.{all_held, asked_more, either_more, more_on_ok, not_asked}
 use Rattle.sg_keep.proofs.keeper.Keeper.start_one.Goals as goal
 
@@ -60,3 +62,23 @@ pub returns-in-Err-clause-any_moment : goal.returns-in-Err-clause-any_moment
 returns-in-Err-clause-any_moment g c =
     let leaves = g.D.Disk.may_leave c.args.disk.now in
     not_asked g.D.Disk.moment g.D.Disk.left_since c.args.disk.now leaves (g.met.D.Disk.only_now c.args.disk.now) c.args.self.now.ledger.joins (all_held c.args.self.now leaves c.requires.holds)
+
+pub returns-in-Ok-clause-leaves_at_most : goal.returns-in-Ok-clause-leaves_at_most
+returns-in-Ok-clause-leaves_at_most g c = λ p s w.
+    let leaves = g.D.Disk.may_leave c.args.disk.now in
+    let now : Outside = record { written = g.O.Sink.written c.args.out.now; sent = g.L.Link.sent c.args.link.now } in
+    let k : Keeper = record c.args.self.now { player = c.ask_start.new.self } in
+    let reported = outcome_of c.in-Ok.outcome in
+    let graph = option_copied c.in-Ok.graph in
+    let q : Play = without 1 p in
+    let cast = cast_of_start c.args.self.now.player.programs.now c.args.start_of.now c.next-nonce.result in
+    let t = kept_without c.args.self.now p q refl refl (without_one c.args.self.now.player p s.player) s in
+    let is : with_turn q (Start cast) ≡ starts p c.args.start_of.now = start_is p c.args.start_of.now c.args.self.now.player.programs.now c.next-nonce.result cast s.player.programs (c.next-nonce.ensures.drawn p.random w) refl in
+    let a = is_asked c.args.self.now c.ask_start.new.self leaves q (Start cast) reported graph c.requires.holds t c.in-Ok.ensures.rest (λ number. c.in-Ok.ensures.is_asked number q.past t.player.node) refl in
+    subst (λ (z : Play). LeavesAtMost g.D.Disk.moment g.D.Disk.left_since c.args.disk.now c.report.new.disk z (length p.past.calls)) is
+    (call_at_most g.D.Disk.moment g.D.Disk.left_since c.args.disk.now c.report.new.disk q (Start cast) k.ledger.joins k.player.node.joins (ledger_has now now leaves k q (Start cast) reported graph a) (node_has now now leaves k q (Start cast) reported graph a) c.report.ensures.any_moment)
+
+pub returns-in-Err-clause-leaves_at_most : goal.returns-in-Err-clause-leaves_at_most
+returns-in-Err-clause-leaves_at_most g c = λ p s w.
+    let leaves = g.D.Disk.may_leave c.args.disk.now in
+    not_asked_at_most g.D.Disk.moment g.D.Disk.left_since c.args.disk.now leaves (g.met.D.Disk.only_now c.args.disk.now) p (starts p c.args.start_of.now) (by_start p c.args.start_of.now) (holds_all c.args.self.now leaves p c.requires.holds s)
