@@ -7,9 +7,11 @@ use Rattle.std.proofs.lemmas.List.{length-append, take-append-drop}
 use Rattle.std.proofs.lemmas.List.Concat.{flat_map-append}
 use Rattle.sg_base.specs.declared.address.Addr.{Addr}
 use Rattle.sg_base.specs.Outside.{Appends}
+use Rattle.sg_keep.specs.Joins.{joins_made}
 use Rattle.sg_keep.specs.KeptRuns.{HasKept, KeptPrefix, RepresentsFirst}
 use Rattle.sg_keep.specs.declared.fault.KeepFault.{KeepFault}
 use Rattle.sg_keep.specs.declared.fault.KeepFault.TheVariants.{Played, DiskFailed}
+use Rattle.sg_keep.proofs.Owning.{none_sent}
 use Rattle.sg_keep.proofs.Going.{by_deliveries, by_starts, in_step_on}
 use Rattle.sg_ledger.specs.Format.{Join}
 use Rattle.sg_model.specs.Names.{Name}
@@ -30,7 +32,7 @@ use Rattle.sg_protocol.specs.Named.{live_with}
 use Rattle.sg_protocol.specs.Turn.{turn_of}
 use Rattle.sg_script.specs.Script.{Start as ScriptStart, Choice, Script}
 use Rattle.sg_lives.specs.LedgerRuns.{HasWritten, IsOver, IsRun, LedgerRun}
-use Rattle.sg_lives.specs.PlayedRuns.{IsPlayedRun, KeptIsRun}
+use Rattle.sg_lives.specs.PlayedRuns.{CutOffIsRun, IsPlayedRun, KeptIsRun}
 
 -- one answer more
 answers_more : (sha : Hash) (n : Node) (cs : List AnsweredCall) (c : Call) → AreAnswers sha n cs → AreAnswers sha n (cs ++ record { call = c; answer = answer sha (node_after_all n cs) c } ∷ [])
@@ -147,3 +149,10 @@ played_in_step keys programs opened script deliveries random =
 pub kept_is_run : KeptIsRun
 kept_is_run old new may_leave image keys programs opened script deliveries random result h may =
     left_by old new opened (played keys programs opened script deliveries random) (played_over opened keys programs script deliveries random) (played_in_step keys programs opened script deliveries random) image may_leave may result h
+
+pub cut_off_is_run : CutOffIsRun
+cut_off_is_run image keys programs opened script deliveries random count h =
+    let p : Play = played keys programs opened script deliveries random in
+    let over : IsOver opened p.past = played_over opened keys programs script deliveries random in
+    let left : RepresentsFirst image p.past.first p.past.calls 0 [] = record { prefix = h.prefix; rest = h.rest; is = h.is; enough = omega arith; sent = none_sent (joins_made h.prefix); represents = h.represents } in
+    record { over = over; left = subst (λ (js : List Join). RepresentsFirst image js p.past.calls 0 []) over.0 left }

@@ -1,7 +1,7 @@
 -- A run of `keep` is a run over the ledger.
-use Rattle.std.specs.Prelude.{◌≡◌, ℕ, List, take, Result}
+use Rattle.std.specs.Prelude.{◌≡◌, ℕ, List, [], take, Result}
 use Rattle.sg_base.specs.Outside.{Appends}
-use Rattle.sg_keep.specs.KeptRuns.{HasKept}
+use Rattle.sg_keep.specs.KeptRuns.{HasKept, RepresentsAtMost}
 use Rattle.sg_keep.specs.declared.fault.KeepFault.{KeepFault}
 use Rattle.sg_ledger.specs.Format.{Join}
 use Rattle.sg_play.specs.Ends.{Outside}
@@ -21,3 +21,9 @@ abbrev pub KeptIsRun : Type 0
 KeptIsRun = (old new : Outside) (may_leave : List ℕ → Type 0) (image : List ℕ) (keys : Keyring) (programs : List Program) (opened : List Join) (script : Script) (deliveries random : List (List ℕ)) (result : Result (Unit {0}) KeepFault) →
     let p = played keys programs opened script deliveries random in
     HasKept old new may_leave p result → may_leave image → (r : LedgerRun) × (r.image ≡ image) × IsRun opened r × IsPlayedRun old new p r
+
+-- So is an image that a crash leaves at any moment of a run of `keep`, of which nothing is then said to be reported
+abbrev pub CutOffIsRun : Type 0
+CutOffIsRun = (image : List ℕ) (keys : Keyring) (programs : List Program) (opened : List Join) (script : Script) (deliveries random : List (List ℕ)) (count : ℕ) →
+    let p = played keys programs opened script deliveries random in
+    RepresentsAtMost p.past.first p.past.calls count image → IsRun opened (record { past = p.past; reported = 0; sent = []; image = image })

@@ -6,7 +6,7 @@
 #![tactic(auto)]
 
 ghost use Rattle.sg_lives.specs.LedgerRuns.{RunsAreLives, RunsReportJoinsOnce};
-ghost use Rattle.sg_lives.specs.PlayedRuns.{KeptIsRun};
+ghost use Rattle.sg_lives.specs.PlayedRuns.{CutOffIsRun, KeptIsRun};
 ghost use Rattle.sg_lives.specs.ServedRuns.{ServedIsRun};
 
 /// Runs over one ledger, each of which opens what the one before left, are lives of one principal, each of the first calls of its
@@ -19,9 +19,10 @@ pub fn runs_are_lives()
 
 /// However a run of `keep` ended, what a crash may then leave of the disk is left by a run over the ledger: its node had joined
 /// what the ledger was opened with, the calls are those of its play, and what is left represents the joins of first calls: of
-/// all whose lines were begun, and with those of each frame that the link took.
+/// all whose lines were begun, and with those of each frame that the link took. So is what a crash leaves at any moment of the run.
 pub fn kept_is_run()
-    ensures { KeptIsRun }
+    ensures ended { KeptIsRun }
+    ensures cut_off { CutOffIsRun }
 {}
 
 /// However a run of `serve` over a ledger ended, what a crash may then leave of the disk is left by a run over the ledger: its node had
