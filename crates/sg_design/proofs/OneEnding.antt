@@ -34,7 +34,7 @@ check_cause bytes a a' (NoGraph fault) (same, e) n = Before (fault, refl, e)
 check_cause bytes a a' (GraphRefused g fault) (same, s, r) n = Refused s r
 check_cause bytes a a' WriteFailed (text, t, w) n = CompiledGraph t.spelled t.compiled t.few
 check_cause bytes a a' NoMemory h n = absurd (cc)
-check_cause bytes a a' _ h n = absurd h.1.1
+check_cause bytes a a' _ h n = absurd h.2
 
 pub check_once : EndsOnce Checks most_graph_file
 check_once =
@@ -46,7 +46,7 @@ suggest_cause bytes a a' (NoGraph fault) (same, e) n = Before (fault, refl, e)
 suggest_cause bytes a a' (GraphRefused g fault) (same, s, r) n = Refused s r
 suggest_cause bytes a a' WriteFailed (text, t, w) n = CompiledGraph t.accepted.spelled t.accepted.compiled t.accepted.few
 suggest_cause bytes a a' NoMemory h n = absurd (cc)
-suggest_cause bytes a a' _ h n = absurd h.1.1
+suggest_cause bytes a a' _ h n = absurd h.2
 
 pub suggest_once : EndsOnce Suggests most_graph_file
 suggest_once =
@@ -86,7 +86,7 @@ compose_cause bytes a a' (NoExpansion fault) (same, (ps, s, e)) n = Before (inr 
 compose_cause bytes a a' (GraphRefused g fault) (same, (ps, s, e, r)) n = Refused (ps, s, e) r
 compose_cause bytes a a' WriteFailed (text, t, w) n = CompiledGraph (t.parts, t.spelled, t.expanded) t.compiled t.few
 compose_cause bytes a a' NoMemory h n = absurd (cc)
-compose_cause bytes a a' _ h n = absurd h.1.1
+compose_cause bytes a a' _ h n = absurd h.2
 
 pub compose_once : EndsOnce Composes most_graph_file
 compose_once =
@@ -159,7 +159,7 @@ compile_cause name bytes a a' (GraphRefused g fault) (same, s, r) n = Unfit s r
 compile_cause name bytes a a' (NoRole role) (same, is, l) n = subst (λ w. CompileCause name bytes (NoRole w)) (sym is) (Lacks l)
 compile_cause name bytes a a' WriteFailed (text, t, w) n = Compiled t
 compile_cause name bytes a a' NoMemory h n = absurd (cc)
-compile_cause name bytes a a' _ h n = absurd h.1.1
+compile_cause name bytes a a' _ h n = absurd h.2
 
 pub compile_once : (name : List ℕ) → EndsOnce (Compiles name) most_graph_file
 compile_once name =

@@ -50,7 +50,7 @@ audit_cause bytes a a' (WrongLine line wrong) (same, e) n = Before e
 audit_cause bytes a a' WriteFailed (text, t, w) n = CompiledGraph (t.logs, t.spelled, refl) t.compiled t.few
 audit_cause bytes a a' NoMemory h n = absurd (cc)
 audit_cause bytes a a' (TooLarge what) (same, e) n = Before e
-audit_cause bytes a a' _ h n = absurd h.1.1
+audit_cause bytes a a' _ h n = absurd h.2
 
 pub audit_once : EndsOnce Audits most_logs_file
 audit_once =
@@ -125,7 +125,7 @@ replay_cause bytes a a' WriteFailed (text, t, w) n = Replayed t
 replay_cause bytes a a' NoMemory h n = absurd (cc)
 replay_cause bytes a a' (TooLarge what) (same, inl e) n = WrongAt e
 replay_cause bytes a a' (TooLarge what) (same, inr (is, o)) n = subst (λ w. ReplayCause bytes (TooLarge w)) (sym is) (FullIn o)
-replay_cause bytes a a' _ h n = absurd h.1.1
+replay_cause bytes a a' _ h n = absurd h.2
 
 pub replay_once : EndsOnce Replays most_schedule_file
 replay_once =
@@ -187,7 +187,7 @@ drive_cause seed sessions bytes a a' (GraphRefused g fault) (same, s, r) n = Ref
 drive_cause seed sessions bytes a a' WriteFailed (text, t, w) n = Driven t
 drive_cause seed sessions bytes a a' NoMemory h n = absurd (cc)
 drive_cause seed sessions bytes a a' (TooLarge what) (same, is, o) n = subst (λ w. DriveCause seed sessions bytes (TooLarge w)) (sym is) (FullOf o)
-drive_cause seed sessions bytes a a' _ h n = absurd h.1.1
+drive_cause seed sessions bytes a a' _ h n = absurd h.2
 
 -- since there is one generated run
 pub drive_once : GeneratedIsOne → (seed sessions : ℕ) → EndsOnce (Drives seed sessions) most_graph_file
