@@ -147,8 +147,8 @@ played_in_step keys programs opened script deliveries random =
     in_step_on started (all_deliveries started deliveries) (by_deliveries started deliveries) (in_step_on begun started (by_starts begun script.starts) refl)
 
 pub kept_is_run : KeptIsRun
-kept_is_run old new may_leave image keys programs opened script deliveries random result h may =
-    left_by old new opened (played keys programs opened script deliveries random) (played_over opened keys programs script deliveries random) (played_in_step keys programs opened script deliveries random) image may_leave may result h
+kept_is_run old new image keys programs opened script deliveries random result h =
+    left_by old new opened (played keys programs opened script deliveries random) (played_over opened keys programs script deliveries random) (played_in_step keys programs opened script deliveries random) image (λ i. i ≡ image) refl result h
 
 pub cut_off_is_run : CutOffIsRun
 cut_off_is_run image keys programs opened script deliveries random count h =

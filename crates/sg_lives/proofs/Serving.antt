@@ -147,4 +147,4 @@ module _ (keys : Keyring) (programs : List Program) (opened : List Join) (coming
       ended left xs rest (Err OutOfMemory) first h = between xs rest first h.gave h.kept
 
 pub served_is_run : ServedIsRun
-served_is_run old new left images image keys programs opened coming random input result h may = ended keys programs opened coming random old new image input images may left h.prefix h.rest result h.is h.ended
+served_is_run old new left image keys programs opened coming random input result h = ended keys programs opened coming random old new image input (λ i. i ≡ image) refl left h.prefix h.rest result h.is h.ended

@@ -18,9 +18,9 @@ pub record IsPlayedRun (old new : Outside) (p : Play) (r : LedgerRun) : Type 0 w
 
 -- However a run of `keep` ended, an image that a crash may then leave of the disk is left by such a run
 abbrev pub KeptIsRun : Type 0
-KeptIsRun = (old new : Outside) (may_leave : List ℕ → Type 0) (image : List ℕ) (keys : Keyring) (programs : List Program) (opened : List Join) (script : Script) (deliveries random : List (List ℕ)) (result : Result (Unit {0}) KeepFault) →
+KeptIsRun = (old new : Outside) (image : List ℕ) (keys : Keyring) (programs : List Program) (opened : List Join) (script : Script) (deliveries random : List (List ℕ)) (result : Result (Unit {0}) KeepFault) →
     let p = played keys programs opened script deliveries random in
-    HasKept old new may_leave p result → may_leave image → (r : LedgerRun) × (r.image ≡ image) × IsRun opened r × IsPlayedRun old new p r
+    HasKept old new (λ i. i ≡ image) p result → (r : LedgerRun) × (r.image ≡ image) × IsRun opened r × IsPlayedRun old new p r
 
 -- So is an image that a crash leaves at any moment of a run of `keep`, of which nothing is then said to be reported
 abbrev pub CutOffIsRun : Type 0

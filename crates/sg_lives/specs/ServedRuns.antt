@@ -27,6 +27,6 @@ pub record IsServedRun (old new : Outside) (start : Run) (input : List Line) (r 
 
 -- However a run of `serve` over a ledger ended, an image that a crash may then leave of the disk is left by such a run
 abbrev pub ServedIsRun : Type 0
-ServedIsRun = (old new : Outside) (left : Option (List (List ℕ))) (images : List ℕ → Type 0) (image : List ℕ) (keys : Keyring) (programs : List Program) (opened : List Join) (coming : List Coming) (random : List (List ℕ)) (input : List Line) (result : Result (Unit {0}) ServeFault) →
+ServedIsRun = (old new : Outside) (left : Option (List (List ℕ))) (image : List ℕ) (keys : Keyring) (programs : List Program) (opened : List Join) (coming : List Coming) (random : List (List ℕ)) (input : List Line) (result : Result (Unit {0}) ServeFault) →
     let start = opening keys programs opened coming random in
-    Served old new left images start input result → images image → (r : LedgerRun) × (r.image ≡ image) × IsRun opened r × IsServedRun old new start input r
+    Served old new left (λ i. i ≡ image) start input result → (r : LedgerRun) × (r.image ≡ image) × IsRun opened r × IsServedRun old new start input r
