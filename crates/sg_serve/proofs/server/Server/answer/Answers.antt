@@ -22,7 +22,7 @@ returns-in_default-clause-answered g c = λ r st w co.
 pub reply-requires : goal.reply-requires
 reply-requires g c = record {
   holds = c.requires.holds;
-  given = assigned_read c.in-Some.bytes.now c.in-Ok-Some.request (sym c.in-Ok-Some.ensures ∙ c.in-Ok-Some.field-0-is);
+  assigned = assigned_read c.in-Some.bytes.now c.in-Ok-Some.request (sym c.in-Ok-Some.ensures ∙ c.in-Ok-Some.field-0-is);
 }
 
 pub returns-in-Ok-Some-Receive-clause-answered : goal.returns-in-Ok-Some-Receive-clause-answered
