@@ -133,24 +133,24 @@ module _ (p : SoFar) (a : AllFit p) where
   early_more : (j i : Item) (n : ℕ) → n ≤ 3 → p.group ≤ n → (plus p j).steps ≡ p.steps → j ≡ i → AllFit (plus p i)
   early_more j i n l h none same = subst (λ i. AllFit (plus p i)) same (early j none (omega (arith, l, h)))
 
-  reply_more : (reply : LineContent) (i : Item) → IsRight p reply → made_after p reply ≡ Some i → AllFit (plus p i)
-  reply_more BlockLine i r m = absurd (cc)
-  reply_more (EdgeLine label from to) i r m = early_more (EdgeItem (edge label from to)) i 0 (omega arith) (in_group p 0 (or_parts (nat_lt 0 p.group) _ r.form).0) refl (cc)
-  reply_more (HonestLine who) i r m = early_more (HonestItem who) i 1 (omega arith) (in_group p 1 r.form) refl (cc)
-  reply_more (KeyLine one two digits) i r m = let k : PairKey = record { one = one; two = two; key = bytes_of digits } in early_more (KeyItem k) i 2 (omega arith) (in_group p 2 r.form) refl (cc)
-  reply_more (SessionLine name graph nonce names version) i r m =
+  statement_more : (statement : LineContent) (i : Item) → IsRight p statement → made_after p statement ≡ Some i → AllFit (plus p i)
+  statement_more BlockLine i r m = absurd (cc)
+  statement_more (EdgeLine label from to) i r m = early_more (EdgeItem (edge label from to)) i 0 (omega arith) (in_group p 0 (or_parts (nat_lt 0 p.group) _ r.form).0) refl (cc)
+  statement_more (HonestLine who) i r m = early_more (HonestItem who) i 1 (omega arith) (in_group p 1 r.form) refl (cc)
+  statement_more (KeyLine one two digits) i r m = let k : PairKey = record { one = one; two = two; key = bytes_of digits } in early_more (KeyItem k) i 2 (omega arith) (in_group p 2 r.form) refl (cc)
+  statement_more (SessionLine name graph nonce names version) i r m =
       let s : Session = record { name = name; graph = index graph (graph_names (graphs_declared p)); nonce = nonce; names = names; version = version } in
       early_more (SessionItem s) i 3 (omega arith) (in_group p 3 (or_parts (nat_lt 3 p.group) _ r.form).0) refl (cc)
-  reply_more (StartLine who session) i r m = step_more (StartStep who (index session (session_names p))) i (record { of = r.honest; names = tt }) (cc)
-  reply_more (ActLine who session label vs) i r m =
+  statement_more (StartLine who session) i r m = step_more (StartStep who (index session (session_names p))) i (record { of = r.honest; names = tt }) (cc)
+  statement_more (ActLine who session label vs) i r m =
       let k = known_act session label vs (graph_for session p) r.known in
       step_more (ActStep who (index session (session_names p)) (index label (labels_of (graph_for session p))) (values (graph_for session p) vs)) i
       (record { of = r.honest; names = act_names who session label vs (graph_for session p) refl k.0 k.1 }) (cc)
-  reply_more (AbandonLine who session) i r m =
+  statement_more (AbandonLine who session) i r m =
       step_more (AbandonStep who (index session (session_names p))) i
       (record { of = r.honest; names = (let k = known_index session (session_names p) r.known in let l = length-map p.sessions (λ (s : Session). s.name) in omega (arith, k, l)) }) (cc)
-  reply_more (DeliverLine who what) i r m = step_more (DeliverStep who (what_of what)) i (record { of = r.honest; names = tt }) (cc)
-  reply_more (MakeLine c) i r m = step_more (CraftStep (craft p (graph_for c.session p) c)) i (record { of = refl; names = tt }) (cc)
+  statement_more (DeliverLine who what) i r m = step_more (DeliverStep who (what_of what)) i (record { of = r.honest; names = tt }) (cc)
+  statement_more (MakeLine c) i r m = step_more (CraftStep (craft p (graph_for c.session p) c)) i (record { of = refl; names = tt }) (cc)
 
 -- ---- lines
 
@@ -160,7 +160,7 @@ all_fit (Next {items = items} {new = new} d a) = added items _ new a (all_fit d)
   where
     added : (items : List Item) (more : List Line) (new : List Item) → Add items more new → AllFit (so_far items) → AllFit (so_far (items ++ new))
     added items _ _ (Skip h) s = subst (λ is. AllFit (so_far is)) (sym (append-nil items)) s
-    added items _ _ (Say {reply = reply} {item = item} says no_fault makes) s = subst AllFit (sym (one_more items item)) (reply_more (so_far items) s reply item (right (so_far items) reply no_fault) makes)
+    added items _ _ (Say {statement = statement} {item = item} says no_fault makes) s = subst AllFit (sym (one_more items item)) (statement_more (so_far items) s statement item (right (so_far items) statement no_fault) makes)
     added items _ _ (Show {g = g} b spelled fresh) s =
         let r = right (so_far items) BlockLine b.opened.in_group in
         subst AllFit (sym (one_more items (GraphItem g))) (early_more (so_far items) s (GraphItem g) (GraphItem g) 0 (omega arith) (in_group (so_far items) 0 r.form) refl refl)
