@@ -73,7 +73,9 @@ def taken(link, host, port):
     if is_free(link, host, port):
         return ""
     rows = [it for it in sockets(link) if it[0][1] == port and ("0.0.0.0" in (host, it[0][0]) or it[0][0] == host)]
-    at, state, inode = next((it for it in rows if it[1] == LISTENS[link]), rows[0] if rows else ((host, port), None, None))
+    # (who listens, else a connection that hasn't ended: of those that have, several may have had the port)
+    rows.sort(key=lambda it: (it[1] != LISTENS[link], it[1] == ENDED))
+    at, state, inode = rows[0] if rows else ((host, port), None, None)
     process = process_of(inode)
     whose = f"process {process[0]} ({process[1]})" if process else "a process of another user, or of another name space,"
     what = "listens" if state == LISTENS[link] else "has a connection"
