@@ -1,5 +1,5 @@
 -- Honest principals' pasts, in the order of their calls, are a run apart, so that one walk explains each session.
-use Rattle.std.specs.Prelude.{◌≡◌, IsTrue, true, List, [], ◌∷◌, ◌++◌, map, bytes_eq, refl}
+use Rattle.std.specs.Prelude.{◌≡◌, ◌≢◌, ℕ, All, IsTrue, true, List, [], ◌∷◌, ◌++◌, map, bytes_eq, refl}
 use Rattle.std.specs.List.{AllByRecursion}
 use Rattle.std.proofs.Common.{sym, ◌∙◌, ap, subst, inl, inr}
 use Rattle.std.proofs.lemmas.Bool.{cases_Bool}
@@ -13,11 +13,12 @@ use Rattle.sg_protocol.specs.Keyring.{Program}
 use Rattle.sg_protocol.specs.Texts.{Hash, IsHash}
 use Rattle.sg_protocol.specs.Past.{AnsweredCall, Past}
 use Rattle.sg_protocol.specs.Schedule.{Schedule}
+use Rattle.sg_protocol.specs.Run.{events_of}
 use Rattle.sg_protocol.specs.Premises.{Premises}
 use Rattle.sg_protocol.specs.Headline.{IsExplained}
 use Rattle.sg_protocol.specs.Ranges.{IsCallInRange}
-use Rattle.sg_apart.specs.Apart.{Begins, CallAt, names_of, honest_are, run_apart}
-use Rattle.sg_apart.specs.Laws.{AnsweredAt, IsHonest, HonestPastsFollowWalks, as_begun, asked, own_calls}
+use Rattle.sg_apart.specs.Apart.{Begins, CallAt, AreCallsInRange, names_of, honest_are, run_apart}
+use Rattle.sg_apart.specs.Laws.{AnsweredAt, IsHonest, IsOrder, HonestPastsFollowWalks, as_begun, asked, own_calls}
 use Rattle.sg_apart.proofs.Whole.{sessions_follow_walks_apart}
 
 abbrev pub Ranged : AnsweredCall → Type 0
@@ -69,11 +70,15 @@ module _ (sha : Hash) (ps : List Past) (calls : List AnsweredAt) (honest : AllBy
   all_ranged [] there h = tt
   all_ranged (a ∷ xs) there h = (one_ranged a (there a (inl refl)) h.0, all_ranged xs (λ b i. there b (inr i)) h.1)
 
-pub honest_pasts_follow_walks : (sha : Hash) → IsHash sha → HonestPastsFollowWalks sha
-honest_pasts_follow_walks sha hash ps calls honest order premises sid some =
+-- what holds of each run apart holds of the pasts of honest principals, in each order of their calls
+pub on_pasts : (sha : Hash) (Law : Schedule → List Past → List CallAt → Type 0) → ((ps : List Past) (calls : List CallAt) → All (Begins sha) ps → AreCallsInRange calls → Law (honest_are ps) ps calls)
+    → (ps : List Past) (calls : List AnsweredAt) → All (IsHonest sha) ps → IsOrder ps calls → Law (honest_are ps) (map as_begun ps) (map asked calls)
+on_pasts sha Law holds ps calls honest order =
     let h = recursion_from_All (IsHonest sha) ps honest in
     let own = recursion_from_All (λ (p : Past). own_calls p.keys.me calls ≡ p.calls) ps order.own in
     let range = all_ranged sha ps calls h own calls (λ a i. i) (recursion_from_All (λ (a : AnsweredAt). IsTrue (has_text a.who (names_of ps))) calls order.whose) in
-    subst (λ (s : Schedule). IsExplained sha s (run_apart sha (map as_begun ps) (map asked calls)) sid) (same_honest ps)
-    (sessions_follow_walks_apart sha hash (map as_begun ps) (map asked calls) (All-from_recursion (Begins sha) (map as_begun ps) (all_begin sha ps h)) (All-from_recursion (λ (c : CallAt). IsCallInRange c.call) (map asked calls) range)
-    (subst (λ (s : Schedule). Premises sha s (run_apart sha (map as_begun ps) (map asked calls))) (sym (same_honest ps)) premises) sid some)
+    subst (λ (s : Schedule). Law s (map as_begun ps) (map asked calls)) (same_honest ps)
+    (holds (map as_begun ps) (map asked calls) (All-from_recursion (Begins sha) (map as_begun ps) (all_begin sha ps h)) (All-from_recursion (λ (c : CallAt). IsCallInRange c.call) (map asked calls) range))
+
+pub honest_pasts_follow_walks : (sha : Hash) → IsHash sha → HonestPastsFollowWalks sha
+honest_pasts_follow_walks sha hash = on_pasts sha (λ s ps calls. Premises sha s (run_apart sha ps calls) → (sid : List ℕ) → events_of sid (run_apart sha ps calls).log ≢ [] → IsExplained sha s (run_apart sha ps calls) sid) (sessions_follow_walks_apart sha hash)

@@ -1,5 +1,3 @@
-pub mod Begun
-pub mod Going
 pub mod Whole
 pub mod Once
 pub mod Honest

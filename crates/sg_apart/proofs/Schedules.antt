@@ -1,37 +1,34 @@
 -- The run of a schedule is one of its honest principals apart.
-use Rattle.std.specs.Prelude.{◌≡◌, ℕ, ◌+◌, ◌<◌, IsTrue, All, Bool, true, false, List, [], ◌∷◌, ◌++◌, map, filter, flat_map, length, bytes_eq, is_some, refl, slice_get, Option, Some, None, option_map}
+use Rattle.std.specs.Prelude.{◌≡◌, ℕ, ◌+◌, ◌≤◌, All, Bool, true, false, List, [], ◌∷◌, ◌++◌, map, filter, flat_map, length, bytes_eq, is_some, refl, slice_get, Option, Some, None, option_map}
 use Rattle.std.specs.List.{AllByRecursion, list_all}
 use Rattle.std.specs.Option.{option_map_or}
 use Rattle.std.proofs.Common.{sym, ◌∙◌, ap, subst, inl, inr, arith, append-nil}
 use Rattle.std.proofs.lemmas.Bool.{cases_Bool, and_parts}
 use Rattle.std.proofs.lemmas.List.Elements.{filter-append, All-from_recursion, recursion_from_All}
-use Rattle.sg_model.specs.Bytes.{AreBytes}
-use Rattle.sg_model.specs.Last.{Map}
 use Rattle.sg_model.specs.Lists.{all_differ, has_text}
 use Rattle.sg_model.specs.Names.{Name, is_name}
-use Rattle.sg_model.specs.Values.{Value}
 use Rattle.sg_model.proofs.Small.{all-append, cases_Option, same_bytes}
 use Rattle.sg_law.proofs.Members.{all_in, in_left, in_map, in_parts, in_right}
 use Rattle.sg_law.proofs.Take.{contains_from_in}
 use Rattle.sg_law.proofs.Upto.{In, in_from_Contains}
 use Rattle.sg_protocol.specs.Accepted.{Accepted}
 use Rattle.sg_protocol.specs.Graph.{Graph, IsGraph}
-use Rattle.sg_protocol.specs.Frame.{IsValue}
-use Rattle.sg_protocol.specs.Spelling.{u64}
+use Rattle.sg_protocol.specs.Frame.{Cast}
 use Rattle.sg_protocol.specs.Texts.{Hash, IsHash, graph_text_of}
 use Rattle.sg_protocol.specs.Keyring.{Program}
 use Rattle.sg_protocol.specs.Calls.{Call, Start, Act, Abandon, Deliver}
 use Rattle.sg_protocol.specs.Notes.{no_notes}
 use Rattle.sg_protocol.specs.Past.{Past}
-use Rattle.sg_protocol.specs.Schedule.{PairKey, NamedSession, Schedule, Step, StartStep, ActStep, AbandonStep, DeliverStep, CraftStep, What, is_honest, who_of, sid_at, confounder}
+use Rattle.sg_protocol.specs.Schedule.{PairKey, NamedSession, Schedule, Step, StartStep, ActStep, AbandonStep, DeliverStep, CraftStep, is_honest, who_of, cast_of}
 use Rattle.sg_protocol.specs.World.{World, Logged, Outcome, Crafted, NoFrame, past_of, new_world, call_of, bytes_of}
 use Rattle.sg_protocol.specs.Run.{called, called_if, uncalled, world_after, world_after_all, run}
 use Rattle.sg_protocol.specs.Premises.{MadeBefore, Premises, hashed}
 use Rattle.sg_protocol.specs.IsSchedule.{AreCompiled, IsDeclared, IsSchedule, IsStep}
-use Rattle.sg_protocol.specs.Ranges.{AreValues, IsCallInRange, IsCast}
-use Rattle.sg_protocol.proofs.Progressing.{confounder_length, past_called}
-use Rattle.sg_protocol.proofs.Fits.{Fit, declared_in, fit_bytes, fit_new, fit_next}
-use Rattle.sg_protocol.proofs.Spelled.{bytes-append, to_bytes, u64_bytes}
+use Rattle.sg_protocol.specs.Ranges.{IsCallInRange}
+use Rattle.sg_protocol.proofs.Progressing.{past_called}
+use Rattle.sg_protocol.proofs.Fits.{Fit, call_given, declared_in, fit_new, fit_next}
+use Rattle.sg_protocol.proofs.Happenings.{IsGiven}
+use Rattle.sg_protocol.proofs.OneCasts.{filter_in}
 use Rattle.sg_protocol.proofs.Whole.{first_past, new_past, program_graph}
 use Rattle.sg_apart.specs.Apart.{Begins, CallAt, honest_are, names_of, run_apart, world_after_calls, world_called}
 use Rattle.sg_apart.specs.Laws.{IsApart, SchedulesRunApart}
@@ -43,14 +40,6 @@ in_filter q [] x i = i
 in_filter q (y ∷ ys) x i = elim (cases_Bool (q y)) [
   | inl h ↦ (let j : In (y ∷ filter q ys) x = rw h at i in elim j [ inl e ↦ inl e | inr j ↦ inr (in_filter q ys x j) ])
   | inr h ↦ (let j : In (filter q ys) x = rw h at i in inr (in_filter q ys x j))
-]
-
-pub filter_in : {A : Type 0} (q : A → Bool) (xs : List A) (x : A) → In xs x → q x ≡ true → In (filter q xs) x
-filter_in q [] x i h = i
-filter_in q (y ∷ ys) x (inl e) h = (let k : q y ≡ true = ap q (sym e) ∙ h in rw k (inl e))
-filter_in q (y ∷ ys) x (inr i) h = elim (cases_Bool (q y)) [
-  | inl k ↦ rw k (inr (filter_in q ys x i h))
-  | inr k ↦ rw k (filter_in q ys x i h)
 ]
 
 of_filtered : {A B : Type 0} (q : A → Bool) (f : A → List B) (xs : List A) (b : B) → In (flat_map f (filter q xs)) b → In (flat_map f xs) b
@@ -173,55 +162,43 @@ module _ (sha : Hash) (hash : IsHash sha) (programs : List Program) (s : Schedul
 
   -- ---- ranges
 
-  declared_cast : (d : NamedSession) → IsDeclared sha s.graphs d → IsCast d.cast
-  declared_cast d h =
-      let i = in_from_Contains s.graphs h.graph h.is_there in
-      let is : IsGraph h.graph = all_in IsGraph s.graphs h.graph sched.are_graphs i in
-      let acc : Accepted h.graph = all_in Accepted s.graphs h.graph accepted i in
-      let len = h.count in
-      record {
-        version = h.version;
-        fields = record {
-          version = refl;
-          graph = subst (AreBytes 32) (sym h.digest) (hash (graph_text_of h.graph));
-          nonce = h.nonce;
-          count = ((let a = acc.two_roles in omega (arith, a, len)), (let a = is.sizes.0 in omega (arith, a, len)));
-          names = names_rec d.cast.names (and_parts (all_differ d.cast.names) (list_all is_name d.cast.names) h.names).1;
-        };
-      }
+  declared_count : (n : ℕ) (c : Cast) → cast_of s n ≡ Some c → (2 ≤ length c.names) × (length c.names ≤ 16)
+  declared_count n c e = go (slice_get s.sessions n) refl e
     where
-      names_rec : (ns : List Name) → list_all is_name ns ≡ true → AllByRecursion (λ n. IsTrue (is_name n)) ns
-      names_rec [] h = tt
-      names_rec (n ∷ ns) h = let q = and_parts (is_name n) (list_all is_name ns) h in (q.0, names_rec ns q.1)
-
-  step_values : (k : ℕ) (vs : Map Value) → AllByRecursion (λ (w : ℕ × Value). (w.0 < 256) × IsValue w.1) vs → AreValues vs (map (λ (v : ℕ × Value). confounder k v.0) vs)
-  step_values k vs a = record { each = a; count = count vs; bytes = bytes vs }
-    where
-      count : (vs : Map Value) → length (map (λ (v : ℕ × Value). confounder k v.0) vs) ≡ length vs
-      count [] = refl
-      count (v ∷ vs) = (let l = count vs in omega (arith, l))
-
-      bytes : (vs : Map Value) → AllByRecursion (AreBytes 16) (map (λ (v : ℕ × Value). confounder k v.0) vs)
-      bytes [] = tt
-      bytes (v ∷ vs) = ((confounder_length k v.0, to_bytes (u64 k ++ u64 v.0) (bytes-append (u64 k) (u64 v.0) (u64_bytes k) (u64_bytes v.0))), bytes vs)
+      go : (o : Option NamedSession) → slice_get s.sessions n ≡ o → option_map (λ (d : NamedSession). d.cast) o ≡ Some c → (2 ≤ length c.names) × (length c.names ≤ 16)
+      go None q e = absurd (cc)
+      go (Some d) q e =
+          let r : d.cast ≡ c = cc in
+          let h : IsDeclared sha s.graphs d = declared_in NamedSession (IsDeclared sha s.graphs) s.sessions n d sched.sessions q in
+          let i = in_from_Contains s.graphs h.graph h.is_there in
+          let two = (all_in Accepted s.graphs h.graph accepted i).two_roles in
+          let few = (all_in IsGraph s.graphs h.graph sched.are_graphs i).sizes.0 in
+          let len = h.count in
+          subst (λ (z : Cast). (2 ≤ length z.names) × (length z.names ≤ 16)) r (omega (arith, two, len), omega (arith, few, len))
 
   call_ranged : (w : World) (k : ℕ) (x : Step) → Fit sha hash programs s compiled sched w → IsStep sha s x → (c : Call) → call_of sha s w k x ≡ Some c → IsCallInRange c
-  call_ranged w k x fit good c e = go x good c e
+  call_ranged w k x fit good c e = in_range c (call_given sha hash programs s compiled sched w fit k x good c e) (λ d q. started x d (e ∙ ap (λ z. Some z) q))
     where
-      start_ : (o : Option NamedSession) (n : ℕ) → slice_get s.sessions n ≡ o → (c : Call) → option_map Start (option_map (λ (d : NamedSession). d.cast) o) ≡ Some c → IsCallInRange c
-      start_ None n q c e = absurd (cc)
-      start_ (Some d) n q c e = let r : Start d.cast ≡ c = cc in subst IsCallInRange r (declared_cast d (declared_in NamedSession (IsDeclared sha s.graphs) s.sessions n d sched.sessions q))
+      started : (y : Step) (d : Cast) → call_of sha s w k y ≡ Some (Start d) → (2 ≤ length d.names) × (length d.names ≤ 16)
+      started (StartStep who n) d e = go (cast_of s n) refl e
+        where
+          go : (o : Option Cast) → cast_of s n ≡ o → option_map Start o ≡ Some (Start d) → (2 ≤ length d.names) × (length d.names ≤ 16)
+          go None q e = absurd (cc)
+          go (Some b) q e = let r : b ≡ d = cc in declared_count n d (q ∙ ap (λ z. Some z) r)
+      started (ActStep who n label values) d e = absurd (cc)
+      started (AbandonStep who n) d e = absurd (cc)
+      started (DeliverStep who what) d e = go (bytes_of w what) e
+        where
+          go : (o : Option (List ℕ)) → option_map Deliver o ≡ Some (Start d) → (2 ≤ length d.names) × (length d.names ≤ 16)
+          go None e = absurd (cc)
+          go (Some bs) e = absurd (cc)
+      started (CraftStep c) d e = absurd (cc)
 
-      deliver_ : (who : Name) (what : What) → IsStep sha s (DeliverStep who what) → (o : Option (List ℕ)) → bytes_of w what ≡ o → (c : Call) → option_map Deliver o ≡ Some c → IsCallInRange c
-      deliver_ who what gd None q c e = absurd (cc)
-      deliver_ who what gd (Some bs) q c e = let r : Deliver bs ≡ c = cc in subst IsCallInRange r (fit_bytes sha hash programs s compiled sched w fit who what bs gd q)
-
-      go : (y : Step) → IsStep sha s y → (c : Call) → call_of sha s w k y ≡ Some c → IsCallInRange c
-      go (StartStep who n) gd c e = start_ (slice_get s.sessions n) n refl c e
-      go (ActStep who n label values) gd c e = let r : Act (sid_at sha s n) label values (map (λ (v : ℕ × Value). confounder k v.0) values) ≡ c = cc in subst IsCallInRange r (step_values k values gd)
-      go (AbandonStep who n) gd c e = let r : Abandon (sid_at sha s n) ≡ c = cc in subst IsCallInRange r tt
-      go (DeliverStep who what) gd c e = deliver_ who what gd (bytes_of w what) refl c e
-      go (CraftStep cr) gd c e = absurd (cc)
+      in_range : (c : Call) → IsGiven c → ((d : Cast) → c ≡ Start d → (2 ≤ length d.names) × (length d.names ≤ 16)) → IsCallInRange c
+      in_range (Start d) h count = record { version = h.version; fields = record { version = refl; graph = h.graph; nonce = h.nonce; count = count d refl; names = h.names } }
+      in_range (Act sid label values confounders) h count = h
+      in_range (Abandon sid) h count = h
+      in_range (Deliver bytes) h count = h
 
   at_ranged : (who : Option Name) (o : Option Call) → ((c : Call) → o ≡ Some c → IsCallInRange c) → IsCallInRange (call_at who o).call
   at_ranged None o h = tt

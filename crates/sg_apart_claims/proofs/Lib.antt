@@ -1,11 +1,5 @@
 pub mod Pasts
-pub mod Nodes
-pub mod Events
-pub mod Logs
 pub mod Roles
 pub mod Turns
-pub mod Going
-pub mod Making
-pub mod Explaining
 pub mod Walks
 pub mod Claims

@@ -15,7 +15,7 @@ use Rattle.sg_protocol.specs.Run.{called}
 use Rattle.sg_protocol.specs.Premises.{MadeBefore, hashed, Premises}
 use Rattle.sg_protocol.proofs.Progressing.{Suffix, suffix_refl, in_before, in_after}
 use Rattle.sg_apart.specs.Apart.{CallAt, world_called, world_after_calls, run_apart}
-use Rattle.sg_apart.proofs.Going.{suffix_calls}
+use Rattle.sg_apart.proofs.Whole.{suffix_calls}
 
 take_few : (n : ℕ) (xs : List CallAt) → length (take n xs) ≤ n
 take_few zero xs = omega arith

@@ -1,9 +1,5 @@
-pub mod Runs
 pub mod Sendings
 pub mod Beginnings
-pub mod Progressing
 pub mod Showing
-pub mod Keys
-pub mod Flight
 pub mod Delivery
 pub mod Honest

@@ -19,7 +19,7 @@ use Rattle.sg_protocol.specs.Claims.{label_of, does_send, store_after, IsOfStep,
 use Rattle.sg_protocol.specs.Schedule.{honest_role}
 use Rattle.sg_protocol.specs.Run.{run, events_of}
 use Rattle.sg_protocol.proofs.Paths.{flat_map-append}
-use Rattle.sg_protocol.proofs.Fits.{sessions_follow_walks}
+use Rattle.sg_protocol.proofs.ExplainingWalks.{sessions_follow_walks}
 
 -- ---- lists
 

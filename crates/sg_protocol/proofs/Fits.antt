@@ -1,24 +1,23 @@
 -- What a run records are bytes, and what its nodes send has a spelling.
-use Rattle.std.specs.Prelude.{filter_map, ◌≡◌, ◌≢◌, ℕ, zero, suc, ◌<◌, ◌≤◌, ◌==◌, nat_lt, if◌then◌else◌, All, ◌&&◌, true, List, [], ◌∷◌, ◌++◌, map, length, bytes_eq, refl, Option, Some, None, option_map, unwrap_or, IfSome}
+use Rattle.std.specs.Prelude.{filter_map, ◌≡◌, ℕ, zero, suc, ◌<◌, ◌≤◌, ◌==◌, if◌then◌else◌, All, true, List, [], ◌∷◌, ◌++◌, map, length, bytes_eq, refl, Option, Some, None, option_map, unwrap_or, IfSome}
 use Rattle.std.specs.List.{cons_option, list_all, AllByRecursion}
 use Rattle.std.specs.Option.{option_map_or}
 use Rattle.std.proofs.Common.{sym, ◌∙◌, ap, subst, inl, inr, arith}
-use Rattle.std.proofs.lemmas.Bool.{eqb-true, cases_Bool, and_parts}
+use Rattle.std.proofs.lemmas.Bool.{cases_Bool, and_parts}
 use Rattle.std.proofs.lemmas.List.Elements.{All-head, All-tail, recursion_from_All}
 use Rattle.sg_model.specs.Last.{Map}
 use Rattle.sg_model.specs.Lists.{value_at, all_differ}
-use Rattle.sg_model.specs.Shape.{role_at}
 use Rattle.sg_model.specs.Values.{Value, Opening}
 use Rattle.sg_model.specs.Names.{Name}
-use Rattle.sg_protocol.specs.Graph.{Graph, shape, writes}
+use Rattle.sg_protocol.specs.Graph.{Graph, writes}
 use Rattle.sg_protocol.specs.Frame.{Cast, Item, Frame, IsItem, IsTag, IsValue, IsOpening}
 use Rattle.sg_protocol.specs.Acting.{openings_for}
 use Rattle.sg_protocol.specs.Spelling.{spelling, HasSpelling, u64}
 use Rattle.sg_model.specs.Bytes.{AreBytes}
-use Rattle.sg_protocol.specs.Texts.{Hash, IsHash, session_id, session_text_of, cut, graph_text_of}
+use Rattle.sg_protocol.specs.Texts.{Hash, IsHash, session_id, cut, graph_text_of}
 use Rattle.sg_protocol.specs.TextLaws.{CastFits}
 use Rattle.sg_protocol.specs.Keyring.{Program}
-use Rattle.sg_protocol.specs.Session.{Session, principal, new_session}
+use Rattle.sg_protocol.specs.Session.{Session, new_session}
 use Rattle.sg_protocol.specs.Calls.{Event, Call, Start, Act, Abandon, Deliver, Answer, Sends}
 use Rattle.sg_protocol.specs.Schedule.{Schedule, Step, StartStep, ActStep, AbandonStep, DeliverStep, CraftStep, What, NamedSession, cast_of, sid_at, confounder, graph_with}
 use Rattle.sg_protocol.specs.Acting.{answer}
@@ -32,30 +31,27 @@ use Rattle.std.specs.Prelude.{slice_get, IsSomeAnd, IsTrue, take, replicate, ◌
 use Rattle.std.specs.Result.{result_ok}
 use Rattle.sg_protocol.specs.Past.{Past, node_of, new_node, past_after}
 use Rattle.sg_protocol.specs.World.{World, Logged, Outcome, Crafted, NoFrame, past_of, new_world, call_of, bytes_of}
-use Rattle.sg_protocol.specs.Run.{called, called_if, uncalled, world_after, run, frame_in, events_of}
+use Rattle.sg_protocol.specs.Run.{called, called_if, uncalled, world_after, frame_in}
 use Rattle.sg_protocol.specs.Crafted.{crafted}
-use Rattle.sg_protocol.specs.Premises.{Premises}
 use Rattle.sg_protocol.specs.World as World'
 use Rattle.sg_protocol.specs.Schedule as Schedule'
 use Rattle.sg_protocol.specs.Crafted as Crafted'
 use Rattle.sg_protocol.specs.IsSchedule.{IsSchedule, IsStep, IsDeclared, AreCompiled, IsProgram}
-use Rattle.sg_protocol.specs.Headline.{IsExplained, SessionsFollowWalks}
-use Rattle.sg_protocol.proofs.Finding.{find_passes, find_all}
+use Rattle.sg_protocol.proofs.Finding.{find_passes}
 use Rattle.sg_model.specs.Names.{is_name}
 use Rattle.sg_model.proofs.Small.{same_bytes, all-append}
+use Rattle.sg_protocol.proofs.Happenings.{IsGiven, IsStarted, cast_given, given_in_range, given_sends}
 use Rattle.sg_protocol.proofs.KnownSession.{FitSteps}
 use Rattle.sg_protocol.proofs.Progressing.{past_called, next_past, node_more}
 use Rattle.sg_protocol.proofs.Whole.{first_past}
-use Rattle.sg_protocol.proofs.First.{first_cast, programs_after}
+use Rattle.sg_protocol.proofs.First.{programs_after}
 use Rattle.sg_protocol.specs.Bounds.{IsShortFrame}
 use Rattle.sg_protocol.proofs.Sent.{FitSession}
 use Rattle.sg_protocol.specs.Ranges.{AreValues}
-use Rattle.sg_protocol.proofs.Nodes.{start_all}
 use Rattle.sg_protocol.proofs.Nodes as Nodes'
-use Rattle.sg_protocol.proofs.Ranges.{new_in_range, act_in_range, node_in_range}
+use Rattle.sg_protocol.proofs.Ranges.{act_in_range}
 use Rattle.sg_protocol.proofs.Progressing.{confounder_length}
 use Rattle.sg_protocol.proofs.Spelled.{u64_bytes}
-use Rattle.sg_protocol.proofs.Whole.{explained}
 use Rattle.sg_protocol.proofs.Spelled.{Bytes_, BytesItem, BytesFrame, to_bytes, from_bytes, bytes-append, bytes-take, bytes-zeros, bytes-flipped, item_has_bytes, has_bytes, spelling_bytes}
 
 pub declared_in : (A : Type 0) (P : A → Type 0) (xs : List A) (n : ℕ) (x : A) → All P xs → slice_get xs n ≡ Some x → P x
@@ -64,19 +60,6 @@ declared_in A P (y ∷ ys) zero x a e = (let q : y ≡ x = cc in subst P q (All-
 declared_in A P (y ∷ ys) (suc n) x a e = declared_in A P ys n x (All-tail P y ys a) e
 
 module _ (sha : Hash) (hash : IsHash sha) (programs : List Program) (s : Schedule) (compiled : AreCompiled sha s.graphs programs) (sched : IsSchedule sha s) where
-  -- a declared session's cast can be read
-  declared_fits : (d : NamedSession) → IsDeclared sha s.graphs d → CastFits d.cast × AreBytes 32 d.cast.graph × AreBytes 16 d.cast.nonce × (list_all is_name d.cast.names ≡ true)
-  declared_fits d h =
-      let bytes : AreBytes 32 d.cast.graph = subst (AreBytes 32) (sym h.digest) (hash (graph_text_of h.graph)) in
-      (record { version = h.version; graph = bytes.0; nonce = h.nonce.0 }, bytes, h.nonce, (and_parts (all_differ d.cast.names) (list_all is_name d.cast.names) h.names).1)
-
-  pub casts_fit : (n : ℕ) (c : Cast) → cast_of s n ≡ Some c → CastFits c
-  casts_fit n c e = go (slice_get s.sessions n) refl e
-    where
-      go : (o : Option NamedSession) → slice_get s.sessions n ≡ o → option_map (λ (d : NamedSession). d.cast) o ≡ Some c → CastFits c
-      go None q e = absurd (cc)
-      go (Some d) q e = (let r : d.cast ≡ c = cc in subst CastFits r (declared_fits d (declared_in NamedSession (IsDeclared sha s.graphs) s.sessions n d sched.sessions q)).0)
-
   -- what a run records are bytes, and its live sessions are fit
   pub record Fit (w : World) : Type 0 where
     pub frames : AllByRecursion (λ (l : Logged). IfSome l.frame Bytes_) w.log
@@ -214,15 +197,6 @@ module _ (sha : Hash) (hash : IsHash sha) (programs : List Program) (s : Schedul
   pub act_sends : (n : Node) (sid0 : List ℕ) (label : ℕ) (values : Map Value) (confs : List (List ℕ)) (e : Event) (to : Name) (f : Frame) → answer sha n (Act sid0 label values confs) ≡ Sends e to f → ActSent n sid0 label values confs f
   act_sends n sid0 label values confs e to f a = Nodes'.act_sends sha n sid0 label values confs e to f a
 
-  pub start_sends : (n : Node) (c : Cast) (e : Event) (to : Name) (f : Frame) → answer sha n (Start c) ≡ Sends e to f → ⊥
-  start_sends n c e to f a = Nodes'.start_sends sha n c e to f a
-
-  pub abandon_sends : (n : Node) (sid0 : List ℕ) (e : Event) (to : Name) (f : Frame) → answer sha n (Abandon sid0) ≡ Sends e to f → ⊥
-  abandon_sends n sid0 e to f a = Nodes'.abandon_sends sha n sid0 e to f a
-
-  pub deliver_sends : (n : Node) (bs : List ℕ) (e : Event) (to : Name) (f : Frame) → answer sha n (Deliver bs) ≡ Sends e to f → ⊥
-  deliver_sends n bs e to f a = Nodes'.deliver_sends sha n bs e to f a
-
   -- the values of a step, with the confounders of its number
   step_values : (k : ℕ) (vs : Map Value) → AllByRecursion (λ (w : ℕ × Value). (w.0 < 256) × IsValue w.1) vs → AreValues vs (map (λ (v : ℕ × Value). confounder k v.0) vs)
   step_values k vs a = record { each = a; count = count vs; bytes = bytes vs }
@@ -243,75 +217,59 @@ module _ (sha : Hash) (hash : IsHash sha) (programs : List Program) (s : Schedul
       → IsShortFrame f × AllByRecursion IsOpening (openings_for values (map (λ (v : ℕ × Value). confounder k v.0) values)) × FitSession a.x × (f.version ≡ (a.x).cast.version) × (map (λ (o : Opening). o.variable) (openings_for values (map (λ (v : ℕ × Value). confounder k v.0) values)) ≡ writes (a.p).graph label)
   act_fit n ps live k sid0 label values good f a = act_in_range sha hash n (compiled_in n ps) live sid0 label values (map (λ (v : ℕ × Value). confounder k v.0) values) (step_values k values good) f a
 
-  pub fit_shorts : (w : World) → Fit w → (k : ℕ) (x : Step) (who : Name) (past : Past) (c : Call) (e : Event) (to : Name) (f : Frame) → IsStep sha s x → past_of w who ≡ Some past → call_of sha s w k x ≡ Some c → answer sha (node_of past) c ≡ Sends e to f → IsShortFrame f
-  fit_shorts w fit k x who past c e to f good q call ans = go x good c call ans
+  -- a declared session's cast can be read
+  cast_given_ : (n : ℕ) (c : Cast) → cast_of s n ≡ Some c → IsStarted c
+  cast_given_ n c e = go (slice_get s.sessions n) refl e
     where
-      start_ : (o : Option Cast) (c : Call) → option_map Start o ≡ Some c → answer sha (node_of past) c ≡ Sends e to f → IsShortFrame f
-      start_ None c q a = absurd (cc)
-      start_ (Some d) c q a = let r : Start d ≡ c = cc in absurd (start_sends (node_of past) d e to f (ap (answer sha (node_of past)) r ∙ a))
+      names_rec : (ns : List Name) → list_all is_name ns ≡ true → AllByRecursion (λ n. IsTrue (is_name n)) ns
+      names_rec [] h = tt
+      names_rec (n ∷ ns) h = let q = and_parts (is_name n) (list_all is_name ns) h in (q.0, names_rec ns q.1)
 
-      deliver_ : (o : Option (List ℕ)) (c : Call) → option_map Deliver o ≡ Some c → answer sha (node_of past) c ≡ Sends e to f → IsShortFrame f
-      deliver_ None c q a = absurd (cc)
-      deliver_ (Some bs) c q a = let r : Deliver bs ≡ c = cc in absurd (deliver_sends (node_of past) bs e to f (ap (answer sha (node_of past)) r ∙ a))
+      of_declared : (d : NamedSession) → IsDeclared sha s.graphs d → IsStarted d.cast
+      of_declared d h = record {
+        version = h.version;
+        graph = subst (AreBytes 32) (sym h.digest) (hash (graph_text_of h.graph));
+        nonce = h.nonce;
+        names = names_rec d.cast.names (and_parts (all_differ d.cast.names) (list_all is_name d.cast.names) h.names).1;
+      }
 
-      go : (y : Step) → IsStep sha s y → (c : Call) → call_of sha s w k y ≡ Some c → answer sha (node_of past) c ≡ Sends e to f → IsShortFrame f
-      go (StartStep who' n') gd c q a = start_ (cast_of s n') c q a
-      go (ActStep who' n' label values) gd c q' a =
-          let r : Act (sid_at sha s n') label values (map (λ (v : ℕ × Value). confounder k v.0) values) ≡ c = cc in
-          let both = fit.nodes who past q in
-          (act_fit (node_of past) both.0 both.1 k (sid_at sha s n') label values gd f (act_sends (node_of past) (sid_at sha s n') label values (map (λ (v : ℕ × Value). confounder k v.0) values) e to f (ap (answer sha (node_of past)) r ∙ a))).0
-      go (AbandonStep who' n') gd c q a = let r : Abandon (sid_at sha s n') ≡ c = cc in absurd (abandon_sends (node_of past) (sid_at sha s n') e to f (ap (answer sha (node_of past)) r ∙ a))
-      go (DeliverStep who' what) gd c q a = deliver_ (bytes_of w what) c q a
-      go (CraftStep cr) gd c q a = absurd (cc)
+      go : (o : Option NamedSession) → slice_get s.sessions n ≡ o → option_map (λ (d : NamedSession). d.cast) o ≡ Some c → IsStarted c
+      go None q e = absurd (cc)
+      go (Some d) q e = (let r : d.cast ≡ c = cc in subst IsStarted r (of_declared d (declared_in NamedSession (IsDeclared sha s.graphs) s.sessions n d sched.sessions q)))
+
+  pub casts_fit : (n : ℕ) (c : Cast) → cast_of s n ≡ Some c → CastFits c
+  casts_fit n c e = cast_given c (cast_given_ n c e)
+
+  -- what a step asks is in range
+  pub call_given : (w : World) → Fit w → (k : ℕ) (x : Step) → IsStep sha s x → (c : Call) → call_of sha s w k x ≡ Some c → IsGiven c
+  call_given w fit k x good c e = go x good c e
+    where
+      start_ : (o : Option Cast) (n : ℕ) → cast_of s n ≡ o → (c : Call) → option_map Start o ≡ Some c → IsGiven c
+      start_ None n q c e = absurd (cc)
+      start_ (Some d) n q c e = let r : Start d ≡ c = cc in subst IsGiven r (cast_given_ n d q)
+
+      deliver_ : (who : Name) (what : What) → IsStep sha s (DeliverStep who what) → (o : Option (List ℕ)) → bytes_of w what ≡ o → (c : Call) → option_map Deliver o ≡ Some c → IsGiven c
+      deliver_ who what gd None q c e = absurd (cc)
+      deliver_ who what gd (Some bs) q c e = let r : Deliver bs ≡ c = cc in subst IsGiven r (fit_bytes w fit who what bs gd q)
+
+      go : (y : Step) → IsStep sha s y → (c : Call) → call_of sha s w k y ≡ Some c → IsGiven c
+      go (StartStep who n) gd c e = start_ (cast_of s n) n refl c e
+      go (ActStep who n label values) gd c e = let r : Act (sid_at sha s n) label values (map (λ (v : ℕ × Value). confounder k v.0) values) ≡ c = cc in subst IsGiven r (step_values k values gd)
+      go (AbandonStep who n) gd c e = let r : Abandon (sid_at sha s n) ≡ c = cc in subst IsGiven r tt
+      go (DeliverStep who what) gd c e = deliver_ who what gd (bytes_of w what) refl c e
+      go (CraftStep cr) gd c e = absurd (cc)
+
+  pub fit_shorts : (w : World) → Fit w → (k : ℕ) (x : Step) (who : Name) (past : Past) (c : Call) (e : Event) (to : Name) (f : Frame) → IsStep sha s x → past_of w who ≡ Some past → call_of sha s w k x ≡ Some c → answer sha (node_of past) c ≡ Sends e to f → IsShortFrame f
+  fit_shorts w fit k x who past c e to f good q call ans = let both = fit.nodes who past q in given_sends sha hash (node_of past) (compiled_in (node_of past) both.0) both.1 c (call_given w fit k x good c call) e to f ans
 
   pub fit_sends : (w : World) → Fit w → (k : ℕ) (x : Step) (who : Name) (past : Past) (c : Call) (e : Event) (to : Name) (f : Frame) → IsStep sha s x → past_of w who ≡ Some past → call_of sha s w k x ≡ Some c → answer sha (node_of past) c ≡ Sends e to f → HasSpelling f
   fit_sends w fit k x who past c e to f good q call ans = (fit_shorts w fit k x who past c e to f good q call ans).spelled
 
   -- ---- the nodes after a call
 
-  cast_facts : (n : ℕ) (c : Cast) → cast_of s n ≡ Some c → CastFits c × AreBytes 32 c.graph × AreBytes 16 c.nonce × (list_all is_name c.names ≡ true)
-  cast_facts n c e = go (slice_get s.sessions n) refl e
-    where
-      go : (o : Option NamedSession) → slice_get s.sessions n ≡ o → option_map (λ (d : NamedSession). d.cast) o ≡ Some c → CastFits c × AreBytes 32 c.graph × AreBytes 16 c.nonce × (list_all is_name c.names ≡ true)
-      go None q e = absurd (cc)
-      go (Some d) q e = (let r : d.cast ≡ c = cc in subst (λ z. CastFits z × AreBytes 32 z.graph × AreBytes 16 z.nonce × (list_all is_name z.names ≡ true)) r (declared_fits d (declared_in NamedSession (IsDeclared sha s.graphs) s.sessions n d sched.sessions q)))
-
-  names_rec : (ns : List Name) → list_all is_name ns ≡ true → AllByRecursion (λ n. IsTrue (is_name n)) ns
-  names_rec [] h = tt
-  names_rec (n ∷ ns) h = let q = and_parts (is_name n) (list_all is_name ns) h in (q.0, names_rec ns q.1)
-
-  -- a session that a node starts is in range, with as many principals as its graph has roles
-  start_fit : (n : Node) → n.programs ≡ programs → AllByRecursion FitSession n.live → (c : Cast) → CastFits c → AreBytes 32 c.graph → AreBytes 16 c.nonce → list_all is_name c.names ≡ true → AllByRecursion FitSession (node_after n (Start c) (answer sha n (Start c))).live
-  start_fit n ps live c cf gb nb nm = start_all sha n FitSession live c (λ p b.
-      let ip : IsProgram sha p = find_all (λ (p : Program). bytes_eq p.digest c.graph && (p.role == role_at (shape p.graph) 0)) (IsProgram sha) n.programs p (compiled_in n ps) b.found in
-      let len : length c.names ≡ length p.graph.roles = eqb-true (length c.names) (length p.graph.roles) (and_parts (length c.names == length p.graph.roles) (all_differ c.names) (and_parts _ (nat_lt p.role (length c.names)) (and_parts _ (bytes_eq (principal c p.role) n.keys.me) b.cast).0).0).0 in
-      new_in_range (session_id sha c) c p.role (hash (session_text_of c))
-      (record { version = cf.version; fields = record { version = refl; graph = gb; nonce = nb; count = ((let a = ip.accepted.two_roles in omega (arith, a, len)), (let a = ip.is_graph.sizes.0 in omega (arith, a, len))); names = names_rec c.names nm } })
-      (let a = ip.role in let b = ip.is_graph.sizes.0 in omega (arith, a, b)))
-
   module _ (w : World) (k : ℕ) (fit : Fit w) where
     call_fit : (x : Step) → IsStep sha s x → (who : Name) (past : Past) → past_of w who ≡ Some past → (c : Call) → call_of sha s w k x ≡ Some c → AllByRecursion FitSession (node_after (node_of past) c (answer sha (node_of past) c)).live
-    call_fit x good who past q c e = go x good c e
-      where
-        at : ((node_of past).programs ≡ programs) × AllByRecursion FitSession (node_of past).live
-        at = fit.nodes who past q
-
-        start_ : (o : Option Cast) (n' : ℕ) → cast_of s n' ≡ o → (c : Call) → option_map Start o ≡ Some c → AllByRecursion FitSession (node_after (node_of past) c (answer sha (node_of past) c)).live
-        start_ None n' q' c e = absurd (cc)
-        start_ (Some d) n' q' c e = let r : Start d ≡ c = cc in let f = cast_facts n' d q' in subst (λ z. AllByRecursion FitSession (node_after (node_of past) z (answer sha (node_of past) z)).live) r (start_fit (node_of past) at.0 at.1 d f.0 f.1 f.2 f.3)
-
-        deliver_ : (who' : Name) (what : What) → IsStep sha s (DeliverStep who' what) → (o : Option (List ℕ)) → bytes_of w what ≡ o → (c : Call) → option_map Deliver o ≡ Some c → AllByRecursion FitSession (node_after (node_of past) c (answer sha (node_of past) c)).live
-        deliver_ who' what gd None q' c e = absurd (cc)
-        deliver_ who' what gd (Some bs) q' c e = let r : Deliver bs ≡ c = cc in subst (λ z. AllByRecursion FitSession (node_after (node_of past) z (answer sha (node_of past) z)).live) r (node_in_range sha hash (node_of past) (compiled_in (node_of past) at.0) at.1 (Deliver bs) (fit_bytes w fit who' what bs gd q'))
-
-        go : (y : Step) → IsStep sha s y → (c : Call) → call_of sha s w k y ≡ Some c → AllByRecursion FitSession (node_after (node_of past) c (answer sha (node_of past) c)).live
-        go (StartStep who' n') gd c e = start_ (cast_of s n') n' refl c e
-        go (ActStep who' n' label values) gd c e =
-            let r : Act (sid_at sha s n') label values (map (λ (v : ℕ × Value). confounder k v.0) values) ≡ c = cc in
-            subst (λ z. AllByRecursion FitSession (node_after (node_of past) z (answer sha (node_of past) z)).live) r (node_in_range sha hash (node_of past) (compiled_in (node_of past) at.0) at.1 (Act (sid_at sha s n') label values (map (λ (v : ℕ × Value). confounder k v.0) values)) (step_values k values gd))
-        go (AbandonStep who' n') gd c e = let r : Abandon (sid_at sha s n') ≡ c = cc in subst (λ z. AllByRecursion FitSession (node_after (node_of past) z (answer sha (node_of past) z)).live) r (node_in_range sha hash (node_of past) (compiled_in (node_of past) at.0) at.1 (Abandon (sid_at sha s n')) tt)
-        go (DeliverStep who' what) gd c e = deliver_ who' what gd (bytes_of w what) refl c e
-        go (CraftStep cr) gd c e = absurd (cc)
+    call_fit x good who past q c e = let at = fit.nodes who past q in given_in_range sha hash (node_of past) (compiled_in (node_of past) at.0) at.1 c (call_given w fit k x good c e)
 
     idle_fit : (who : Option Name) (o : Outcome) (fr : Option (List ℕ)) → IfSome fr Bytes_ → Fit (uncalled w k who o fr)
     idle_fit who o fr h = record { frames = all-append (λ (l : Logged). IfSome l.frame Bytes_) w.log _ fit.frames (h, tt); nodes = fit.nodes }
@@ -356,15 +314,3 @@ module _ (sha : Hash) (hash : IsHash sha) (programs : List Program) (s : Schedul
 
   pub fit_steps : FitSteps sha s Fit
   fit_steps = record { next = fit_next; bytes = fit_bytes; sends = fit_sends; casts = casts_fit }
-
-  pub follow_all : Premises sha s (run sha programs s) → (sid : List ℕ) → events_of sid (run sha programs s).log ≢ [] → IsExplained sha s (run sha programs s) sid
-  follow_all premises sid some =
-      let steps : AllByRecursion (IsStep sha s) s.steps = go s.steps sched.steps in
-      explained sha hash programs s compiled sched premises sid (first_cast sha hash s programs sid fit_steps steps fit_new some) fit_steps fit_new
-    where
-      go : (xs : List Step) → All (IsStep sha s) xs → AllByRecursion (IsStep sha s) xs
-      go [] a = tt
-      go (x ∷ xs) a = (All-head (IsStep sha s) x xs a, go xs (All-tail (IsStep sha s) x xs a))
-
-pub sessions_follow_walks : (sha : Hash) → IsHash sha → SessionsFollowWalks sha
-sessions_follow_walks sha hash programs s compiled sched premises sid some = follow_all sha hash programs s compiled sched premises sid some

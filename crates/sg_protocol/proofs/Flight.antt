@@ -1,37 +1,37 @@
 -- In a session of honest principals, each frame but the last one was taken, and each role holds what was done until its last step or receipt.
-use Rattle.std.specs.Prelude.{◌||◌, ◌≡◌, ◌≢◌, ℕ, ◌+◌, ◌<◌, ◌==◌, ◌⊎◌, Bool, true, false, not, if◌then◌else◌, List, [], ◌∷◌, ◌++◌, map, filter, flat_map, find, length, bytes_eq, refl, Option, Some, None, option_map, IfSome, Ok}
+use Rattle.std.specs.Prelude.{◌||◌, ◌&&◌, ◌≡◌, ◌≢◌, ℕ, ◌+◌, ◌<◌, ◌==◌, ◌⊎◌, Bool, true, false, not, if◌then◌else◌, List, [], ◌∷◌, ◌++◌, map, filter, flat_map, find, length, bytes_eq, refl, Option, Some, None, option_map, IfSome, Ok}
 use Rattle.std.specs.List.{AllByRecursion, cons_option, list_any}
 use Rattle.std.proofs.Common.{sym, ◌∙◌, ap, subst, inl, inr, arith, append-nil, append_assoc}
-use Rattle.std.proofs.lemmas.Bool.{cases_Bool, eqb-true, eq-eqb, ne_eqb, not-true}
+use Rattle.std.proofs.lemmas.Bool.{cases_Bool, eqb-true, eq-eqb, ne_eqb, not-true, and_from, and_parts}
 use Rattle.std.proofs.lemmas.List.{map-append}
 use Rattle.std.proofs.lemmas.Slice.Eq.{bytes_eq-Decides}
 use Rattle.sg_model.specs.Last.{has, last, last_or, last_of, after_last}
 use Rattle.sg_model.specs.Lists.{first_some}
-use Rattle.sg_model.specs.Shape.{end_of, role_at, source, receiver}
+use Rattle.sg_model.specs.Shape.{end_of, role_at, source, sender, receiver}
 use Rattle.sg_model.specs.Values.{Opening}
 use Rattle.sg_model.specs.Names.{Name}
-use Rattle.sg_model.proofs.Small.{clash, same_bytes, or_true}
+use Rattle.sg_model.proofs.Small.{clash, same_bytes, bytes_same, or_true, all_weaker}
 use Rattle.sg_law.proofs.Members.{in_left, in_parts}
 use Rattle.sg_protocol.specs.Graph.{Graph, IsGraph, shape, reads}
 use Rattle.sg_protocol.specs.Accepted.{Accepted}
 use Rattle.sg_protocol.specs.Frame.{Cast, Frame, Item}
 use Rattle.sg_protocol.specs.Spelling.{HasSpelling, spelling}
 use Rattle.sg_protocol.specs.Texts.{Hash}
-use Rattle.sg_protocol.specs.Keyring.{Keyring, Program, targets_of, may_return}
+use Rattle.sg_protocol.specs.Keyring.{Keyring, Program, key_of, targets_of, may_return}
 use Rattle.sg_protocol.specs.Session.{Session, Took, Gave, principal, origin, place, time, at_turn, extended, new_session}
 use Rattle.sg_protocol.specs.Reading.{read}
 use Rattle.sg_protocol.specs.Sending.{tag_for, text_of, frame_sent, own_item}
-use Rattle.sg_protocol.specs.Calls.{Refusal, Event, Started, Sent, Call, Abandon, Deliver, Answer, Happened, Sends, Abandoned, NotAbandoned, NotDelivered, sid_of, events_of_answer}
-use Rattle.sg_protocol.specs.Node.{Node, program_for, starter, has_joined, session_with}
+use Rattle.sg_protocol.specs.Calls.{Refusal, UnknownGraph, UnknownSession, Event, Started, Sent, Call, Abandon, Deliver, Answer, Happened, Sends, Abandoned, NotAbandoned, NotDelivered, sid_of, events_of_answer}
+use Rattle.sg_protocol.specs.Node.{Node, program_for, starter, is_for, has_joined, session_with}
 use Rattle.sg_protocol.specs.NodeAfter.{node_after, still, is_over}
 use Rattle.sg_protocol.specs.Acting.{answer, openings_for}
-use Rattle.sg_protocol.specs.Verdict.{receipt, decided, rows, verdict_on}
+use Rattle.sg_protocol.specs.Verdict.{receipt, decided, rows, rows_of_join, rows_of_next, join_rows, next_rows, verdict_on}
 use Rattle.sg_protocol.specs.Notes.{no_notes, notes}
 use Rattle.sg_protocol.specs.Past.{Past, node_of, new_node, past_after}
-use Rattle.sg_protocol.specs.Schedule.{Schedule, honest_role, Step}
-use Rattle.sg_protocol.specs.World.{World, Logged, Outcome, Answered, past_of, call_of, keyring_of}
-use Rattle.sg_protocol.specs.Run.{called, uncalled, world_after_all, frame_in, events_of_outcome, events_of}
-use Rattle.sg_protocol.specs.IsSchedule.{IsStep}
+use Rattle.sg_protocol.specs.Schedule.{Schedule, PairKey, honest_role}
+use Rattle.sg_protocol.specs.World.{World, Logged, Outcome, Answered, past_of, keyring_of}
+use Rattle.sg_protocol.specs.Run.{called, uncalled, frame_in, events_of_outcome, events_of}
+use Rattle.sg_protocol.specs.Premises.{hashed}
 use Rattle.sg_protocol.specs.Receipts.{IsTaken, WasSent}
 use Rattle.sg_protocol.specs.LastSteps.{Bare, bare, sent_item, honest_items}
 use Rattle.sg_law.specs.Run as R
@@ -56,27 +56,39 @@ use Rattle.std.specs.Option.{option_map_or}
 use Rattle.std.proofs.lemmas.List.Elements.{filter-append, filter_map-append}
 use Rattle.sg_protocol.proofs.Finding.{one_index, find_passes}
 use Rattle.sg_protocol.proofs.Calls.{Unmoved, WasLeft, HasStarted, HasTaken, HasGiven, TakesFrame}
-use Rattle.sg_protocol.proofs.KnownSession.{SessionOfRun}
-use Rattle.sg_protocol.proofs.Progressing.{Progress, LeftBy, keep_all, Suffix, Outs, past_called, next_past, node_more, in_after, in_before, suffix_trans, suffix_one}
-use Rattle.sg_protocol.proofs.Showing.{shows_called}
+use Rattle.sg_protocol.proofs.KnownSession.{SessionOfCast}
+use Rattle.sg_protocol.proofs.Progressing.{Suffix, past_called, next_past, node_more, in_after, in_before, suffix_trans, suffix_one}
+use Rattle.sg_protocol.proofs.Whole.{found_in, find_some}
+use Rattle.sg_protocol.proofs.Going.{SessionInRun, Progress, Left}
+use Rattle.sg_protocol.proofs.Agreeing.{MovesAgree, Outs, With, agree_called, agree_idle, with_all}
+use Rattle.sg_protocol.proofs.HeldKeys.{SameFor, in_at, own_item_same, frame_same}
+use Rattle.sg_protocol.proofs.Happenings.{Happening, IsGiven, IsRight, all_happen, pasts_kept}
+use Rattle.sg_protocol.proofs.Senders.{decided_none}
+use Rattle.sg_protocol.proofs.Showing.{SessionFacts, shows_called}
 use Rattle.sg_protocol.proofs.Splits.{split_at_end, in_split, split_in, two_splits, rises_mid, role_small}
 
--- what is known of a session whose principals are all honest, in a run that ends in the world wf, if Fit holds of each world on the way
-pub record HonestSession (sha : Hash) (s : Schedule) (programs : List Program) (sid : List ℕ) (cast : Cast) (g : Graph) (wf : World) (Fit : World → Type 0) (targets : ℕ → List ℕ) : Type 0 where
-  pub of_run : SessionOfRun sha s programs sid cast g wf Fit
+next_programs : (sha : Hash) (who : Name) (c : Call) (p : Past) → (next_past sha who c p).programs ≡ p.programs
+next_programs sha who c p = elim (cases_Bool (bytes_eq p.keys.me who)) [ inl e ↦ rw e refl | inr e ↦ rw e refl ]
+
+-- what is known of a session whose principals are all honest and hold these keys for each other, in a run that ends in the world wf
+pub record HonestSession (sha : Hash) (s : Schedule) (sid : List ℕ) (cast : Cast) (g : Graph) (wf : World) (Own : List Program → Type 0) (keys : List PairKey) (targets : ℕ → List ℕ) (Key : Name → Name → Option (List ℕ)) (First : Name → List (List ℕ × ℕ)) : Type 0 where
+  pub of_run : SessionInRun sha s sid cast g wf Own
+  pub facts : SessionFacts sha s sid cast g wf
   pub everyone : (r : ℕ) → r < length g.roles → honest_role s cast r ≡ true
-  pub same_targets : (r : ℕ) (p : Program) → program_for programs cast.graph r ≡ Some p → (e : ℕ) → targets_of p e ≡ targets e
-  pub was_sent : (l : Logged) (who : Name) (bs : List ℕ) (f : Frame) → IsTaken wf l who bs f → f.sid ≡ sid → honest_role s cast f.sender ≡ true → WasSent wf l.number (principal cast f.sender) bs f
+  pub same_targets : (xs : List Program) → Own xs → (r : ℕ) (p : Program) → program_for xs cast.graph r ≡ Some p → (e : ℕ) → targets_of p e ≡ targets e
+  pub other_targets : (e : ℕ) → e < length g.edges → AllByRecursion (λ t. (t < length g.roles) × (t ≢ sender (shape g) e)) (targets e)
+  pub same_key : (a b : ℕ) → a < length cast.names → b < length cast.names → a ≢ b → key_of (keyring_of keys (principal cast a)) (principal cast b) ≡ Key (principal cast a) (principal cast b)
+  pub was_sent : (l : Logged) (who : Name) (bs : List ℕ) (f : Frame) → IsTaken wf l who bs f → f.sid ≡ sid → honest_role s cast f.sender ≡ true → In cast.names who → In cast.names (principal cast f.sender) → WasSent wf l.number (principal cast f.sender) bs f
   pub keys_kept : (n : Node) (c : Call) (a : Answer) → (node_after n c a).keys ≡ n.keys
-  pub starts : (p : Program) → starter programs cast.graph ≡ Some p → role_at (shape g) 0 ≡ p.role
+  pub starts : (xs : List Program) → Own xs → (p : Program) → starter xs cast.graph ≡ Some p → role_at (shape g) 0 ≡ p.role
   pub sends_sid : (n : Node) (c : Call) (e : Event) (to : Name) (f : Frame) → answer sha n c ≡ Sends e to f → sid_of e ≡ f.sid
 
-module _ {sha : Hash} {s : Schedule} {programs : List Program} {sid : List ℕ} {cast : Cast} {g : Graph} {wf : World} {Fit : World → Type 0} {targets : ℕ → List ℕ} (known : HonestSession sha s programs sid cast g wf Fit targets) where
+module _ {sha : Hash} {s : Schedule} {sid : List ℕ} {cast : Cast} {g : Graph} {wf : World} {Own : List Program → Type 0} {keys : List PairKey} {targets : ℕ → List ℕ} {Key : Name → Name → Option (List ℕ)} {First : Name → List (List ℕ × ℕ)} (known : HonestSession sha s sid cast g wf Own keys targets Key First) where
   abbrev is : IsGraph g
-  is = known.of_run.of_cast.is_graph
+  is = known.facts.is_graph
 
   abbrev acc : Accepted g
-  acc = known.of_run.of_cast.accepted
+  acc = known.facts.accepted
 
   abbrev pub honest : ℕ → Bool
   honest k = honest_role s cast k
@@ -85,16 +97,16 @@ module _ {sha : Hash} {s : Schedule} {programs : List Program} {sid : List ℕ} 
   Prog w = Progress known.of_run w
 
   abbrev pub LeftBy_ : Name → Type 0
-  LeftBy_ = LeftBy known.of_run
+  LeftBy_ = Left known.of_run
 
   abbrev pub Steps_ : List Item → Type 0
-  Steps_ done = StepsOk sha s.keys sid cast targets g done
+  Steps_ done = StepsOk sha keys sid cast targets g done
 
   abbrev pub Relay_ : List Item → Session → Type 0
-  Relay_ done x = RelayOk sha s.keys sid cast targets g done x
+  Relay_ done x = RelayOk sha keys sid cast targets g done x
 
   abbrev pub Opens_ : List Item → Opening → Type 0
-  Opens_ past o = OpensAt sha s.keys sid cast targets g past o
+  Opens_ past o = OpensAt sha keys sid cast targets g past o
 
   -- the frame was taken by whom it was sent to
   abbrev pub WasReceived : List Logged → Name → Frame → Type 0
@@ -116,7 +128,7 @@ module _ {sha : Hash} {s : Schedule} {programs : List Program} {sid : List ℕ} 
     pub items_are : f.items ≡ reduced g (after_last by_role f.receiver (honest_items sid before ++ item ∷ []))
     pub join_is : f.join ≡ (if has by_role f.receiver (honest_items sid before) then None else Some cast)
     pub opened : (map (λ (o : Opening). o.variable) f.openings ≡ reads g item.label) × AllByRecursion (Opens_ (honest_items sid before ++ item ∷ [])) f.openings
-    pub tag_is : f.tag ≡ tag_for sha (keyring_of s.keys (principal cast f.sender)) cast f.receiver (text_of f)
+    pub tag_is : f.tag ≡ tag_for sha (keyring_of keys (principal cast f.sender)) cast f.receiver (text_of f)
     pub spelled : HasSpelling f
     pub framed : l.frame ≡ Some (spelling f)
     pub taken : (honest_items sid after ≡ [] → ⊥) → WasReceived log to f
@@ -134,7 +146,7 @@ module _ {sha : Hash} {s : Schedule} {programs : List Program} {sid : List ℕ} 
   pub record New (log : List Logged) (who : Name) (n : Node) : Type 0 where
     pub alone : filter (of_sid sid) n.live ≡ []
     pub none : (r : ℕ) → principal cast r ≡ who → r < length cast.names → has by_role r (honest_items sid log) ≡ false
-    pub unjoined : (r : ℕ) → principal cast r ≡ who → r < length cast.names → has_joined n.joins sid r ≡ true → ⊥
+    pub unjoined : (r : ℕ) → principal cast r ≡ who → r < length cast.names → has_joined (First who) sid r ≡ false → has_joined n.joins sid r ≡ true → ⊥
 
   pub record Here (log : List Logged) (who : Name) (n : Node) : Type 0 where
     pub x : Session
@@ -142,28 +154,24 @@ module _ {sha : Hash} {s : Schedule} {programs : List Program} {sid : List ℕ} 
     pub ok : SessOk log who x
     pub was_joined : has_joined n.joins sid x.role ≡ true
 
-  pub record Gone (log : List Logged) (who : Name) (n : Node) : Type 0 where
+  pub record Gone (log : List Logged) (who : Name) (xs : List Program) (n : Node) : Type 0 where
     pub x : Session
     pub alone : filter (of_sid sid) n.live ≡ []
     pub ok : SessOk log who x
     pub was_joined : has_joined n.joins sid x.role ≡ true
-    pub why : (is_over programs x ≡ true) ⊎ LeftBy_ who
+    pub why : (is_over xs x ≡ true) ⊎ LeftBy_ who
 
-  abbrev pub Track : List Logged → Name → Node → Type 0
-  Track log who n = New log who n ⊎ (Here log who n ⊎ Gone log who n)
+  abbrev pub Track : List Logged → Name → List Program → Node → Type 0
+  Track log who xs n = New log who n ⊎ (Here log who n ⊎ Gone log who xs n)
 
   pub record Flight (w : World) : Type 0 where
     pub sids : (l : Logged) (e : Event) (to : Name) (f : Frame) → In w.log l → l.outcome ≡ Answered (Sends e to f) → sid_of e ≡ f.sid
-    pub keys_are : (who : Name) (p : Past) → past_of w who ≡ Some p → (node_of p).keys ≡ keyring_of s.keys who
+    pub keys_are : (who : Name) (p : Past) → past_of w who ≡ Some p → (other : Name) → key_of (node_of p).keys other ≡ Key who other
     pub steps : Steps_ (honest_items sid w.log)
-    pub tracks : (who : Name) (p : Past) → past_of w who ≡ Some p → Track w.log who (node_of p)
+    pub tracks : (who : Name) (p : Past) → past_of w who ≡ Some p → Track w.log who p.programs (node_of p)
     pub frames : (before : List Logged) (l : Logged) (after : List Logged) (e : Event) (to : Name) (f : Frame) → w.log ≡ before ++ l ∷ after → l.outcome ≡ Answered (Sends e to f) → sid_of e ≡ sid → FrameOk w.log before after l to f
 
   -- ---- who has the turn, or which frame is under way
-
-  -- each role has a program
-  abbrev pub HasPrograms : Type 0
-  HasPrograms = (r : ℕ) → r < length g.roles → (p : Program) × (program_for programs cast.graph r ≡ Some p)
 
   -- a principal's session is at its turn
   pub record Holder (w : World) : Type 0 where
@@ -173,6 +181,8 @@ module _ {sha : Hash} {s : Schedule} {programs : List Program} {sid : List ℕ} 
     pub x : Session
     pub alone : filter (of_sid sid) (node_of past).live ≡ x ∷ []
     pub turn : at_turn g x ≡ true
+    pub program : Program
+    pub has_program : program_for past.programs cast.graph x.role ≡ Some program
 
   -- the frame that was sent last was not taken
   pub record Flying (log : List Logged) : Type 0 where
@@ -262,10 +272,10 @@ module _ {sha : Hash} {s : Schedule} {programs : List Program} {sid : List ℕ} 
     stepped = λ t. ap (has by_role x.role) (same_items log l0 q) ∙ k.stepped t;
   }
 
-  track_more : (log : List Logged) (l0 : Logged) (who : Name) (n n' : Node) → Silent l0 → filter (of_sid sid) n'.live ≡ filter (of_sid sid) n.live → ((r : ℕ) → has_joined n.joins sid r ≡ true → has_joined n'.joins sid r ≡ true) → ((r : ℕ) → has_joined n'.joins sid r ≡ true → has_joined n.joins sid r ≡ true) → Track log who n → Track (log ++ l0 ∷ []) who n'
-  track_more log l0 who n n' q e j j' (inl t) = inl record { alone = e ∙ t.alone; none = λ r a b. ap (has by_role r) (same_items log l0 q) ∙ t.none r a b; unjoined = λ r a b h. t.unjoined r a b (j' r h) }
-  track_more log l0 who n n' q e j j' (inr (inl t)) = inr (inl record { x = t.x; alone = e ∙ t.alone; ok = sess_more log l0 who t.x q t.ok; was_joined = j (t.x).role t.was_joined })
-  track_more log l0 who n n' q e j j' (inr (inr t)) = inr (inr record { x = t.x; alone = e ∙ t.alone; ok = sess_more log l0 who t.x q t.ok; was_joined = j (t.x).role t.was_joined; why = t.why })
+  track_more : (log : List Logged) (l0 : Logged) (who : Name) (xs : List Program) (n n' : Node) → Silent l0 → filter (of_sid sid) n'.live ≡ filter (of_sid sid) n.live → ((r : ℕ) → has_joined n.joins sid r ≡ true → has_joined n'.joins sid r ≡ true) → ((r : ℕ) → has_joined n'.joins sid r ≡ true → has_joined n.joins sid r ≡ true) → Track log who xs n → Track (log ++ l0 ∷ []) who xs n'
+  track_more log l0 who xs n n' q e j j' (inl t) = inl record { alone = e ∙ t.alone; none = λ r a b. ap (has by_role r) (same_items log l0 q) ∙ t.none r a b; unjoined = λ r a b f h. t.unjoined r a b f (j' r h) }
+  track_more log l0 who xs n n' q e j j' (inr (inl t)) = inr (inl record { x = t.x; alone = e ∙ t.alone; ok = sess_more log l0 who t.x q t.ok; was_joined = j (t.x).role t.was_joined })
+  track_more log l0 who xs n n' q e j j' (inr (inr t)) = inr (inr record { x = t.x; alone = e ∙ t.alone; ok = sess_more log l0 who t.x q t.ok; was_joined = j (t.x).role t.was_joined; why = t.why })
 
   frame_more : (log before after : List Logged) (l l0 : Logged) (to : Name) (f : Frame) → ((honest_items sid after ≡ []) → (honest_items sid (after ++ l0 ∷ []) ≡ [] → ⊥) → WasReceived (log ++ l0 ∷ []) to f) → FrameOk log before after l to f → FrameOk (log ++ l0 ∷ []) before (after ++ l0 ∷ []) l to f
   frame_more log before after l l0 to f t k = record {
@@ -298,14 +308,13 @@ module _ {sha : Hash} {s : Schedule} {programs : List Program} {sid : List ℕ} 
     | inr r ↦ absurd (q e to f (ap (λ (z : Logged). z.outcome) (sym r.0) ∙ o) i)
   ]
 
-  flight_idle : (w : World) (k : ℕ) → Prog w → Flight w → (who : Option Name) (o : Outcome) (fr : Option (List ℕ)) → events_of_outcome o ≡ [] → Flight (uncalled w k who o fr)
-  flight_idle w k p fl who o fr ev =
-      let l0 : Logged = record { number = k; who = who; call = None; outcome = o; frame = fr; notes = no_notes } in
+  flight_idle : (w : World) (k : ℕ) → Flight w → (who : Option Name) (o : Outcome) (fr : Option (List ℕ)) → events_of_outcome o ≡ [] → Flight (uncalled w k who o fr)
+  flight_idle w k fl who o fr ev =
       record {
         sids = λ l e to f i h. elim (in_parts w.log (record { number = k; who = who; call = None; outcome = o; frame = fr; notes = no_notes } ∷ []) l i) [ inl j ↦ fl.sids l e to f j h | inr j ↦ elim j [ inl q ↦ absurd (let z : e ∷ [] ≡ [] = ap events_of_outcome (sym (ap (λ (z : Logged). z.outcome) (sym q) ∙ h)) ∙ ev in cc) | inr q ↦ absurd q ] ];
         keys_are = fl.keys_are;
         steps = subst Steps_ (sym (same_items w.log (record { number = k; who = who; call = None; outcome = o; frame = fr; notes = no_notes }) quiet)) fl.steps;
-        tracks = λ me y e. track_more w.log (record { number = k; who = who; call = None; outcome = o; frame = fr; notes = no_notes }) me (node_of y) (node_of y) quiet refl (λ r j. j) (λ r j. j) (fl.tracks me y e);
+        tracks = λ me y e. track_more w.log (record { number = k; who = who; call = None; outcome = o; frame = fr; notes = no_notes }) me y.programs (node_of y) (node_of y) quiet refl (λ r j. j) (λ r j. j) (fl.tracks me y e);
         frames = frames_silent w.log (record { number = k; who = who; call = None; outcome = o; frame = fr; notes = no_notes }) quiet fl.frames;
       }
     where
@@ -365,11 +374,11 @@ module _ {sha : Hash} {s : Schedule} {programs : List Program} {sid : List ℕ} 
     | inr j ↦ elim j [ inl k ↦ absurd (nt f q (ap (λ (z : Logged). z.outcome) (sym k) ∙ o)) | inr k ↦ absurd k ]
   ]
 
-  run_idle : (w : World) (k : ℕ) → Prog w → FlightOfRun w → (who : Option Name) (o : Outcome) (fr : Option (List ℕ)) → events_of_outcome o ≡ [] → FlightOfRun (uncalled w k who o fr)
-  run_idle w k p co who o fr ev = record {
-    flight_ = flight_idle w k p co.flight_ who o fr ev;
+  run_idle : (w : World) (k : ℕ) → FlightOfRun w → (who : Option Name) (o : Outcome) (fr : Option (List ℕ)) → events_of_outcome o ≡ [] → FlightOfRun (uncalled w k who o fr)
+  run_idle w k co who o fr ev = record {
+    flight_ = flight_idle w k co.flight_ who o fr ev;
     sourced = sourced_more w.log (record { number = k; who = who; call = None; outcome = o; frame = fr; notes = no_notes }) untook co.sourced;
-    baton = baton_more w.log (record { number = k; who = who; call = None; outcome = o; frame = fr; notes = no_notes }) (Holder w) (Holder (uncalled w k who o fr)) quiet untook (ap (filter (λ e. bytes_eq (sid_of e) sid)) ev) (λ h. record { who = h.who; past = h.past; its_past = h.its_past; x = h.x; alone = h.alone; turn = h.turn }) co.baton;
+    baton = baton_more w.log (record { number = k; who = who; call = None; outcome = o; frame = fr; notes = no_notes }) (Holder w) (Holder (uncalled w k who o fr)) quiet untook (ap (filter (λ e. bytes_eq (sid_of e) sid)) ev) (λ h. record { who = h.who; past = h.past; its_past = h.its_past; x = h.x; alone = h.alone; turn = h.turn; program = h.program; has_program = h.has_program }) co.baton;
     left_from = λ l me i q call out. elim (in_parts w.log (record { number = k; who = who; call = None; outcome = o; frame = fr; notes = no_notes } ∷ []) l i) [
       | inl j ↦ co.left_from l me j q call out
       | inr j ↦ elim j [ inl e ↦ absurd (let z : None ≡ Some (Abandon sid) = ap (λ (z : Logged). z.call) (sym e) ∙ call in cc) | inr e ↦ absurd e ]
@@ -440,23 +449,30 @@ module _ {sha : Hash} {s : Schedule} {programs : List Program} {sid : List ℕ} 
 
   -- ---- a call
 
-  abbrev Unmoved_ : Node → Node → Answer → Type 0
-  Unmoved_ n n' a = Unmoved sid n n' a
+  module _ (w : World) (k : ℕ) (p : Prog w) (moves_agree : MovesAgree known.of_run w p) (fl : Flight w) (who : Name) (past : Past) (its_past : past_of w who ≡ Some past) (c : Call) (range : IsGiven c) (after : Suffix (k + 1) (called sha w k who c past).log wf.log)
+      (out : Outs known.of_run w k p who past its_past c range after) where
+    -- the principal's programs, and the session under them
+    abbrev own : Own past.programs
+    own = (p.nodes who past its_past).own
 
-  abbrev WasLeft_ : Name → Node → Node → Answer → Type 0
-  WasLeft_ who n n' a = WasLeft known.of_run.of_cast s LeftBy_ who n n' a
+    abbrev its : SessionOfCast sha past.programs sid cast g (λ t. In (hashed s wf) t)
+    its = known.of_run.of_cast past.programs (p.nodes who past its_past).own
 
-  abbrev HasStarted_ : Name → Node → Node → Answer → Type 0
-  HasStarted_ who n n' a = HasStarted known.of_run.of_cast s LeftBy_ who n n' a
+    abbrev Unmoved_ : Node → Node → Answer → Type 0
+    Unmoved_ n n' a = Unmoved sid n n' a
 
-  abbrev HasTaken_ : Name → Node → Node → Call → Answer → Type 0
-  HasTaken_ who n n' c a = HasTaken known.of_run.of_cast s LeftBy_ who n n' c a
+    abbrev WasLeft_ : Name → Node → Node → Answer → Type 0
+    WasLeft_ who n n' a = WasLeft its s LeftBy_ who n n' a
 
-  abbrev HasGiven_ : Name → Node → Node → Answer → Type 0
-  HasGiven_ who n n' a = HasGiven known.of_run.of_cast s LeftBy_ who n n' a
+    abbrev HasStarted_ : Name → Node → Node → Answer → Type 0
+    HasStarted_ who n n' a = HasStarted its s LeftBy_ who n n' a
 
-  module _ (w : World) (k : ℕ) (p : Prog w) (fl : Flight w) (x : Step) (good : IsStep sha s x) (fit : Fit w) (who : Name) (past : Past) (its_past : past_of w who ≡ Some past) (c : Call) (call_is : call_of sha s w k x ≡ Some c) (after : Suffix (k + 1) (called sha w k who c past).log wf.log)
-      (out : Outs known.of_run w k p x good fit who past its_past c) where
+    abbrev HasTaken_ : Name → Node → Node → Call → Answer → Type 0
+    HasTaken_ who n n' c a = HasTaken its s LeftBy_ who n n' c a
+
+    abbrev HasGiven_ : Name → Node → Node → Answer → Type 0
+    HasGiven_ who n n' a = HasGiven its s LeftBy_ who n n' a
+
     abbrev n : Node
     n = node_of past
 
@@ -473,46 +489,40 @@ module _ {sha : Hash} {s : Schedule} {programs : List Program} {sid : List ℕ} 
     log' = w.log ++ l0 ∷ []
 
     -- from the tracks of this principal and of others
-    assemble : Steps_ (honest_items sid log') → Track log' who n' → ((me : Name) (y : Past) → (me ≡ who → ⊥) → Track w.log me (node_of y) → Track log' me (node_of y))
+    assemble : Steps_ (honest_items sid log') → Track log' who past.programs n' → ((me : Name) (y : Past) → (me ≡ who → ⊥) → Track w.log me y.programs (node_of y) → Track log' me y.programs (node_of y))
         → ((before : List Logged) (l : Logged) (after : List Logged) (e : Event) (to : Name) (f : Frame) → log' ≡ before ++ l ∷ after → l.outcome ≡ Answered (Sends e to f) → sid_of e ≡ sid → FrameOk log' before after l to f) → Flight (called sha w k who c past)
     assemble so mine others frames_ = record {
       sids = λ l e to f i h. elim (in_parts w.log (l0 ∷ []) l i) [
         | inl j ↦ fl.sids l e to f j h
         | inr j ↦ elim j [ inl q ↦ (let z : Answered (answer sha (node_of past) c) ≡ Answered (Sends e to f) = ap (λ (z : Logged). z.outcome) (sym q) ∙ h in known.sends_sid (node_of past) c e to f (cc)) | inr q ↦ absurd q ]
       ];
-      keys_are = λ me p' e. (nodes_ me p' (past_of w me) refl (sym (past_called sha w k who c past me) ∙ e)).0;
+      keys_are = λ me p' e other. (pasts_kept sha w k who past its_past c After after_mine after_others me p' e).0 other;
       steps = so;
-      tracks = λ me p' e. (nodes_ me p' (past_of w me) refl (sym (past_called sha w k who c past me) ∙ e)).1;
+      tracks = λ me p' e. (pasts_kept sha w k who past its_past c After after_mine after_others me p' e).1;
       frames = frames_;
     }
       where
-        nodes_ : (me : Name) (p' : Past) (o : Option Past) → past_of w me ≡ o → option_map (next_past sha who c) o ≡ Some p' → ((node_of p').keys ≡ keyring_of s.keys me) × Track log' me (node_of p')
-        nodes_ me p' None q e = absurd (cc)
-        nodes_ me p' (Some y) q e =
-            let r : next_past sha who c y ≡ p' = cc in
-            let is_me : y.keys.me ≡ me = same_bytes y.keys.me me (find_passes (λ (z : Past). bytes_eq z.keys.me me) w.pasts y q) in
-            elim (cases_Bool (bytes_eq y.keys.me who)) [
-              | inl h ↦
-                  let same : me ≡ who = sym is_me ∙ same_bytes y.keys.me who h in
-                  let two : Some y ≡ Some past = sym q ∙ ap (past_of w) same ∙ its_past in
-                  let y_past : y ≡ past = cc in
-                  let after_ : past_after sha past c ≡ p' = ap (λ z. past_after sha z c) (sym y_past) ∙ (rw h at r) in
-                  let node_is : node_of p' ≡ n' = ap node_of (sym after_) ∙ node_more (new_node past.keys past.programs past.first) past.calls (record { call = c; answer = answer sha (node_of past) c }) in (
-                    ap (λ (m : Node). m.keys) node_is ∙ known.keys_kept (node_of past) c (answer sha (node_of past) c) ∙ fl.keys_are who past its_past ∙ ap (keyring_of s.keys) (sym same),
-                    subst (λ z. Track log' z (node_of p')) (sym same) (subst (Track log' who) (sym node_is) mine),
-                  )
-              | inr h ↦
-                  let r' : y ≡ p' = rw h at r in
-                  let ne : me ≡ who → ⊥ = λ z. clash (bytes_eq y.keys.me who) ((bytes_eq-Decides y.keys.me who).1 (is_me ∙ z)) h in
-                  subst (λ (z : Past). ((node_of z).keys ≡ keyring_of s.keys me) × Track log' me (node_of z)) r' (fl.keys_are me y q, others me y ne (fl.tracks me y q))
-            ]
+        After : Name → Past → Type 0
+        After me y = ((other : Name) → key_of (node_of y).keys other ≡ Key me other) × Track log' me y.programs (node_of y)
+
+        node_is : node_of (past_after sha past c) ≡ n'
+        node_is = node_more (new_node past.keys past.programs past.first) past.calls (record { call = c; answer = answer sha (node_of past) c })
+
+        after_mine : After who (past_after sha past c)
+        after_mine = (
+          λ other. ap (λ (z : Keyring). key_of z other) (ap (λ (m : Node). m.keys) node_is ∙ known.keys_kept (node_of past) c (answer sha (node_of past) c)) ∙ fl.keys_are who past its_past other,
+          subst (Track log' who past.programs) (sym node_is) mine,
+        )
+
+        after_others : (me : Name) (y : Past) → (me ≡ who → ⊥) → past_of w me ≡ Some y → After me y
+        after_others me y ne q = (fl.keys_are me y q, others me y ne (fl.tracks me y q))
 
     -- if nothing is sent in the session
-    assemble_silent : Silent l0 → Track log' who n' → Flight (called sha w k who c past)
-    assemble_silent q mine = assemble (subst Steps_ (sym (same_items w.log l0 q)) fl.steps) mine (λ me y ne t. track_more w.log l0 me (node_of y) (node_of y) q refl (λ r j. j) (λ r j. j) t) (frames_silent w.log l0 q fl.frames)
+    assemble_silent : Silent l0 → Track log' who past.programs n' → Flight (called sha w k who c past)
+    assemble_silent q mine = assemble (subst Steps_ (sym (same_items w.log l0 q)) fl.steps) mine (λ me y ne t. track_more w.log l0 me y.programs (node_of y) (node_of y) q refl (λ r j. j) (λ r j. j) t) (frames_silent w.log l0 q fl.frames)
 
-    settled : (y : Session) → filter (of_sid sid) n'.live ≡ still programs y → SessOk log' who y → has_joined n'.joins sid y.role ≡ true → Track log' who n'
-    settled y e ok j = elim (cases_Bool (is_over programs y)) [
+    settled : (y : Session) → filter (of_sid sid) n'.live ≡ still past.programs y → SessOk log' who y → has_joined n'.joins sid y.role ≡ true → Track log' who past.programs n'
+    settled y e ok j = elim (cases_Bool (is_over past.programs y)) [
       | inl o ↦ inr (inr record { x = y; alone = e ∙ rw o refl; ok = ok; was_joined = j; why = inl o })
       | inr o ↦ inr (inl record { x = y; alone = e ∙ rw o refl; ok = ok; was_joined = j })
     ]
@@ -547,36 +557,32 @@ module _ {sha : Hash} {s : Schedule} {programs : List Program} {sid : List ℕ} 
         | inr b ↦ ap (λ z. filter (of_sid sid) (node_of (if z then past_after sha h.past c else h.past)).live) b ∙ h.alone
       ];
       turn = h.turn;
+      program = h.program;
+      has_program = ap (λ xs. program_for xs cast.graph (h.x).role) (next_programs sha who c h.past) ∙ h.has_program;
     }
 
     -- a session that comes to its turn has it, or is at its end
-    held : HasPrograms → (y : Session) → filter (of_sid sid) n'.live ≡ still programs y → y.cast ≡ cast → Relay_ (honest_items sid log') y → at_turn g y ≡ true → Baton (called sha w k who c past)
-    held has y e its_cast relay turn = elim (cases_Bool (is_over programs y)) [
+    held : (y : Session) → (the_p : (p : Program) × (program_for past.programs cast.graph y.role ≡ Some p)) → filter (of_sid sid) n'.live ≡ still past.programs y → y.cast ≡ cast → Relay_ (honest_items sid log') y → at_turn g y ≡ true → Baton (called sha w k who c past)
+    held y the_p e its_cast relay turn = elim (cases_Bool (is_over past.programs y)) [
       | inl o ↦ inr (inr (inl (over o)))
-      | inr o ↦ inr (inr (inr (inl record { who = who; past = next_past sha who c past; its_past = past_now; x = y; alone = ap (λ (z : Node). filter (of_sid sid) z.live) (node_now past its_past) ∙ e ∙ rw o refl; turn = turn })))
+      | inr o ↦ inr (inr (inr (inl record { who = who; past = next_past sha who c past; its_past = past_now; x = y; alone = ap (λ (z : Node). filter (of_sid sid) z.live) (node_now past its_past) ∙ e ∙ rw o refl; turn = turn; program = the_p.0; has_program = ap (λ xs. program_for xs cast.graph y.role) (next_programs sha who c past) ∙ the_p.1 })))
     ]
       where
-        small : y.role < length g.roles
-        small = subst (λ z. z < length g.roles) (eqb-true (role_at (shape g) (place g y)) y.role turn) (role_small g is acc (place g y))
-
-        the_p : (p : Program) × (program_for programs cast.graph y.role ≡ Some p)
-        the_p = has y.role small
-
-        over : is_over programs y ≡ true → NoEdge log'
+        over : is_over past.programs y ≡ true → NoEdge log'
         over o =
-            let p_graph : (the_p.0).graph ≡ g = (known.of_run.of_cast.programs_of y.role the_p.0 the_p.1).0 in
-            let prog_y : program_for programs y.cast.graph y.role ≡ Some the_p.0 = ap (λ (c : Cast). program_for programs c.graph y.role) its_cast ∙ the_p.1 in
+            let p_graph : (the_p.0).graph ≡ g = (its.programs_of y.role the_p.0 the_p.1).0 in
+            let prog_y : program_for past.programs y.cast.graph y.role ≡ Some the_p.0 = ap (λ (c : Cast). program_for past.programs c.graph y.role) its_cast ∙ the_p.1 in
             let none : not (list_any (λ e. e.source == place (the_p.0).graph y) (the_p.0).graph.edges) ≡ true =
             sym (ap (λ q. option_map_or (λ (p : Program). if at_turn p.graph y then not (list_any (λ e. e.source == place p.graph y) p.graph.edges) else not (option_map_or (may_return p) (origin y) true)) q true) prog_y
             ∙ ap (λ b. if b then not (list_any (λ e. e.source == place (the_p.0).graph y) (the_p.0).graph.edges) else not (option_map_or (may_return the_p.0) (origin y) true)) (subst (λ z. at_turn z y ≡ true) (sym p_graph) turn)) ∙ o in
-            ap (λ m. list_any (λ e. e.source == m) g.edges) (sym (at_end sha s.keys sid cast targets g (honest_items sid log') y relay turn))
+            ap (λ m. list_any (λ e. e.source == m) g.edges) (sym (at_end sha keys sid cast targets g (honest_items sid log') y relay turn))
             ∙ subst (λ (z : Graph). list_any (λ e. e.source == place z y) z.edges ≡ false) p_graph (not-true _ none)
 
     happened_silent : (ev : Event) → a ≡ Happened ev → Silent l0
     happened_silent ev e1 e to f o i = (let z : Answered (Happened ev) ≡ Answered (Sends e to f) = ap (λ z. Answered z) (sym e1) ∙ o in absurd (cc))
 
     on_unmoved : Unmoved_ n n' a → Flight (called sha w k who c past)
-    on_unmoved u = assemble_silent quiet (track_more w.log l0 who n n' quiet u.same out.more_joins u.fewer (fl.tracks who past its_past))
+    on_unmoved u = assemble_silent quiet (track_more w.log l0 who past.programs n n' quiet u.same out.more_joins u.fewer (fl.tracks who past its_past))
       where
         of_quiet : (b : Bool) → (b || false) ≡ false → b ≡ false
         of_quiet true h = absurd (cc)
@@ -599,8 +605,8 @@ module _ {sha : Hash} {s : Schedule} {programs : List Program} {sid : List ℕ} 
             let z : answer sha (node_of past) c ≡ Sends e to f = cc in
             clash (bytes_eq (sid_of e) sid) ((bytes_eq-Decides (sid_of e) sid).1 i) (of_quiet (bytes_eq (sid_of e) sid) (subst (λ (b : Answer). list_any (λ e. bytes_eq (sid_of e) sid) (events_of_answer b) ≡ false) z u.quiet))
 
-        left : Track w.log who n → Track log' who n'
-        left (inl t) = inl record { alone = u.none; none = λ r a b. ap (has by_role r) (same_items w.log l0 quiet) ∙ t.none r a b; unjoined = λ r a b h. t.unjoined r a b (u.fewer r h) }
+        left : Track w.log who past.programs n → Track log' who past.programs n'
+        left (inl t) = inl record { alone = u.none; none = λ r a b. ap (has by_role r) (same_items w.log l0 quiet) ∙ t.none r a b; unjoined = λ r a b f h. t.unjoined r a b f (u.fewer r h) }
         left (inr (inl t)) = inr (inr record { x = t.x; alone = u.none; ok = sess_more w.log l0 who t.x quiet t.ok; was_joined = out.more_joins (t.x).role t.was_joined; why = inr u.by })
         left (inr (inr t)) = inr (inr record { x = t.x; alone = u.none; ok = sess_more w.log l0 who t.x quiet t.ok; was_joined = out.more_joins (t.x).role t.was_joined; why = t.why })
 
@@ -644,20 +650,20 @@ module _ {sha : Hash} {s : Schedule} {programs : List Program} {sid : List ℕ} 
     fresh_sess r q l none = record {
       is_who_ = q;
       inside__ = l;
-      relay_ = relay_new sha s.keys sid cast targets g (honest_items sid w.log) sid cast r none (λ t. at_start r (honest_items sid w.log) fl.steps none t);
+      relay_ = relay_new sha keys sid cast targets g (honest_items sid w.log) sid cast r none (λ t. at_start r (honest_items sid w.log) fl.steps none t);
       taken_ = λ t. none_taken w fl (at_start r (honest_items sid w.log) fl.steps none t);
     }
 
-    unjoined_new : (r : ℕ) → principal cast r ≡ who → r < length cast.names → filter (of_sid sid) n.live ≡ [] → has_joined n.joins sid r ≡ false → Track w.log who n → Starting r
+    unjoined_new : (r : ℕ) → principal cast r ≡ who → r < length cast.names → filter (of_sid sid) n.live ≡ [] → has_joined n.joins sid r ≡ false → Track w.log who past.programs n → Starting r
     unjoined_new r q l none j (inl t) = fresh_sess r q l (t.none r q l)
     unjoined_new r q l none j (inr (inl t)) = absurd (let z : [] ≡ t.x ∷ [] = sym none ∙ t.alone in cc)
-    unjoined_new r q l none j (inr (inr t)) = absurd (clash (has_joined n.joins sid r) (subst (λ z. has_joined n.joins sid z ≡ true) (one_index cast.names (t.x).role r known.of_run.of_cast.names_differ t.ok.inside_ l (t.ok.is_who ∙ sym q)) t.was_joined) j)
+    unjoined_new r q l none j (inr (inr t)) = absurd (clash (has_joined n.joins sid r) (subst (λ z. has_joined n.joins sid z ≡ true) (one_index cast.names (t.x).role r known.facts.differ t.ok.inside_ l (t.ok.is_who ∙ sym q)) t.was_joined) j)
 
     on_started : HasStarted_ who n n' a → Flight (called sha w k who c past)
     on_started h =
         let q : Silent l0 = happened_silent (Started sid h.role) h.is_answer in
         let st : Starting h.role = unjoined_new h.role h.is_who h.inside h.none h.unjoined (fl.tracks who past its_past) in
-        let first : at_turn g (new_session sid cast h.role) ≡ true = eq-eqb (role_at (shape g) 0) h.role (known.starts h.program h.found_p ∙ h.its_role) in
+        let first : at_turn g (new_session sid cast h.role) ≡ true = eq-eqb (role_at (shape g) 0) h.role (known.starts past.programs own h.program h.found_p ∙ h.its_role) in
         assemble_silent q (settled (new_session sid cast h.role) h.now (sess_more w.log l0 who (new_session sid cast h.role) q record {
           same_sid = refl;
           same_cast = refl;
@@ -668,12 +674,14 @@ module _ {sha : Hash} {s : Schedule} {programs : List Program} {sid : List ℕ} 
           stepped = λ t. absurd (clash (at_turn g (new_session sid cast h.role)) first t);
         }) h.was_joined)
 
-    started_baton : HasPrograms → HasStarted_ who n n' a → Baton (called sha w k who c past)
-    started_baton has h =
+    started_baton : HasStarted_ who n n' a → Baton (called sha w k who c past)
+    started_baton h =
         let q : Silent l0 = happened_silent (Started sid h.role) h.is_answer in
         let st : Starting h.role = unjoined_new h.role h.is_who h.inside h.none h.unjoined (fl.tracks who past its_past) in
-        let first : at_turn g (new_session sid cast h.role) ≡ true = eq-eqb (role_at (shape g) 0) h.role (known.starts h.program h.found_p ∙ h.its_role) in
-        held has (new_session sid cast h.role) h.now refl (subst (λ l. Relay_ l (new_session sid cast h.role)) (sym (same_items w.log l0 q)) st.relay_) first
+        let first : at_turn g (new_session sid cast h.role) ≡ true = eq-eqb (role_at (shape g) 0) h.role (known.starts past.programs own h.program h.found_p ∙ h.its_role) in
+        let d = and_parts (bytes_eq (h.program).digest cast.graph) ((h.program).role == role_at (shape (h.program).graph) 0) (find_passes (λ (p : Program). bytes_eq p.digest cast.graph && (p.role == role_at (shape p.graph) 0)) past.programs h.program h.found_p) in
+        let its_p = find_some (λ (p : Program). bytes_eq p.digest cast.graph && (p.role == h.role)) past.programs h.program (found_in (λ (p : Program). bytes_eq p.digest cast.graph && (p.role == role_at (shape p.graph) 0)) past.programs h.program h.found_p) (and_from (bytes_eq (h.program).digest cast.graph) ((h.program).role == h.role) d.0 (eq-eqb (h.program).role h.role h.its_role)) in
+        held (new_session sid cast h.role) its_p h.now refl (subst (λ l. Relay_ l (new_session sid cast h.role)) (sym (same_items w.log l0 q)) st.relay_) first
 
     started_take : HasStarted_ who n n' a → NoTake l0
     started_take h f i o = (let z : Answered (Happened (Started sid h.role)) ≡ Answered (Happened (receipt f)) = ap (λ z. Answered z) (sym h.is_answer) ∙ o in absurd (cc))
@@ -696,7 +704,7 @@ module _ {sha : Hash} {s : Schedule} {programs : List Program} {sid : List ℕ} 
       taken_now : IsTaken (called sha w k who c past) l0 who h.took.bs h.f
       taken_now = (contains_from_in log' l0 (C.in_last w.log l0), refl, ap (λ z. Some z) h.took.is_call, h.took.is_read, ap (λ z. Answered z) h.took.is_answer)
 
-      tf : TakesFrame known.of_run.of_cast s LeftBy_ who out.moves h.f
+      tf : TakesFrame its s LeftBy_ who out.moves h.f
       tf = out.took h.f h.took
 
       last_item : (i : Item) × (last f.items ≡ Some i) × (i.role ≡ f.sender)
@@ -712,8 +720,14 @@ module _ {sha : Hash} {s : Schedule} {programs : List Program} {sid : List ℕ} 
           let all = all_honest f.items tf.roles in
           ap (honest_role s cast) (sym last_item.2) ∙ Keys'.all-mid (λ (i : Item). honest_role s cast i.role ≡ true) cut.0 last_item.0 [] (subst (AllByRecursion (λ (i : Item). honest_role s cast i.role ≡ true)) cut.1 all)
 
+      sender_small : f.sender < length cast.names
+      sender_small =
+          let cut = Cut'.split_end f.items last_item.0 last_item.1 in
+          let r : (last_item.0).role ≡ sender (shape g) (last_item.0).label = Keys'.all-mid (λ (i : Item). i.role ≡ sender (shape g) i.label) cut.0 last_item.0 [] (subst (Roles (shape g)) cut.1 tf.roles) in
+          subst (λ z. f.sender < z) (sym known.facts.lengths) (subst (λ z. z < length g.roles) (sym (sym last_item.2 ∙ r)) (role_small g is acc (source (shape g) (last_item.0).label)))
+
       ws : WasSent wf k (principal cast f.sender) h.took.bs h.f
-      ws = known.was_sent l0 who h.took.bs h.f taken_wf h.took.is_sid sender_honest
+      ws = known.was_sent l0 who h.took.bs h.f taken_wf h.took.is_sid sender_honest (subst (In cast.names) h.is_who (in_at cast.names (h.x).role h.inside)) (in_at cast.names f.sender sender_small)
 
       ws_in : In w.log ws.0
       ws_in = in_before k w.log wf.log (suffix_trans k (k + 1) w.log (called sha w k who c past).log wf.log (omega arith) (suffix_one k w.log l0 refl) after) ws.0 (in_from_Contains wf.log ws.0 ws.3) ws.4
@@ -731,7 +745,7 @@ module _ {sha : Hash} {s : Schedule} {programs : List Program} {sid : List ℕ} 
       items_are = ap (honest_items sid) sp.2 ∙ split_items sp.0 ws.0 sp.1 ws.1 ws.2 h.f fo.item ws.7 ws_sid fo.its_last
 
       shows_ : map bare (filter (λ (i : Item). honest_role s cast i.role) f.items) ≡ map bare (last_of by_role (after_last by_role f.receiver (honest_items f.sid log')))
-      shows_ = (shows_called known.of_run w k p x good fit who past its_past c after out
+      shows_ = (shows_called known.of_run known.facts w k p moves_agree who past its_past c range after out
           l0 who h.took.bs h.f (next_past sha who c past) (last-append w.log l0 []) taken_now h.took.is_sid past_now).items
 
       shown_are : map bare f.items ≡ map bare (last_of by_role (after_last by_role f.receiver (honest_items sid w.log)))
@@ -751,7 +765,7 @@ module _ {sha : Hash} {s : Schedule} {programs : List Program} {sid : List ℕ} 
         | inr b ↦ subst (Relay_ (honest_items sid w.log)) (sym b.2) (unjoined_new (h.x).role h.is_who h.inside b.0 b.1 (fl.tracks who past its_past)).relay_
       ]
         where
-          here : filter (of_sid sid) n.live ≡ h.x ∷ [] → Track w.log who n → Relay_ (honest_items sid w.log) h.x
+          here : filter (of_sid sid) n.live ≡ h.x ∷ [] → Track w.log who past.programs n → Relay_ (honest_items sid w.log) h.x
           here e (inl t) = absurd (let z : h.x ∷ [] ≡ [] = sym e ∙ t.alone in cc)
           here e (inr (inl t)) = (let z : t.x ∷ [] ≡ h.x ∷ [] = sym t.alone ∙ e in let q : t.x ≡ h.x = cc in subst (Relay_ (honest_items sid w.log)) q t.ok.relay)
           here e (inr (inr t)) = absurd (let z : h.x ∷ [] ≡ [] = sym e ∙ t.alone in cc)
@@ -786,7 +800,7 @@ module _ {sha : Hash} {s : Schedule} {programs : List Program} {sid : List ℕ} 
           ]
 
       taken_relay : Relay_ (honest_items sid w.log) (extended h.x (Took h.f))
-      taken_relay = relay_takes sha s.keys sid cast targets g (honest_items sid w.log) h.x h.f fl.steps sess h.wait h.turn
+      taken_relay = relay_takes sha keys sid cast targets g (honest_items sid w.log) h.x h.f fl.steps sess h.wait h.turn
           (subst (λ r. f.items ≡ reduced g (after_last by_role r (honest_items sid w.log))) h.same_role (fo.items_are ∙ ap (λ l. reduced g (after_last by_role f.receiver l)) (sym done_is)))
           (subst (λ r. has by_role r f.items ≡ false) h.same_role tf.no_own)
           (subst (λ o. IfSome o (λ e. map (λ (o : Opening). o.variable) f.openings ≡ reads g e)) (sym (ap (λ l. last (labels l)) done_is ∙ ap last (map-append (λ (i : Item). i.label) (honest_items sid sp.0) (fo.item ∷ [])) ∙ last-append (labels (honest_items sid sp.0)) (fo.item).label [])) fo.opened.0)
@@ -804,8 +818,50 @@ module _ {sha : Hash} {s : Schedule} {programs : List Program} {sid : List ℕ} 
         stepped = λ e. absurd (clash (at_turn g (extended h.x (Took h.f))) h.turn e);
       } h.was_joined)
 
-      taken_baton : HasPrograms → Baton (called sha w k who c past)
-      taken_baton has = held has (extended h.x (Took h.f)) h.now h.same_cast (subst (λ l. Relay_ l (extended h.x (Took h.f))) (sym (same_items w.log l0 silent_)) taken_relay) h.turn
+      n_programs : n.programs ≡ past.programs
+      n_programs = (p.nodes who past its_past).ok.has_programs
+
+      no_row : first_some (rows sha n h.f) ≡ None
+      no_row = decided_none (receipt h.f) (first_some (rows sha n h.f)) (ap (verdict_on sha n) (sym h.took.is_read) ∙ ap (answer sha n) (sym h.took.is_call) ∙ h.took.is_answer)
+
+      abbrev Under : Type 0
+      Under = (p : Program) × (program_for past.programs cast.graph (h.x).role ≡ Some p)
+
+      under : (q : Program) → program_for n.programs cast.graph (h.x).role ≡ Some q → Under
+      under q e = (q, ap (λ xs. program_for xs cast.graph (h.x).role) (sym n_programs) ∙ e)
+
+      joins_under : (o : Option Program) → program_for n.programs cast.graph f.receiver ≡ o → first_some (option_map_or (rows_of_join sha n f cast) o (Some UnknownGraph ∷ [])) ≡ None → Under
+      joins_under None q e = absurd (let z : Some UnknownGraph ≡ None = e in cc)
+      joins_under (Some y) q e = under y (ap (program_for n.programs cast.graph) (sym h.same_role) ∙ q)
+
+      goes_under : (o : Option Program) → program_for n.programs (h.x).cast.graph (h.x).role ≡ o → first_some (option_map_or (rows_of_next sha n f h.x) o (Some UnknownSession ∷ [])) ≡ None → Under
+      goes_under None q e = absurd (let z : Some UnknownSession ≡ None = e in cc)
+      goes_under (Some y) q e = under y (ap (λ (c : Cast). program_for n.programs c.graph (h.x).role) (sym h.same_cast) ∙ q)
+
+      abbrev next_under : Option Session → List (Option Refusal)
+      next_under o = option_map_or (λ z. option_map_or (rows_of_next sha n f z) (program_for n.programs z.cast.graph z.role) (Some UnknownSession ∷ [])) o (Some UnknownSession ∷ [])
+
+      waits_under : (xs : List Session) → filter (of_sid sid) n.live ≡ xs → ((xs ≡ h.x ∷ []) ⊎ (xs ≡ [])) → first_some (next_under (find (is_for f) xs)) ≡ None → Under
+      waits_under xs e (inr q) r = absurd (let z : Some UnknownSession ≡ None = ap (λ l. first_some (next_under (find (is_for f) l))) (sym q) ∙ r in cc)
+      waits_under xs e (inl q) r = by_for (cases_Bool (is_for f h.x)) (ap (λ l. first_some (next_under (find (is_for f) l))) (sym q) ∙ r)
+        where
+          by_for : (is_for f h.x ≡ true) ⊎ (is_for f h.x ≡ false) → first_some (next_under (find (is_for f) (h.x ∷ []))) ≡ None → Under
+          by_for (inl e) r = goes_under (program_for n.programs (h.x).cast.graph (h.x).role) refl (rw e at r)
+          by_for (inr e) r = absurd (let z : Some UnknownSession ≡ None = rw e at r in cc)
+
+      of_session : (z : Session) → is_for f z ≡ true → of_sid sid z ≡ true
+      of_session z e = bytes_same z.sid sid (same_bytes z.sid f.sid (and_parts (bytes_eq z.sid f.sid) (z.role == f.receiver) (and_parts (bytes_eq z.sid f.sid && (z.role == f.receiver)) (z.cast.version == f.version) e).0).0 ∙ h.took.is_sid)
+
+      taken_program : Under
+      taken_program = elim (cases_Bool (has by_role f.receiver (honest_items sid sp.0))) [
+        | inr e ↦ joins_under (program_for n.programs cast.graph f.receiver) refl (sym (ap (λ o. first_some (option_map_or (join_rows sha n f) o (next_rows sha n f))) (fo.join_is ∙ ap (λ b. if b then None else Some cast) e)) ∙ no_row)
+        | inl e ↦
+            waits_under (filter (of_sid sid) n.live) refl (elim h.before [ inl b ↦ inl b.0 | inr b ↦ inr b.0 ])
+            (ap (λ o. first_some (next_under o)) (find-filter (is_for f) (of_sid sid) of_session n.live) ∙ sym (ap (λ o. first_some (option_map_or (join_rows sha n f) o (next_rows sha n f))) (fo.join_is ∙ ap (λ b. if b then None else Some cast) e)) ∙ no_row)
+      ]
+
+      taken_baton : Baton (called sha w k who c past)
+      taken_baton = held (extended h.x (Took h.f)) taken_program h.now h.same_cast (subst (λ l. Relay_ l (extended h.x (Took h.f))) (sym (same_items w.log l0 silent_)) taken_relay) h.turn
 
       taken_sourced : Sourced w.log → Sourced log'
       taken_sourced so m f2 i call o q sp2 = elim (in_parts w.log (l0 ∷ []) m i) [
@@ -835,18 +891,18 @@ module _ {sha : Hash} {s : Schedule} {programs : List Program} {sid : List ℕ} 
 
       -- what the step gives, in the graph z
       record GivenAt (z : Graph) : Type 0 where
-        steps_ : StepsOk sha s.keys sid cast targets z (done ++ h.item ∷ [])
-        relay_ : RelayOk sha s.keys sid cast targets z (done ++ h.item ∷ []) (extended h.x (Gave h.item os))
+        steps_ : StepsOk sha keys sid cast targets z (done ++ h.item ∷ [])
+        relay_ : RelayOk sha keys sid cast targets z (done ++ h.item ∷ []) (extended h.x (Gave h.item os))
         receiver_ : fr.receiver ≡ receiver (shape z) h.label
         apart_ : receiver (shape z) h.label ≢ (h.x).role
         items_ : fr.items ≡ reduced z (after_last by_role (receiver (shape z) h.label) (done ++ h.item ∷ []))
         join_ : fr.join ≡ (if has by_role (receiver (shape z) h.label) done then None else Some cast)
-        opened_ : (map (λ (o : Opening). o.variable) fr.openings ≡ reads z h.label) × AllByRecursion (OpensAt sha s.keys sid cast targets z (done ++ h.item ∷ [])) fr.openings
-        tag_ : fr.tag ≡ tag_for sha (keyring_of s.keys (principal cast (h.x).role)) cast (receiver (shape z) h.label) (text_of fr)
+        opened_ : (map (λ (o : Opening). o.variable) fr.openings ≡ reads z h.label) × AllByRecursion (OpensAt sha keys sid cast targets z (done ++ h.item ∷ [])) fr.openings
+        tag_ : fr.tag ≡ tag_for sha (keyring_of keys (principal cast (h.x).role)) cast (receiver (shape z) h.label) (text_of fr)
         item_label : (h.item).label ≡ h.label
         item_role : (h.item).role ≡ (h.x).role
 
-      here : Track w.log who n → (SessOk w.log who h.x) × (has_joined n.joins sid (h.x).role ≡ true)
+      here : Track w.log who past.programs n → (SessOk w.log who h.x) × (has_joined n.joins sid (h.x).role ≡ true)
       here (inl t) = absurd (let z : h.x ∷ [] ≡ [] = sym h.before ∙ t.alone in cc)
       here (inr (inl t)) = (let z : t.x ∷ [] ≡ h.x ∷ [] = sym t.alone ∙ h.before in let q : t.x ≡ h.x = cc in subst (λ (y : Session). SessOk w.log who y × (has_joined n.joins sid y.role ≡ true)) q (t.ok, t.was_joined))
       here (inr (inr t)) = absurd (let z : h.x ∷ [] ≡ [] = sym h.before ∙ t.alone in cc)
@@ -854,33 +910,57 @@ module _ {sha : Hash} {s : Schedule} {programs : List Program} {sid : List ℕ} 
       sess_ : SessOk w.log who h.x
       sess_ = (here (fl.tracks who past its_past)).0
 
-      keys_mine : n.keys ≡ keyring_of s.keys (principal cast (h.x).role)
-      keys_mine = fl.keys_are who past its_past ∙ ap (keyring_of s.keys) (sym h.is_who)
+      abbrev mine : Keyring
+      mine = keyring_of keys (principal cast (h.x).role)
+
+      by_x : sender (shape g) h.label ≡ (h.x).role
+      by_x = ap (role_at (shape g)) h.rows.leaves ∙ eqb-true (role_at (shape g) (place g h.x)) (h.x).role h.rows.turn
+
+      in_edges : h.label < length g.edges
+      in_edges = C.lt_of h.label (length g.edges) h.rows.edge
+
+      -- for another of the cast the principal holds what the list of pairs says
+      holds : (t : ℕ) → t < length g.roles → t ≢ (h.x).role → SameFor n.keys mine (h.x).cast t
+      holds t l ne = subst (λ (c : Cast). SameFor n.keys (keyring_of keys (principal cast (h.x).role)) c t) (sym h.same_cast)
+          (fl.keys_are who past its_past (principal cast t) ∙ ap (λ z. Key z (principal cast t)) (sym h.is_who) ∙ sym (known.same_key (h.x).role t h.inside (subst (λ z. t < z) (sym known.facts.lengths) l) (λ q. ne (sym q))))
+
+      holds_targets : AllByRecursion (SameFor n.keys mine (h.x).cast) (targets_of h.p h.label)
+      holds_targets = subst (AllByRecursion (SameFor n.keys (keyring_of keys (principal cast (h.x).role)) (h.x).cast)) (sym (known.same_targets past.programs own (h.x).role h.p h.found_p h.label))
+          (all_weaker (λ t. (t < length g.roles) × (t ≢ sender (shape g) h.label)) (SameFor n.keys (keyring_of keys (principal cast (h.x).role)) (h.x).cast) (λ t q. holds t q.0 (λ e. q.1 (e ∙ sym by_x))) (targets h.label) (known.other_targets h.label in_edges))
+
+      holds_receiver : SameFor n.keys mine (h.x).cast (receiver (shape (h.p).graph) h.label)
+      holds_receiver = subst (λ (z : Graph). SameFor n.keys (keyring_of keys (principal cast (h.x).role)) (h.x).cast (receiver (shape z) h.label)) (sym h.is_graph) (holds (receiver (shape g) h.label) (role_small g is acc _) (λ e. acc.no_self_edge h.label in_edges (by_x ∙ sym e)))
+
+      frame_is : frame_sent sha n.keys h.p h.x h.label os ≡ frame_sent sha (keyring_of keys (principal cast (h.x).role)) h.p h.x h.label os
+      frame_is = frame_same sha n.keys (keyring_of keys (principal cast (h.x).role)) h.p h.x h.label os holds_targets holds_receiver
+
+      own_is : own_item sha n.keys h.p h.x h.label os ≡ own_item sha (keyring_of keys (principal cast (h.x).role)) h.p h.x h.label os
+      own_is = own_item_same sha n.keys (keyring_of keys (principal cast (h.x).role)) h.p h.x h.label os holds_targets
 
       given : GivenAt g
       given =
           let is' : IsGraph (h.p).graph = subst IsGraph (sym h.is_graph) is in
           let acc' : Accepted (h.p).graph = subst Accepted (sym h.is_graph) acc in
-          let so' : StepsOk sha s.keys sid cast targets (h.p).graph done = subst (λ z. StepsOk sha s.keys sid cast targets z done) (sym h.is_graph) fl.steps in
-          let k' : RelayOk sha s.keys sid cast targets (h.p).graph done h.x = subst (λ z. RelayOk sha s.keys sid cast targets z done h.x) (sym h.is_graph) sess_.relay in
+          let so' : StepsOk sha keys sid cast targets (h.p).graph done = subst (λ z. StepsOk sha keys sid cast targets z done) (sym h.is_graph) fl.steps in
+          let k' : RelayOk sha keys sid cast targets (h.p).graph done h.x = subst (λ z. RelayOk sha keys sid cast targets z done h.x) (sym h.is_graph) sess_.relay in
           let rows' : C.ActRows (h.p).graph h.x h.label h.values = subst (λ z. C.ActRows z h.x h.label h.values) (sym h.is_graph) h.rows in
-          let tg : targets_of h.p h.label ≡ targets h.label = known.same_targets (h.x).role h.p h.found_p h.label in
-          let last' : last (frame_sent sha (keyring_of s.keys (principal cast (h.x).role)) h.p h.x h.label os).items ≡ Some h.item = subst (λ (m : Keyring). last (frame_sent sha m h.p h.x h.label os).items ≡ Some h.item) keys_mine h.its_last in
-          let entry' : Entries'.entry h.item ≡ Entries'.entry (own_item sha (keyring_of s.keys (principal cast (h.x).role)) h.p h.x h.label os) = subst (λ (m : Keyring). Entries'.entry h.item ≡ Entries'.entry (own_item sha m h.p h.x h.label os)) keys_mine h.is_entry in
+          let tg : targets_of h.p h.label ≡ targets h.label = known.same_targets past.programs own (h.x).role h.p h.found_p h.label in
+          let last' : last (frame_sent sha (keyring_of keys (principal cast (h.x).role)) h.p h.x h.label os).items ≡ Some h.item = subst (λ (y : Frame). last y.items ≡ Some h.item) frame_is h.its_last in
+          let entry' : Entries'.entry h.item ≡ Entries'.entry (own_item sha (keyring_of keys (principal cast (h.x).role)) h.p h.x h.label os) = subst (λ (y : Item). Entries'.entry h.item ≡ Entries'.entry y) own_is h.is_entry in
           let wait' : at_turn (h.p).graph (extended h.x (Gave h.item os)) ≡ false = subst (λ z. at_turn z (extended h.x (Gave h.item os)) ≡ false) (sym h.is_graph) h.wait in
           subst GivenAt h.is_graph record {
-            steps_ = Y.steps_ok sha s.keys sid cast targets h.p h.x h.label h.values h.F done is' acc' so' k' sess_.same_sid sess_.same_cast rows' h.small tg h.item last' entry' wait';
-            relay_ = Y.gives sha s.keys sid cast targets h.p h.x h.label h.values h.F done is' acc' so' k' sess_.same_sid sess_.same_cast rows' h.small tg h.item last' entry' wait';
+            steps_ = Y.steps_ok sha keys sid cast targets h.p h.x h.label h.values h.F done is' acc' so' k' sess_.same_sid sess_.same_cast rows' h.small tg h.item last' entry' wait';
+            relay_ = Y.gives sha keys sid cast targets h.p h.x h.label h.values h.F done is' acc' so' k' sess_.same_sid sess_.same_cast rows' h.small tg h.item last' entry' wait';
             receiver_ = refl;
-            apart_ = Y.apart sha s.keys sid cast targets h.p h.x h.label h.values h.F done is' acc' so' k' sess_.same_sid sess_.same_cast rows' h.small tg h.item last' entry' wait';
-            items_ = subst (λ (m : Keyring). (frame_sent sha m h.p h.x h.label os).items ≡ reduced (h.p).graph (after_last by_role (receiver (shape (h.p).graph) h.label) (done ++ h.item ∷ []))) (sym keys_mine)
-                (Y.frame_items sha s.keys sid cast targets h.p h.x h.label h.values h.F done is' acc' so' k' sess_.same_sid sess_.same_cast rows' h.small tg h.item last' entry' wait');
-            join_ = Y.frame_join sha s.keys sid cast targets h.p h.x h.label h.values h.F done is' acc' so' k' sess_.same_sid sess_.same_cast rows' h.small tg h.item last' entry' wait';
-            opened_ = Y.frame_opened sha s.keys sid cast targets h.p h.x h.label h.values h.F done is' acc' so' k' sess_.same_sid sess_.same_cast rows' h.small tg h.item last' entry' wait';
-            tag_ = subst (λ (m : Keyring). (frame_sent sha m h.p h.x h.label os).tag ≡ tag_for sha (keyring_of s.keys (principal cast (h.x).role)) cast (receiver (shape (h.p).graph) h.label) (text_of (frame_sent sha m h.p h.x h.label os))) (sym keys_mine)
-                (Y.frame_tag sha s.keys sid cast targets h.p h.x h.label h.values h.F done is' acc' so' k' sess_.same_sid sess_.same_cast rows' h.small tg h.item last' entry' wait');
-            item_label = ap (λ (z : Item). z.label) (Y.item_is sha s.keys sid cast targets h.p h.x h.label h.values h.F done is' acc' so' k' sess_.same_sid sess_.same_cast rows' h.small tg h.item last' entry' wait');
-            item_role = ap (λ (z : Item). z.role) (Y.item_is sha s.keys sid cast targets h.p h.x h.label h.values h.F done is' acc' so' k' sess_.same_sid sess_.same_cast rows' h.small tg h.item last' entry' wait');
+            apart_ = Y.apart sha keys sid cast targets h.p h.x h.label h.values h.F done is' acc' so' k' sess_.same_sid sess_.same_cast rows' h.small tg h.item last' entry' wait';
+            items_ = subst (λ (y : Frame). y.items ≡ reduced (h.p).graph (after_last by_role (receiver (shape (h.p).graph) h.label) (done ++ h.item ∷ []))) (sym frame_is)
+                (Y.frame_items sha keys sid cast targets h.p h.x h.label h.values h.F done is' acc' so' k' sess_.same_sid sess_.same_cast rows' h.small tg h.item last' entry' wait');
+            join_ = Y.frame_join sha keys sid cast targets h.p h.x h.label h.values h.F done is' acc' so' k' sess_.same_sid sess_.same_cast rows' h.small tg h.item last' entry' wait';
+            opened_ = Y.frame_opened sha keys sid cast targets h.p h.x h.label h.values h.F done is' acc' so' k' sess_.same_sid sess_.same_cast rows' h.small tg h.item last' entry' wait';
+            tag_ = subst (λ (y : Frame). y.tag ≡ tag_for sha (keyring_of keys (principal cast (h.x).role)) cast (receiver (shape (h.p).graph) h.label) (text_of y)) (sym frame_is)
+                (Y.frame_tag sha keys sid cast targets h.p h.x h.label h.values h.F done is' acc' so' k' sess_.same_sid sess_.same_cast rows' h.small tg h.item last' entry' wait');
+            item_label = ap (λ (z : Item). z.label) (Y.item_is sha keys sid cast targets h.p h.x h.label h.values h.F done is' acc' so' k' sess_.same_sid sess_.same_cast rows' h.small tg h.item last' entry' wait');
+            item_role = ap (λ (z : Item). z.role) (Y.item_is sha keys sid cast targets h.p h.x h.label h.values h.F done is' acc' so' k' sess_.same_sid sess_.same_cast rows' h.small tg h.item last' entry' wait');
           }
 
       abbrev ev : Event
@@ -892,8 +972,8 @@ module _ {sha : Hash} {s : Schedule} {programs : List Program} {sid : List ℕ} 
       -- another role has no turn now
       other_turn : (y : Session) → Relay_ done y → principal cast y.role ≢ who → at_turn g y ≡ true → ⊥
       other_turn y ry ne t =
-          let one : place g y ≡ end_of (shape g) 0 (labels done) = at_end sha s.keys sid cast targets g done y ry t in
-          let two : place g h.x ≡ end_of (shape g) 0 (labels done) = at_end sha s.keys sid cast targets g done h.x sess_.relay h.rows.turn in
+          let one : place g y ≡ end_of (shape g) 0 (labels done) = at_end sha keys sid cast targets g done y ry t in
+          let two : place g h.x ≡ end_of (shape g) 0 (labels done) = at_end sha keys sid cast targets g done h.x sess_.relay h.rows.turn in
           let roles : y.role ≡ (h.x).role = sym (eqb-true (role_at (shape g) (place g y)) y.role t) ∙ ap (role_at (shape g)) (one ∙ sym two) ∙ eqb-true (role_at (shape g) (place g h.x)) (h.x).role h.rows.turn in
           ne (ap (principal cast) roles ∙ h.is_who)
 
@@ -908,12 +988,12 @@ module _ {sha : Hash} {s : Schedule} {programs : List Program} {sid : List ℕ} 
             same_cast = ok.same_cast;
             is_who = ok.is_who;
             inside_ = ok.inside_;
-            relay = subst (λ l. Relay_ l y) (sym items_now) (relay_other sha s.keys sid cast targets g done y h.item ok.relay (other_role y.role ne') (other_turn y ok.relay ne'));
+            relay = subst (λ l. Relay_ l y) (sym items_now) (relay_other sha keys sid cast targets g done y h.item ok.relay (other_role y.role ne') (other_turn y ok.relay ne'));
             taken = λ t. absurd (other_turn y ok.relay ne' t);
             stepped = λ t. ap (has by_role y.role) items_now ∙ has-both y.role done (h.item ∷ []) ∙ rw (ok.stepped t) refl;
           }
 
-      others : (me : Name) (y : Past) → (me ≡ who → ⊥) → Track w.log me (node_of y) → Track log' me (node_of y)
+      others : (me : Name) (y : Past) → (me ≡ who → ⊥) → Track w.log me y.programs (node_of y) → Track log' me y.programs (node_of y)
       others me y ne (inl t) = inl record { alone = t.alone; none = λ r q l. ap (has by_role r) items_now ∙ has-both r done (h.item ∷ []) ∙ rw (t.none r q l, other_role r (λ z. ne (sym q ∙ z))) refl; unjoined = t.unjoined }
       others me y ne (inr (inl t)) = inr (inl record { x = t.x; alone = t.alone; ok = other_sess me t.x ne t.ok; was_joined = t.was_joined })
       others me y ne (inr (inr t)) = inr (inr record { x = t.x; alone = t.alone; ok = other_sess me t.x ne t.ok; was_joined = t.was_joined; why = t.why })
@@ -935,7 +1015,7 @@ module _ {sha : Hash} {s : Schedule} {programs : List Program} {sid : List ℕ} 
             items_are = given.items_ ∙ ap (λ r. reduced g (after_last by_role r (done ++ h.item ∷ []))) (sym given.receiver_);
             join_is = given.join_ ∙ ap (λ r. if has by_role r done then None else Some cast) (sym given.receiver_);
             opened = (given.opened_.0 ∙ ap (reads g) (sym given.item_label), given.opened_.1);
-            tag_is = given.tag_ ∙ ap (λ r. tag_for sha (keyring_of s.keys (principal cast (h.x).role)) cast r (text_of fr)) (sym given.receiver_);
+            tag_is = given.tag_ ∙ ap (λ r. tag_for sha (keyring_of keys (principal cast (h.x).role)) cast r (text_of fr)) (sym given.receiver_);
             spelled = h.spelled;
             framed = ap frame_in h.is_answer;
             taken = λ ne. absurd (ne refl);
@@ -1018,8 +1098,8 @@ module _ {sha : Hash} {s : Schedule} {programs : List Program} {sid : List ℕ} 
       ]
     ]
 
-    run_called : HasPrograms → Sourced w.log → Baton w → LeftFrom w.log → Said w.log → FlightOfRun (called sha w k who c past)
-    run_called has so b lf sd = record {
+    run_called : Sourced w.log → Baton w → LeftFrom w.log → Said w.log → FlightOfRun (called sha w k who c past)
+    run_called so b lf sd = record {
       flight_ = flight_called;
       sourced = both.0;
       baton = both.1;
@@ -1055,7 +1135,7 @@ module _ {sha : Hash} {s : Schedule} {programs : List Program} {sid : List ℕ} 
         decided_is r None e h = (let z : r ≡ e = cc in sym z)
         decided_is r (Some x) e h = absurd (let z : NotDelivered x ≡ Happened e = h in cc)
 
-        leaves_ : Track w.log who n → answer sha (node_of past) (Abandon sid) ≡ Abandoned → (r : ℕ) × (r < length cast.names) × (principal cast r ≡ who)
+        leaves_ : Track w.log who past.programs n → answer sha (node_of past) (Abandon sid) ≡ Abandoned → (r : ℕ) × (r < length cast.names) × (principal cast r ≡ who)
         leaves_ (inl t) q =
             let none : session_with (node_of past).live sid ≡ None = sym (find-filter (λ (z : Session). bytes_eq z.sid sid) (of_sid sid) (λ z e. e) (node_of past).live) ∙ ap (find (λ (z : Session). bytes_eq z.sid sid)) t.alone in
             absurd (let z : NotAbandoned ≡ Abandoned = sym (ap (λ o. option_map_or (λ s. Abandoned) o NotAbandoned) none) ∙ q in cc)
@@ -1068,16 +1148,17 @@ module _ {sha : Hash} {s : Schedule} {programs : List Program} {sid : List ℕ} 
           | inr r ↦ elim r [
             | inl u ↦ (sourced_more w.log l0 (quiet_take u.quiet) so, inr (inl (who, u.by)))
             | inr r2 ↦ elim r2 [
-              | inl u ↦ (sourced_more w.log l0 (started_take u) so, started_baton has u)
-              | inr r3 ↦ elim r3 [ inl u ↦ (taken_sourced u so, taken_baton u has) | inr u ↦ (sourced_more w.log l0 (given_take u) so, given_baton u so) ]
+              | inl u ↦ (sourced_more w.log l0 (started_take u) so, started_baton u)
+              | inr r3 ↦ elim r3 [ inl u ↦ (taken_sourced u so, taken_baton u) | inr u ↦ (sourced_more w.log l0 (given_take u) so, given_baton u so) ]
             ]
           ]
         ]
 
-  pub flight : (w : World) (k : ℕ) → Prog w → Flight w → (xs : List Step) → AllByRecursion (IsStep sha s) xs → Fit w → world_after_all sha s w k xs ≡ wf → Flight wf
-  flight w k p h xs good fit e = keep_all known.of_run Flight flight_idle
-      (λ w k p h x good fit who past its_past c call after out. flight_called w k p h x good fit who past its_past c call after out) w k p h xs good fit e
+  -- what is known of a world on the way
+  abbrev pub OnTheWay : (w : World) → Prog w → Type 0
+  OnTheWay w p = MovesAgree known.of_run w p × FlightOfRun w
 
-  pub flight_of_run : HasPrograms → (w : World) (k : ℕ) → Prog w → FlightOfRun w → (xs : List Step) → AllByRecursion (IsStep sha s) xs → Fit w → world_after_all sha s w k xs ≡ wf → FlightOfRun wf
-  flight_of_run has w k p h xs good fit e = keep_all known.of_run FlightOfRun run_idle
-      (λ w k p h x good fit who past its_past c call after out. run_called w k p h.flight_ x good fit who past its_past c call after out has h.sourced h.baton h.left_from h.said) w k p h xs good fit e
+  pub flight_of_run : (w : World) (k : ℕ) → With known.of_run OnTheWay w → (hs : List Happening) → AllByRecursion IsRight hs → all_happen sha w k hs ≡ wf → With known.of_run OnTheWay wf
+  flight_of_run = with_all known.of_run OnTheWay
+      (λ w k p h who o fr e. (agree_idle known.of_run w k p h.0 who o fr e, run_idle w k h.1 who o fr e))
+      (λ w k p h who past its_past c r after out. (agree_called known.of_run w k p who past its_past c r after h.0 out, run_called w k p h.0 h.1.flight_ who past its_past c r after out h.1.sourced h.1.baton h.1.left_from h.1.said))

@@ -1,28 +1,23 @@
 -- What is known of a session: of its cast and graph, and of a run in which it stands.
-use Rattle.std.specs.Prelude.{◌≡◌, ℕ, ◌<◌, List, true, length, Some}
-use Rattle.std.specs.List.{AllByRecursion}
+use Rattle.std.specs.Prelude.{◌≡◌, ℕ, List, true, length, Some}
 use Rattle.sg_model.specs.Lists.{all_differ}
-use Rattle.sg_model.specs.Values.{Opening}
 use Rattle.sg_model.specs.Names.{Name}
 use Rattle.sg_model.specs.Bytes.{IsBytes}
-use Rattle.sg_law.specs.Values.{Move, Binding, all_openings}
-use Rattle.sg_law.proofs.Upto.{In}
 use Rattle.sg_protocol.specs.Graph.{Graph, IsGraph}
 use Rattle.sg_protocol.specs.Accepted.{Accepted}
 use Rattle.sg_protocol.specs.Evidence.{IsViewTable}
 use Rattle.sg_protocol.specs.Frame.{Cast, Frame}
 use Rattle.sg_protocol.specs.Spelling.{HasSpelling}
-use Rattle.sg_protocol.specs.Texts.{Hash, IsHash, commitment, commitment_text_of, session_id, session_text_of}
-use Rattle.sg_protocol.specs.TextLaws.{IsVersion, CastFits, OpeningFits}
+use Rattle.sg_protocol.specs.Texts.{Hash, IsHash, session_id, session_text_of}
+use Rattle.sg_protocol.specs.TextLaws.{IsVersion, CastFits}
 use Rattle.sg_protocol.specs.Keyring.{Program}
 use Rattle.sg_protocol.specs.Calls.{Event, Call, Sends}
 use Rattle.sg_protocol.specs.Node.{program_for}
 use Rattle.sg_protocol.specs.Acting.{answer}
 use Rattle.sg_protocol.specs.Past.{Past, node_of}
-use Rattle.sg_protocol.specs.Schedule.{Schedule, honest_role, Step, DeliverStep, What, cast_of}
+use Rattle.sg_protocol.specs.Schedule.{Schedule, Step, DeliverStep, What, cast_of}
 use Rattle.sg_protocol.specs.World.{World, past_of, call_of, bytes_of}
 use Rattle.sg_protocol.specs.Run.{world_after}
-use Rattle.sg_protocol.specs.Premises.{hashed, Unforged}
 use Rattle.sg_protocol.specs.IsSchedule.{IsStep}
 
 -- a session of an accepted graph, whose sid is that of one cast among what is hashed
@@ -42,11 +37,3 @@ pub record FitSteps (sha : Hash) (s : Schedule) (Fit : World → Type 0) : Type 
   pub bytes : (w : World) → Fit w → (who : Name) (what : What) (bs : List ℕ) → IsStep sha s (DeliverStep who what) → bytes_of w what ≡ Some bs → IsBytes bs
   pub sends : (w : World) → Fit w → (k : ℕ) (x : Step) (who : Name) (past : Past) (c : Call) (e : Event) (to : Name) (f : Frame) → IsStep sha s x → past_of w who ≡ Some past → call_of sha s w k x ≡ Some c → answer sha (node_of past) c ≡ Sends e to f → HasSpelling f
   pub casts : (n : ℕ) (c : Cast) → cast_of s n ≡ Some c → CastFits c
-
--- a session in a run that ends in the world wf, if Fit holds of each world on the way
-pub record SessionOfRun (sha : Hash) (s : Schedule) (programs : List Program) (sid : List ℕ) (cast : Cast) (g : Graph) (wf : World) (Fit : World → Type 0) : Type 0 where
-  pub of_cast : SessionOfCast sha programs sid cast g (λ t. In (hashed s wf) t)
-  pub unforged : Unforged s wf
-  pub fits : FitSteps sha s Fit
-  pub binding : (ms : List Move) → AllByRecursion (λ (o : Opening). In (hashed s wf) (commitment_text_of sid o) × OpeningFits o) (all_openings ms) → Binding (λ o. commitment sha sid o) (all_openings ms)
-  pub inside : (k : ℕ) → honest_role s cast k ≡ true → k < length cast.names

@@ -42,7 +42,7 @@ use Rattle.sg_protocol.proofs.Fits.{fit_new, fit_next, fit_steps}
 use Rattle.sg_protocol.proofs.Ranges.{joined_in_range}
 use Rattle.sg_protocol.proofs.ReadBack.{read-SpellsFrame}
 use Rattle.sg_protocol.proofs.Roles.{sessions_have_one_cast}
-use Rattle.sg_protocol.proofs.Sendings.{Known, LogsOk, all_logs, new_logs, step_logs, no_entry}
+use Rattle.sg_protocol.proofs.Origins.{Known, LogsOk, all_logs, new_logs, step_logs, no_entry}
 use Rattle.sg_protocol.proofs.Sent.{FitSession}
 use Rattle.sg_protocol.proofs.Named.{NamesFrom, call_named, answers_are_named}
 use Rattle.sg_protocol.proofs.Whole.{FirstCast, find_some, found_in, program_graph, same_name, same_named}

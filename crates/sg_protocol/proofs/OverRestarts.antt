@@ -19,7 +19,7 @@ use Rattle.sg_protocol.specs.Headline.{IsExplained, HadEvent, IsOfCast}
 use Rattle.sg_protocol.specs.Receipts.{IsTaken, WasSent}
 use Rattle.sg_protocol.specs.Walk.{OnePath}
 use Rattle.sg_protocol.specs.Restarts.{run_with_restarts, dropped, without_restarts, IsAbandonment, HasMoreAbandonments, SessionsFollowWalksOverRestarts, ReceiptsHaveSendsOverRestarts, SessionsHaveOneCastOverRestarts, NoneTakesTwoRolesOverRestarts, HeadlineOverRestarts}
-use Rattle.sg_protocol.proofs.Fits.{sessions_follow_walks}
+use Rattle.sg_protocol.proofs.ExplainingWalks.{sessions_follow_walks}
 use Rattle.sg_protocol.proofs.Lives.{none_joins_twice_over_restarts}
 use Rattle.sg_protocol.proofs.Restarts.{Same, plain, same_runs, is_plain}
 use Rattle.sg_protocol.proofs.Moved.{more}

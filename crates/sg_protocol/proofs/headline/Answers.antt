@@ -1,6 +1,6 @@
 -- The headline.
 use Rattle.sg_protocol.proofs.Joins.{none_joins_twice}
-use Rattle.sg_protocol.proofs.Fits.{sessions_follow_walks}
+use Rattle.sg_protocol.proofs.ExplainingWalks.{sessions_follow_walks}
 use Rattle.sg_protocol.proofs.headline.Goals as goal
 
 pub returns : goal.returns

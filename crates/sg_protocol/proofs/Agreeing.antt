@@ -1,7 +1,7 @@
--- What the law has of each role in a run apart is what its principal took and gave.
-use Rattle.std.specs.Prelude.{◌≡◌, ℕ, ◌+◌, ◌<◌, true, List, [], ◌∷◌, ◌++◌, map, filter, flat_map, length, Some, option_map}
-use Rattle.std.specs.List.{AllByRecursion}
-use Rattle.std.proofs.Common.{sym, ◌∙◌, ap, subst}
+-- What the law has of each role in a run is what its principal took and gave.
+use Rattle.std.specs.Prelude.{◌≡◌, ℕ, ◌+◌, ◌<◌, true, List, [], ◌∷◌, ◌++◌, map, filter, flat_map, length, refl, Option, Some, None, option_map}
+use Rattle.std.specs.List.{AllByRecursion, cons_option}
+use Rattle.std.proofs.Common.{sym, ◌∙◌, ap, subst, append-nil}
 use Rattle.std.proofs.lemmas.List.{map-append}
 use Rattle.std.proofs.lemmas.List.Elements.{filter-append, filter_map-append}
 use Rattle.sg_model.specs.Names.{Name}
@@ -12,23 +12,21 @@ use Rattle.sg_protocol.specs.Frame.{Cast, Item}
 use Rattle.sg_protocol.specs.Texts.{Hash, commitment}
 use Rattle.sg_protocol.specs.Keyring.{Program}
 use Rattle.sg_protocol.specs.Session.{principal, items_of}
-use Rattle.sg_protocol.specs.Calls.{Call}
+use Rattle.sg_protocol.specs.Calls.{Call, Sends}
 use Rattle.sg_protocol.specs.Acting.{answer}
 use Rattle.sg_protocol.specs.Notes.{notes}
 use Rattle.sg_protocol.specs.Past.{AnsweredCall, Past, node_of, past_after}
 use Rattle.sg_protocol.specs.Schedule.{Schedule, is_honest}
-use Rattle.sg_protocol.specs.World.{World, Logged, Answered, past_of}
-use Rattle.sg_protocol.specs.Run.{called, frame_in}
+use Rattle.sg_protocol.specs.World.{World, Logged, Outcome, Answered, past_of}
+use Rattle.sg_protocol.specs.Run.{called, uncalled, frame_in, events_of_outcome}
 use Rattle.sg_protocol.specs.LastSteps.{exchanges_of, exchanges_in, is_of, honest_items, sent_item}
-use Rattle.sg_protocol.specs.Ranges.{IsCallInRange}
 use Rattle.sg_protocol.proofs.Calls.{Out}
 use Rattle.sg_protocol.proofs.Progressing.{Suffix, next_past, past_called, moved-append}
 use Rattle.sg_protocol.proofs.Entries.{entry, entries, Roles}
 use Rattle.sg_protocol.proofs.Moves.{step, roles-append}
 use Rattle.sg_protocol.proofs.Paths.{flat_map-append}
-use Rattle.sg_apart.specs.Apart.{CallAt, world_after_calls}
-use Rattle.sg_apart.proofs.Going.{SessionApart, Progress, Left, out_of, progress_called, progress_moves}
-use Rattle.sg_apart_frames.proofs.Runs.{keep_calls, pasts_kept}
+use Rattle.sg_protocol.proofs.Going.{SessionInRun, Progress, Left, idle, out_of, progress_called, progress_moves}
+use Rattle.sg_protocol.proofs.Happenings.{Happening, IsGiven, IsRight, all_happen, keep_course, pasts_kept}
 
 module _ (sid : List ℕ) where
   -- the items of the session that role r took or gave
@@ -48,7 +46,7 @@ module _ (sid : List ℕ) where
   abbrev pub IsTranscript : Graph → State → ℕ → List AnsweredCall → Type 0
   IsTranscript g st r calls = (st.transcript r ≡ entries (transcript_by r calls)) × Roles (shape g) (transcript_by r calls)
 
-module _ {sha : Hash} {s : Schedule} {sid : List ℕ} {cast : Cast} {g : Graph} {wf : World} {Own : List Program → Type 0} (known : SessionApart sha s sid cast g wf Own) where
+module _ {sha : Hash} {s : Schedule} {sid : List ℕ} {cast : Cast} {g : Graph} {wf : World} {Own : List Program → Type 0} (known : SessionInRun sha s sid cast g wf Own) where
   abbrev commit : Commit
   commit o = commitment sha sid o
 
@@ -61,7 +59,20 @@ module _ {sha : Hash} {s : Schedule} {sid : List ℕ} {cast : Cast} {g : Graph} 
     pub sent : ((after_moves p.moves).machine.sent ≡ map step (honest_items sid w.log)) × Roles (shape g) (honest_items sid w.log)
     pub pasts : (who : Name) → is_honest s who ≡ true → (y : Past) × (past_of w who ≡ Some y)
 
-  module _ (w : World) (k : ℕ) (p : Progress known w) (who : Name) (past : Past) (its_past : past_of w who ≡ Some past) (c : Call) (range : IsCallInRange c) (after : Suffix (k + 1) (called sha w k who c past).log wf.log) where
+  -- an entry without a call
+  pub agree_idle : (w : World) (k : ℕ) (p : Progress known w) → MovesAgree w p → (who : Option Name) (o : Outcome) (fr : Option (List ℕ)) (e : events_of_outcome o ≡ []) → MovesAgree (uncalled w k who o fr) (idle known w k who o fr e p)
+  unfolding idle
+  agree_idle w k p agree who o fr e = record {
+    transcript = agree.transcript;
+    sent = subst (λ l. ((after_moves p.moves).machine.sent ≡ map step l) × Roles (shape g) l) (sym (honest_items-append sid w.log _ ∙ ap (λ z. honest_items sid w.log ++ cons_option z []) (no_item o e) ∙ append-nil (honest_items sid w.log))) agree.sent;
+    pasts = agree.pasts;
+  }
+    where
+      no_item : (o : Outcome) → events_of_outcome o ≡ [] → sent_item sid o ≡ None
+      no_item (Answered (Sends ev to f)) h = absurd (cc)
+      no_item other h = refl
+
+  module _ (w : World) (k : ℕ) (p : Progress known w) (who : Name) (past : Past) (its_past : past_of w who ≡ Some past) (c : Call) (range : IsGiven c) (after : Suffix (k + 1) (called sha w k who c past).log wf.log) where
     abbrev pub Outs : Type 0
     Outs = Out (known.of_cast past.programs (p.nodes who past its_past).own) s (Left known) (after_moves p.moves) who (node_of past) c (answer sha (node_of past) c) (notes sha (node_of past) c)
 
@@ -95,9 +106,11 @@ module _ {sha : Hash} {s : Schedule} {sid : List ℕ} {cast : Cast} {g : Graph} 
   abbrev pub With : ((w : World) → Progress known w → Type 0) → World → Type 0
   With P w = (p : Progress known w) × P w p
 
-  -- what each call keeps holds in the end
+  -- what each call keeps, and each entry without a call, holds in the end
   pub with_all : (P : (w : World) → Progress known w → Type 0)
-      → ((w : World) (k : ℕ) (p : Progress known w) → P w p → (who : Name) (past : Past) (its_past : past_of w who ≡ Some past) (c : Call) (range : IsCallInRange c) (after : Suffix (k + 1) (called sha w k who c past).log wf.log) (out : Outs w k p who past its_past c range after)
+      → ((w : World) (k : ℕ) (p : Progress known w) → P w p → (who : Option Name) (o : Outcome) (fr : Option (List ℕ)) (e : events_of_outcome o ≡ []) → P (uncalled w k who o fr) (idle known w k who o fr e p))
+      → ((w : World) (k : ℕ) (p : Progress known w) → P w p → (who : Name) (past : Past) (its_past : past_of w who ≡ Some past) (c : Call) (range : IsGiven c) (after : Suffix (k + 1) (called sha w k who c past).log wf.log) (out : Outs w k p who past its_past c range after)
       → P (called sha w k who c past) (progress_called known w k p who past its_past c range after out))
-      → (w : World) (k : ℕ) → With P w → (cs : List CallAt) → AllByRecursion (λ (c : CallAt). IsCallInRange c.call) cs → world_after_calls sha w k cs ≡ wf → With P wf
-  with_all P P_called w k h cs range e = keep_calls sha wf (With P) (λ w k h who past q c r after. (let out = out_of known w k h.0 who past q c r after in (progress_called known w k h.0 who past q c r after out, P_called w k h.0 h.1 who past q c r after out))) w k h cs range e
+      → (w : World) (k : ℕ) → With P w → (hs : List Happening) → AllByRecursion IsRight hs → all_happen sha w k hs ≡ wf → With P wf
+  with_all P P_idle P_called = keep_course sha wf (With P) (λ w k h who o fr e. (idle known w k who o fr e h.0, P_idle w k h.0 h.1 who o fr e))
+      (λ w k h who past q c r after. (let out = out_of known w k h.0 who past q c r after in (progress_called known w k h.0 who past q c r after out, P_called w k h.0 h.1 who past q c r after out)))

@@ -35,7 +35,7 @@ use Rattle.sg_protocol.proofs.Isolation.{of_sid, find-filter, replace-other, rep
 use Rattle.sg_protocol.proofs.TextLaws.{cast_fits}
 use Rattle.sg_protocol.proofs.ReadBack.{read-SpellsFrame}
 use Rattle.sg_protocol.specs.Run.{cast_in}
-use Rattle.sg_protocol.specs.Ranges.{IsCallInRange}
+use Rattle.sg_protocol.proofs.Happenings.{IsGiven, cast_given}
 use Rattle.sg_protocol.proofs.Finding.{find_passes}
 use Rattle.sg_protocol.proofs.Whole.{found_in}
 use Rattle.std.specs.Result.{result_ok}
@@ -207,8 +207,8 @@ module _ (sha : Hash) (sid : List ℕ) where
         go (Ok f) e = subst (λ r. Either n (Deliver bs) (verdict_on sha n r) (notes_of_read sha n r)) (sym e) (by_rows_ bs f (read-SpellsFrame bs f bytes e).is_frame e (first_some (rows sha n f)) refl)
 
     -- a call
-    pub call_first : (c : Call) → IsCallInRange c → Either n c (answer sha n c) (notes sha n c)
-    call_first (Start c) h = start_first c (record { version = h.version; graph = h.fields.graph.0; nonce = h.fields.nonce.0 })
+    pub call_first : (c : Call) → IsGiven c → Either n c (answer sha n c) (notes sha n c)
+    call_first (Start c) h = start_first c (cast_given c h)
     call_first (Act sid0 label values confs) h = act_first sid0 label values confs (notes sha n (Act sid0 label values confs))
     call_first (Abandon sid0) h = abandon_first sid0 (notes sha n (Abandon sid0))
     call_first (Deliver bs) h = deliver_first bs h

@@ -1,4 +1,4 @@
--- In a call at a principal that runs apart, the walk that is made event by event goes on as the law makes it move by move.
+-- In each call of a run the walk that is made event by event goes on as the law makes it move by move.
 use Rattle.std.specs.Prelude.{◌≡◌, ℕ, ◌+◌, Bool, true, false, List, [], ◌∷◌, ◌++◌, map, filter, filter_map, flat_map, bytes_eq, refl, Option, Some, None, option_map, Ok}
 use Rattle.std.specs.List.{list_any, AllByRecursion}
 use Rattle.std.proofs.Common.{sym, ◌∙◌, ap, subst, inl, inr, append-nil}
@@ -14,10 +14,10 @@ use Rattle.sg_law.specs.Accept.{TimedLabel}
 use Rattle.sg_law.specs.Last as B
 use Rattle.sg_law.specs.Run as R
 use Rattle.sg_law.specs.Values as V
-use Rattle.sg_law.specs.Values.{State, Stored, Commit, Move, Sight, MayTake, AllMay, moved, moved_all, deed_of, stored_in, Binding, all_openings}
+use Rattle.sg_law.specs.Values.{State, Stored, Commit, Move, Sight, MayTake, AllMay, moved_all, Binding, all_openings}
 use Rattle.sg_law.specs.Values.Move.{Writes, Takes}
 use Rattle.sg_law.specs.Explaining as G
-use Rattle.sg_law.specs.Explaining.{unless_later, found, reveal, unknown, after_honest, moves_of}
+use Rattle.sg_law.specs.Explaining.{unknown, after_honest, moves_of}
 use Rattle.sg_law.proofs.Cut.{last-option_map}
 use Rattle.sg_law.proofs.Follow.{own_is_sent}
 use Rattle.sg_law.proofs.Upto.{In}
@@ -30,16 +30,15 @@ use Rattle.sg_protocol.specs.Reading.{read}
 use Rattle.sg_protocol.specs.Calls.{Deliver, Event, Started, Sent, Call, Answer, Happened, sid_of, events_of_answer}
 use Rattle.sg_protocol.specs.Acting.{answer}
 use Rattle.sg_protocol.specs.Verdict.{receipt, seen}
-use Rattle.sg_protocol.specs.Notes.{notes}
+use Rattle.sg_protocol.specs.Notes.{notes, no_notes}
 use Rattle.sg_protocol.specs.Past.{Past, node_of}
 use Rattle.sg_protocol.specs.Walk.{StoredStep, shown, acts_of_event}
 use Rattle.sg_protocol.specs.Schedule.{Schedule, honest_role}
-use Rattle.sg_protocol.specs.World.{World, Logged, Answered, past_of}
-use Rattle.sg_protocol.specs.Run.{called, events_of, frame_in}
+use Rattle.sg_protocol.specs.World.{World, Logged, Answered, past_of, Outcome}
+use Rattle.sg_protocol.specs.Run.{called, events_of, frame_in, uncalled, events_of_outcome}
 use Rattle.sg_protocol.specs.Explaining.{filled, walk_after_events, walk_after_steps, label_sent, view_in, IsExample, IsShown, AllShown}
 use Rattle.sg_protocol.specs.Accepted.{Accepted}
 use Rattle.sg_protocol.specs.Premises.{hashed}
-use Rattle.sg_protocol.specs.Ranges.{IsCallInRange}
 use Rattle.sg_protocol.specs.TextLaws.{OpeningFits}
 use Rattle.sg_protocol.proofs.Paths.{steps_of}
 use Rattle.sg_protocol.proofs.Entries.{entries, sight, sight-since, view_ends}
@@ -48,12 +47,14 @@ use Rattle.sg_protocol.proofs.Splits.{split_at_end}
 use Rattle.sg_protocol.proofs.Progressing.{Suffix}
 use Rattle.sg_protocol.proofs.Explaining.{shown_split, walk_after_steps-last}
 use Rattle.sg_protocol.proofs.Calls.{Quiet, TookFrame}
-use Rattle.sg_apart.proofs.Going.{SessionApart, Progress, Outs, progress_called, progress_moves}
-use Rattle.sg_apart_claims.proofs.Making.{filled_same, hidden_same, label_of_act, labels_of, labels_sent, by_role, no_moves, one_write, shown-last, sight_ends, split_marked, values_in, walk_after_moves-last}
+use Rattle.sg_protocol.proofs.Going.{SessionInRun, Progress, idle, progress_called, progress_moves}
+use Rattle.sg_protocol.proofs.Agreeing.{Outs}
+use Rattle.sg_protocol.proofs.Making.{filled_same, hidden_same, label_of_act, labels_of, labels_sent, by_role, no_moves, one_write, shown-last, sight_ends, split_marked, values_in, walk_after_moves-last}
+use Rattle.sg_protocol.proofs.Happenings.{IsGiven}
 
 -- ---- a call
 
-module _ {sha : Hash} {s : Schedule} {sid : List ℕ} {cast : Cast} {g : Graph} {wf : World} {Own : List Program → Type 0} (known : SessionApart sha s sid cast g wf Own) (is_graph : IsGraph g) (accepted : Accepted g)
+module _ {sha : Hash} {s : Schedule} {sid : List ℕ} {cast : Cast} {g : Graph} {wf : World} {Own : List Program → Type 0} (known : SessionInRun sha s sid cast g wf Own) (is_graph : IsGraph g) (accepted : Accepted g)
     (binding : (ms : List Move) → AllByRecursion (λ (o : Opening). In (hashed s wf) (commitment_text_of sid o) × OpeningFits o) (all_openings ms) → Binding (λ o. commitment sha sid o) (all_openings ms)) where
   abbrev commit : Commit
   commit o = commitment sha sid o
@@ -103,7 +104,22 @@ module _ {sha : Hash} {s : Schedule} {sid : List ℕ} {cast : Cast} {g : Graph} 
             ∙ ap steps_of (sym (walk_after_moves-last g honest commit (V.at_first (shape g)) [] k.ms (mv, since)));
       }
 
-  module _ (w : World) (k : ℕ) (p : Prog w) (who : Name) (past : Past) (its_past : past_of w who ≡ Some past) (c : Call) (range : IsCallInRange c) (after : Suffix (k + 1) (called sha w k who c past).log wf.log) (out : Outs known w k p who past its_past c) where
+  -- an entry without a call
+  pub explains_idle : (w : World) (k : ℕ) (p : Prog w) → Explains w p → (who : Option Name) (o : Outcome) (fr : Option (List ℕ)) (ev : events_of_outcome o ≡ []) → Explains (uncalled w k who o fr) (idle known w k who o fr ev p)
+  unfolding idle
+  explains_idle w k p old who o fr ev log e b =
+      let d = split_marked log w.log (record { number = k; who = who; call = None; outcome = o; frame = fr; notes = no_notes }) e in
+      let q = shown_split g sid [] d.before (record { number = k; who = who; call = None; outcome = o; frame = fr; notes = no_notes }, d.walk) (subst (AllShown g sid []) d.is b) in
+      subst (Made p.moves) (sym d.is) (add_none p.moves d.before (record { number = k; who = who; call = None; outcome = o; frame = fr; notes = no_notes }, d.walk) (old d.before d.are q.0)
+      (λ steps. ap (λ es. walk_after_events g honest steps (filter (λ e. bytes_eq (sid_of e) sid) (es ++ [])) d.walk) ev))
+
+  pub shown_idle : (w : World) (k : ℕ) → Shown w → (who : Option Name) (o : Outcome) (fr : Option (List ℕ)) → Shown (uncalled w k who o fr)
+  shown_idle w k old who o fr before l' rest bs f e is_call is_read is_outcome is_sid = elim (split_at_end w.log (record { number = k; who = who; call = None; outcome = o; frame = fr; notes = no_notes }) before l' rest e) [
+    | inl r ↦ old before l' r.0 bs f r.2 is_call is_read is_outcome is_sid
+    | inr r ↦ absurd (let z : None ≡ Some (Deliver bs) = ap (λ (z : Logged). z.call) (sym r.0) ∙ is_call in cc)
+  ]
+
+  module _ (w : World) (k : ℕ) (p : Prog w) (who : Name) (past : Past) (its_past : past_of w who ≡ Some past) (c : Call) (range : IsGiven c) (after : Suffix (k + 1) (called sha w k who c past).log wf.log) (out : Outs known w k p who past its_past c range after) where
     abbrev st : State
     st = moved_all commit (V.at_first (shape g)) p.moves
 

@@ -31,7 +31,6 @@ use Rattle.sg_protocol.specs.Schedule.{Schedule}
 use Rattle.sg_protocol.specs.World.{World}
 use Rattle.sg_protocol.specs.Premises.{CollisionFree, hashed}
 use Rattle.sg_protocol.specs.IsSchedule.{AreCompiled, IsDeclared, IsPairKey, IsProgram, IsSchedule, IsStep}
-use Rattle.sg_protocol.specs.Ranges.{IsCallInRange}
 use Rattle.sg_protocol.specs.Bounds.{IsSession}
 use Rattle.sg_protocol.proofs.AfterCalls.{cast_parts}
 use Rattle.sg_protocol.proofs.Finding.{one_index}
@@ -39,9 +38,9 @@ use Rattle.sg_protocol.proofs.First.{programs_after}
 use Rattle.sg_protocol.proofs.Isolation.{of_sid, still-other}
 use Rattle.sg_protocol.proofs.Joins.{Owns, call_step, owns_after}
 use Rattle.sg_protocol.proofs.Nodes.{start_all, abandon_all, act_all, deliver_all}
-use Rattle.sg_protocol.proofs.Ranges.{node_in_range}
-use Rattle.sg_protocol.proofs.Sendings.{Known, call_known, keys_after}
+use Rattle.sg_protocol.proofs.Origins.{Known, call_known, keys_after}
 use Rattle.sg_protocol.proofs.TextLaws.{cast_fits, one_cast}
+use Rattle.sg_protocol.proofs.Happenings.{IsGiven, given_in_range}
 
 -- ---- no schedule
 
@@ -156,7 +155,7 @@ module _ (sha : Hash) (hash : IsHash sha) (graphs : List Graph) (wf : World) whe
       let cast : x.cast ≡ y.cast = one_cast x.cast y.cast (fits_cast x fx) (fits_cast y fy) text in
       one_index x.cast.names x.role y.role ix.1 ix.0 (subst (λ (c : Cast). y.role < length c.names) (sym cast) iy.0) (kx.me ∙ sym ky.me ∙ ap (λ (c : Cast). principal c y.role) (sym cast))
 
-  module _ (who : Name) (n : Node) (k : KnownNode who n) (c : Call) (range : IsCallInRange c) (hs : (t : List ℕ) → In (notes sha n c).hashed t → Hashed t) where
+  module _ (who : Name) (n : Node) (k : KnownNode who n) (c : Call) (range : IsGiven c) (hs : (t : List ℕ) → In (notes sha n c).hashed t → Hashed t) where
     pub compiled : AllByRecursion (IsProgram sha) n.programs
     compiled = all_weaker _ _ (λ q h. h.0) n.programs k.programs
 
@@ -166,7 +165,7 @@ module _ (sha : Hash) (hash : IsHash sha) (graphs : List Graph) (wf : World) whe
     -- ---- the node after the call
 
     fits_after : AllByRecursion IsSession (node_after n c (answer sha n c)).live
-    fits_after = node_in_range sha hash n compiled k.fits c range
+    fits_after = given_in_range sha hash n compiled k.fits c range
 
     known_after : AllByRecursion (IsKnown who) (node_after n c (answer sha n c)).live
     known_after = call_known sha hash [] nothing (none_compiled sha) (none_declared sha) wf who n k.me k.known c hs

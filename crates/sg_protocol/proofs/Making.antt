@@ -14,10 +14,10 @@ use Rattle.sg_law.specs.Accept.{TimedLabel}
 use Rattle.sg_law.specs.Last as B
 use Rattle.sg_law.specs.Run as R
 use Rattle.sg_law.specs.Values as V
-use Rattle.sg_law.specs.Values.{State, Stored, Commit, Move, Sight, MayTake, AllMay, moved, moved_all, deed_of, stored_in}
+use Rattle.sg_law.specs.Values.{State, Stored, Commit, Move, Sight, AllMay, moved, moved_all, deed_of, stored_in}
 use Rattle.sg_law.specs.Values.Move.{Writes, Takes}
 use Rattle.sg_law.specs.Explaining as G
-use Rattle.sg_law.specs.Explaining.{unless_later, found, reveal, unknown, after_honest, moves_of}
+use Rattle.sg_law.specs.Explaining.{unless_later, found, reveal, unknown, moves_of}
 use Rattle.sg_law.proofs.Com.{option_or-none}
 use Rattle.sg_law.proofs.Lists.{nil_from_map, last-append_some}
 use Rattle.sg_law.proofs.Cut.{last-option_map, last-last_of}
@@ -27,7 +27,7 @@ use Rattle.sg_law.proofs.Walks.{end_of_same}
 use Rattle.sg_protocol.specs.Graph.{Graph, shape, writes}
 use Rattle.sg_protocol.specs.Calls.{Event, Started, Sent, Received}
 use Rattle.sg_protocol.specs.Walk as W
-use Rattle.sg_protocol.specs.Walk.{StoredStep, Act, shown, acts_of_event}
+use Rattle.sg_protocol.specs.Walk.{Act, acts_of_event}
 use Rattle.sg_protocol.specs.World.{Logged}
 use Rattle.sg_protocol.specs.Explaining.{hidden_steps, is_written, filled, label_sent}
 use Rattle.sg_protocol.proofs.Paths.{acts_of, steps_of}

@@ -24,16 +24,16 @@ use Rattle.sg_protocol.specs.Acting.{answer, rows_of_start, started}
 use Rattle.sg_protocol.specs.Notes.{notes, notes_of_read}
 use Rattle.sg_protocol.specs.World.{World}
 use Rattle.sg_protocol.specs.Run.{cast_in}
-use Rattle.sg_protocol.specs.Ranges.{IsCallInRange}
 use Rattle.sg_protocol.specs.Bounds.{IsSession}
 use Rattle.sg_protocol.specs.Named.{GivesVariables, HasNamed, names_numbers}
 use Rattle.sg_protocol.proofs.AfterCalls.{cast_parts}
 use Rattle.sg_protocol.proofs.Progressing.{small_values}
 use Rattle.sg_protocol.proofs.Moves.{row_none}
 use Rattle.sg_protocol.proofs.ReadBack.{read-SpellsFrame}
-use Rattle.sg_protocol.proofs.Sendings.{took}
+use Rattle.sg_protocol.proofs.Origins.{took}
 use Rattle.sg_protocol.proofs.Named.{call_named}
-use Rattle.sg_apart_claims.proofs.Nodes.{Hashed, IsKnown, KnownNode, compiled, fits_cast, fresh, none_compiled, none_declared, nothing, owned}
+use Rattle.sg_protocol.proofs.KnownNodes.{Hashed, IsKnown, KnownNode, compiled, fits_cast, fresh, none_compiled, none_declared, nothing, owned}
+use Rattle.sg_protocol.proofs.Happenings.{IsGiven, cast_given}
 
 -- an answer with an event names its numbers
 names : (a : Answer) (e : Event) → In (events_of_answer a) e → names_numbers a ≡ true
@@ -59,7 +59,7 @@ has_role g c (Sends e' to f) e (inl i) h = subst (λ (z : Event). role_of z < le
     go (Event.Received sid r label time values joins) h = h.0
 has_role g c other e i h = absurd i
 
-module _ (sha : Hash) (hash : IsHash sha) (graphs : List Graph) (wf : World) (who : Name) (n : Node) (k : KnownNode sha hash graphs wf who n) (c : Call) (range : IsCallInRange c) (hs : (t : List ℕ) → In (notes sha n c).hashed t → Hashed sha hash graphs wf t) where
+module _ (sha : Hash) (hash : IsHash sha) (graphs : List Graph) (wf : World) (who : Name) (n : Node) (k : KnownNode sha hash graphs wf who n) (c : Call) (range : IsGiven c) (hs : (t : List ℕ) → In (notes sha n c).hashed t → Hashed sha hash graphs wf t) where
   -- the cast that an event is of
   pub record EventCast (e : Event) : Type 0 where
     pub cast : Cast
@@ -77,8 +77,8 @@ module _ (sha : Hash) (hash : IsHash sha) (graphs : List Graph) (wf : World) (wh
   abbrev Begins : Cast → Event → Type 0
   Begins d e = CastFits d × (principal d (role_of e) ≡ who)
 
-  start_begins : (d : Cast) (e : Event) → IsCallInRange (Start d) → In (events_of_answer (answer sha n (Start d))) e → Begins d e
-  start_begins d e h i = (record { version = h.version; graph = h.fields.graph.0; nonce = h.fields.nonce.0 }, by_program (starter n.programs d.graph) i)
+  start_begins : (d : Cast) (e : Event) → IsGiven (Start d) → In (events_of_answer (answer sha n (Start d))) e → Begins d e
+  start_begins d e h i = (cast_given d h, by_program (starter n.programs d.graph) i)
     where
       by_rows : (p : Program) (o : Option StartFault) → first_some (rows_of_start n p (session_id sha d) d) ≡ o → In (events_of_answer (started (session_id sha d) p.role o)) e → principal d (role_of e) ≡ who
       by_rows p (Some f) q i = absurd i
@@ -91,7 +91,7 @@ module _ (sha : Hash) (hash : IsHash sha) (graphs : List Graph) (wf : World) (wh
       by_program None i = absurd i
       by_program (Some p) i = by_rows p (first_some (rows_of_start n p (session_id sha d) d)) refl i
 
-  deliver_begins : (bs : List ℕ) (d : Cast) (e : Event) → IsCallInRange (Deliver bs) → ((t : List ℕ) → In (notes_of_read sha n (read bs)).hashed t → Hashed sha hash graphs wf t) → cast_in (Deliver bs) ≡ Some d → In (events_of_answer (answer sha n (Deliver bs))) e → Begins d e
+  deliver_begins : (bs : List ℕ) (d : Cast) (e : Event) → IsGiven (Deliver bs) → ((t : List ℕ) → In (notes_of_read sha n (read bs)).hashed t → Hashed sha hash graphs wf t) → cast_in (Deliver bs) ≡ Some d → In (events_of_answer (answer sha n (Deliver bs))) e → Begins d e
   deliver_begins bs d e h hs_ j i = by_read (read bs) refl i
     where
       by_rows : (f : Frame) → read bs ≡ Ok f → (o : Option Refusal) → first_some (rows sha n f) ≡ o → In (events_of_answer (decided (receipt f) o)) e → Begins d e
@@ -106,13 +106,13 @@ module _ (sha : Hash) (hash : IsHash sha) (graphs : List Graph) (wf : World) (wh
       by_read (Err at) q i = absurd i
       by_read (Ok f) q i = by_rows f q (first_some (rows sha n f)) refl i
 
-  call_begins : (b : Call) → IsCallInRange b → ((t : List ℕ) → In (notes sha n b).hashed t → Hashed sha hash graphs wf t) → (d : Cast) (e : Event) → cast_in b ≡ Some d → In (events_of_answer (answer sha n b)) e → Begins d e
+  call_begins : (b : Call) → IsGiven b → ((t : List ℕ) → In (notes sha n b).hashed t → Hashed sha hash graphs wf t) → (d : Cast) (e : Event) → cast_in b ≡ Some d → In (events_of_answer (answer sha n b)) e → Begins d e
   call_begins (Start c') h hs_ d e j i = (let same : c' ≡ d = cc in subst (λ z. Begins z e) same (start_begins c' e h i))
   call_begins (Act sid label values confs) h hs_ d e j i = absurd (let z : None ≡ Some d = j in cc)
   call_begins (Abandon sid) h hs_ d e j i = absurd (let z : None ≡ Some d = j in cc)
   call_begins (Deliver bs) h hs_ d e j i = deliver_begins bs d e h hs_ j i
 
-  gives : (b : Call) → IsCallInRange b → GivesVariables b
+  gives : (b : Call) → IsGiven b → GivesVariables b
   gives (Start d) h = tt
   gives (Act sid label values confs) h = small_values values h.each
   gives (Abandon sid) h = tt

@@ -1,11 +1,10 @@
--- The calls at principals that run apart are to the law one list of moves of a session.
+-- What happens in a run is to the law one list of moves of a session.
 use Rattle.std.specs.Prelude.{◌≡◌, ℕ, suc, ◌+◌, ◌==◌, nat_lt, not, if◌then◌else◌, ◌&&◌, Bool, true, false, List, [], ◌∷◌, ◌++◌, map, filter, flat_map, length, bytes_eq, refl, Option, Some, None, option_map}
 use Rattle.std.specs.List.{AllByRecursion}
 use Rattle.std.specs.Option.{option_map_or}
-use Rattle.std.proofs.Common.{sym, ◌∙◌, ap, subst, inl, inr, arith, append_assoc, append-nil}
+use Rattle.std.proofs.Common.{sym, ◌∙◌, ap, subst, inl, inr, arith, append-nil}
 use Rattle.std.proofs.lemmas.Bool.{cases_Bool, eq-eqb, and_parts}
 use Rattle.std.proofs.lemmas.List.{map-append}
-use Rattle.std.proofs.lemmas.List.Elements.{filter-append}
 use Rattle.std.proofs.lemmas.Slice.Eq.{bytes_eq-Decides}
 use Rattle.sg_model.specs.Last.{Map}
 use Rattle.sg_model.specs.Lists.{first_some, is_in, keys_of, rises_from}
@@ -34,19 +33,19 @@ use Rattle.sg_protocol.specs.Notes.{Note, notes, notes_of_act, no_notes}
 use Rattle.sg_protocol.specs.Past.{Past, node_of, new_node, past_after}
 use Rattle.sg_protocol.specs.Walk.{acts_of_event}
 use Rattle.sg_protocol.specs.Schedule.{Schedule, is_honest, honest_role}
-use Rattle.sg_protocol.specs.World.{World, Logged, Answered, past_of}
-use Rattle.sg_protocol.specs.Run.{called, frame_in, events_of, events_of_outcome}
+use Rattle.sg_protocol.specs.World.{World, Logged, Outcome, Answered, past_of}
+use Rattle.sg_protocol.specs.Run.{called, uncalled, frame_in, events_of, events_of_outcome}
 use Rattle.sg_protocol.specs.Premises.{hashed, Unforged}
 use Rattle.sg_protocol.specs.Completeness.{HadAnswer}
 use Rattle.sg_protocol.specs.IsSchedule.{IsProgram}
-use Rattle.sg_protocol.specs.Ranges.{IsCallInRange, AreValues}
+use Rattle.sg_protocol.specs.Ranges.{AreValues}
 use Rattle.sg_protocol.specs.Bounds.{IsSession}
 use Rattle.sg_protocol.proofs.Acts as C
 use Rattle.sg_protocol.proofs.AfterCalls.{nothing, node_kept}
 use Rattle.sg_protocol.proofs.AbandonCall.{abandon_out}
 use Rattle.sg_protocol.proofs.ActCall.{act_out}
 use Rattle.sg_protocol.proofs.Calls.{NodeOk, Out}
-use Rattle.sg_protocol.proofs.Progressing.{Suffix, suffix_refl, suffix_one, suffix_trans, in_before, in_after, node_more, next_past, past_called, moved-append, may-append, small_values}
+use Rattle.sg_protocol.proofs.Progressing.{Suffix, suffix_one, suffix_trans, in_before, in_after, node_more, next_past, past_called, moved-append, may-append, openings-append, events-append, note_more, small_values}
 use Rattle.sg_protocol.proofs.DeliverCall.{deliver_out}
 use Rattle.sg_protocol.proofs.Finding.{find_passes, find_all}
 use Rattle.sg_protocol.proofs.Gives.{keys_are}
@@ -54,39 +53,10 @@ use Rattle.sg_protocol.proofs.KnownSession.{SessionOfCast}
 use Rattle.sg_protocol.proofs.Moves.{NoteOk}
 use Rattle.sg_protocol.proofs.Nodes.{ActSent}
 use Rattle.sg_protocol.proofs.Paths.{acts_of, TypedDeed, flat_map-append, writes_rise}
-use Rattle.sg_protocol.proofs.Ranges.{act_in_range, node_in_range}
+use Rattle.sg_protocol.proofs.Ranges.{act_in_range}
 use Rattle.sg_protocol.proofs.StartCall.{start_out}
 use Rattle.sg_protocol.proofs.TextLaws.{opening_fits}
-use Rattle.sg_apart.specs.Apart.{CallAt, world_called, world_after_calls}
-
--- ---- logs
-
-suffix_past : (sha : Hash) (w : World) (k : ℕ) (c : CallAt) (o : Option Past) → Suffix k w.log (option_map_or (called sha w k c.who c.call) o w).log
-suffix_past sha w k c None = suffix_refl k w.log
-suffix_past sha w k c (Some past) = suffix_one k w.log _ refl
-
-pub suffix_call : (sha : Hash) (w : World) (k : ℕ) (c : CallAt) → Suffix k w.log (world_called sha w k c).log
-suffix_call sha w k c = suffix_past sha w k c (past_of w c.who)
-
-pub suffix_calls : (sha : Hash) (w : World) (k : ℕ) (cs : List CallAt) → Suffix k w.log (world_after_calls sha w k cs).log
-suffix_calls sha w k [] = suffix_refl k w.log
-suffix_calls sha w k (c ∷ cs) = suffix_trans k (k + 1) w.log (world_called sha w k c).log (world_after_calls sha (world_called sha w k c) (k + 1) cs).log (omega arith) (suffix_call sha w k c) (suffix_calls sha (world_called sha w k c) (k + 1) cs)
-
-note_more : (g : Graph) (sid : List ℕ) (log log' : List V.SentItem) → ((mk : V.SentItem) → In log mk → In log' mk) → (nt : Note) → NoteOk g sid log nt → NoteOk g sid log' nt
-note_more g sid log log' f nt ok = record {
-  item = λ v from to label time held fits e. let r = ok.item v from to label time held fits e in record { made = r.made; there = contains_from_in log' r.made (f r.made (in_from_Contains log r.made r.there)); same = r.same; is_held = r.is_held };
-  frame = λ v fr spelled same e. let r = ok.frame v fr spelled same e in record { made = r.made; there = contains_from_in log' r.made (f r.made (in_from_Contains log r.made r.there)); steps = r.steps; written = r.written };
-}
-
-openings-append : (ms ns : List Move) → all_openings (ms ++ ns) ≡ all_openings ms ++ all_openings ns
-openings-append [] ns = refl
-openings-append (m ∷ ms) ns = ap (λ l. V.openings m ++ l) (openings-append ms ns) ∙ sym (append_assoc (V.openings m) (all_openings ms) (all_openings ns))
-
-events-append : (sid : List ℕ) (xs ys : List Logged) → flat_map acts_of_event (events_of sid (xs ++ ys)) ≡ flat_map acts_of_event (events_of sid xs) ++ flat_map acts_of_event (events_of sid ys)
-events-append sid xs ys =
-    ap (λ l. flat_map acts_of_event (filter (λ e. bytes_eq (sid_of e) sid) l)) (flat_map-append (λ (l : Logged). events_of_outcome l.outcome) xs ys)
-    ∙ ap (flat_map acts_of_event) (filter-append (λ e. bytes_eq (sid_of e) sid) (flat_map (λ (l : Logged). events_of_outcome l.outcome) xs) (flat_map (λ (l : Logged). events_of_outcome l.outcome) ys))
-    ∙ flat_map-append acts_of_event (events_of sid xs) (events_of sid ys)
+use Rattle.sg_protocol.proofs.Happenings.{Happening, IsGiven, IsRight, all_happen, cast_given, given_in_range, keep_course}
 
 -- ---- confounders
 
@@ -107,14 +77,14 @@ as_function (v ∷ vs) (c ∷ cs) n r l =
     let f : (F : ℕ × Value → List ℕ) × (map F vs ≡ cs) = as_function vs cs (suc v.0) rest (omega (arith, l)) in
     ((λ u. if u.0 == v.0 then c else f.0 u), (rw (eq-eqb v.0 v.0 refl) (ap (λ l. c ∷ l) (other c v.0 f.0 vs (absent (suc v.0) v.0 (omega arith) (keys_of vs) rest) ∙ f.1))))
 
--- a session in a run of principals apart that ends in the world wf. Own says which programs a principal may have
-pub record SessionApart (sha : Hash) (s : Schedule) (sid : List ℕ) (cast : Cast) (g : Graph) (wf : World) (Own : List Program → Type 0) : Type 0 where
+-- a session in a run that ends in the world wf. Own says which programs a principal may have
+pub record SessionInRun (sha : Hash) (s : Schedule) (sid : List ℕ) (cast : Cast) (g : Graph) (wf : World) (Own : List Program → Type 0) : Type 0 where
   pub is_hash : IsHash sha
   pub of_cast : (ps : List Program) → Own ps → SessionOfCast sha ps sid cast g (λ t. In (hashed s wf) t)
   pub programs : (ps : List Program) → Own ps → AllByRecursion (IsProgram sha) ps
   pub unforged : Unforged s wf
 
-module _ {sha : Hash} {s : Schedule} {sid : List ℕ} {cast : Cast} {g : Graph} {wf : World} {Own : List Program → Type 0} (known : SessionApart sha s sid cast g wf Own) where
+module _ {sha : Hash} {s : Schedule} {sid : List ℕ} {cast : Cast} {g : Graph} {wf : World} {Own : List Program → Type 0} (known : SessionInRun sha s sid cast g wf Own) where
   abbrev commit : Commit
   commit o = commitment sha sid o
 
@@ -143,6 +113,25 @@ module _ {sha : Hash} {s : Schedule} {sid : List ℕ} {cast : Cast} {g : Graph} 
     pub events : flat_map acts_of_event (events_of sid w.log) ≡ flat_map (acts_of g) (map deed_of moves)
     pub typed : AllByRecursion (TypedDeed g honest) (map deed_of moves)
     pub used : AllByRecursion (λ (o : Opening). Hashed (commitment_text_of sid o) × OpeningFits o) (all_openings moves)
+
+  -- an entry without a call
+  unfoldable pub idle : (w : World) (k : ℕ) (who : Option Name) (o : Outcome) (fr : Option (List ℕ)) → events_of_outcome o ≡ [] → Progress w → Progress (uncalled w k who o fr)
+  idle w k who o fr e p = record {
+    moves = p.moves;
+    may = p.may;
+    nodes = p.nodes;
+    noted = λ l nt i j. elim (in_parts w.log _ l i) [
+      | inl a ↦ p.noted l nt a j
+      | inr a ↦ elim a [ inl b ↦ absurd (subst (λ (z : Logged). In z.notes.made nt) b j) | inr b ↦ absurd b ]
+    ];
+    events = events-append sid w.log _ ∙ ap (λ l. flat_map acts_of_event (events_of sid w.log) ++ flat_map acts_of_event (filter (λ e. bytes_eq (sid_of e) sid) (l ++ []))) e ∙ append-nil _ ∙ p.events;
+    typed = p.typed;
+    used = p.used;
+  }
+
+  pub idle_moves : (w : World) (k : ℕ) (who : Option Name) (o : Outcome) (fr : Option (List ℕ)) (e : events_of_outcome o ≡ []) (p : Progress w) → (idle w k who o fr e p).moves ≡ p.moves
+  unfolding idle
+  idle_moves w k who o fr e p = refl
 
   module _ (w : World) (k : ℕ) (p : Progress w) (who : Name) (past : Past) (its_past : past_of w who ≡ Some past) where
     abbrev pub st : State
@@ -213,7 +202,7 @@ module _ {sha : Hash} {s : Schedule} {sid : List ℕ} {cast : Cast} {g : Graph} 
           by_session (Some x) e = by_program x e (program_for n.programs x.cast.graph x.role) refl
 
     -- any call
-    module _ (c : Call) (range : IsCallInRange c) (after : Suffix (k + 1) (called sha w k who c past).log wf.log) where
+    module _ (c : Call) (range : IsGiven c) (after : Suffix (k + 1) (called sha w k who c past).log wf.log) where
       in_end : In wf.log (entry_ c)
       in_end = in_after (k + 1) (called sha w k who c past).log wf.log after (entry_ c) (C.in_last w.log (entry_ c))
 
@@ -229,13 +218,13 @@ module _ {sha : Hash} {s : Schedule} {sid : List ℕ} {cast : Cast} {g : Graph} 
       lefts : (sid0 : List ℕ) → c ≡ Abandon sid0 → sid0 ≡ sid → answer sha n c ≡ Abandoned → Left who
       lefts sid0 call q a = (entry_ c, contains_from_in wf.log (entry_ c) in_end, refl, ap (λ z. Some z) (call ∙ ap (λ z. Abandon z) q), ap (λ z. Answered z) a)
 
-    pub out_of : (c : Call) → IsCallInRange c → Suffix (k + 1) (called sha w k who c past).log wf.log → Outs c
-    out_of (Start c) h after = start_out its s Left st who n here.ok c (record { version = h.version; graph = h.fields.graph.0; nonce = h.fields.nonce.0 }) (hashes (Start c) h after)
+    pub out_of : (c : Call) → IsGiven c → Suffix (k + 1) (called sha w k who c past).log wf.log → Outs c
+    out_of (Start c) h after = start_out its s Left st who n here.ok c (cast_given c h) (hashes (Start c) h after)
     out_of (Act sid0 label values confs) h after = act_any sid0 label values confs h
     out_of (Abandon sid0) h after = abandon_out its s Left st who n here.ok sid0 (lefts (Abandon sid0) h after sid0 refl)
     out_of (Deliver bs) h after = deliver_out its s Left st who n here.ok here.honest bs h (founds (Deliver bs) h after) (hashes (Deliver bs) h after)
 
-    pub progress_called : (c : Call) → IsCallInRange c → Suffix (k + 1) (called sha w k who c past).log wf.log → Outs c → Progress (called sha w k who c past)
+    pub progress_called : (c : Call) → IsGiven c → Suffix (k + 1) (called sha w k who c past).log wf.log → Outs c → Progress (called sha w k who c past)
     progress_called c range after out = record {
       moves = p.moves ++ out.moves;
       may = may-append (shape g) honest commit (V.at_first (shape g)) p.moves out.moves p.may out.may;
@@ -259,7 +248,7 @@ module _ {sha : Hash} {s : Schedule} {sid : List ℕ} {cast : Cast} {g : Graph} 
           own = here.own;
           ok = subst (NodeOk its s Left (moved_all commit st out.moves) who) (sym node_is) out.node;
           honest = here.honest;
-          live = subst (λ (z : Node). AllByRecursion IsSession z.live) (sym node_is) (node_in_range sha known.is_hash n programs here.live c range);
+          live = subst (λ (z : Node). AllByRecursion IsSession z.live) (sym node_is) (given_in_range sha known.is_hash n programs here.live c range);
         }
 
         other_fits : (me : Name) (y : Past) → (me ≡ who → ⊥) → Fits st me y → Fits (moved_all commit st out.moves) me y
@@ -290,17 +279,10 @@ module _ {sha : Hash} {s : Schedule} {sid : List ℕ} {cast : Cast} {g : Graph} 
             no_clash : (b : Bool) → b ≡ true → b ≡ false → ⊥
             no_clash b t f = absurd (cc)
 
-    pub progress_moves : (c : Call) (range : IsCallInRange c) (after : Suffix (k + 1) (called sha w k who c past).log wf.log) (out : Outs c) → (progress_called c range after out).moves ≡ p.moves ++ out.moves
+    pub progress_moves : (c : Call) (range : IsGiven c) (after : Suffix (k + 1) (called sha w k who c past).log wf.log) (out : Outs c) → (progress_called c range after out).moves ≡ p.moves ++ out.moves
     unfolding progress_called
     progress_moves c range after out = refl
 
-  by_past : (w : World) (k : ℕ) → Progress w → (c : CallAt) → IsCallInRange c.call → (o : Option Past) → past_of w c.who ≡ o → Suffix (k + 1) (option_map_or (called sha w k c.who c.call) o w).log wf.log → Progress (option_map_or (called sha w k c.who c.call) o w)
-  by_past w k p c range None q after = p
-  by_past w k p c range (Some past) q after = progress_called w k p c.who past q c.call range after (out_of w k p c.who past q c.call range after)
-
-  -- all calls
-  pub all_calls : (w : World) (k : ℕ) → Progress w → (cs : List CallAt) → AllByRecursion (λ (c : CallAt). IsCallInRange c.call) cs → world_after_calls sha w k cs ≡ wf → Progress wf
-  all_calls w k p [] range e = subst Progress e p
-  all_calls w k p (c ∷ cs) range e =
-      let after : Suffix (k + 1) (world_called sha w k c).log wf.log = subst (λ (z : World). Suffix (k + 1) (world_called sha w k c).log z.log) e (suffix_calls sha (world_called sha w k c) (k + 1) cs) in
-      all_calls (world_called sha w k c) (k + 1) (by_past w k p c range.0 (past_of w c.who) refl after) cs range.1 e
+  -- all that happens
+  pub all_moves : (w : World) (k : ℕ) → Progress w → (hs : List Happening) → AllByRecursion IsRight hs → all_happen sha w k hs ≡ wf → Progress wf
+  all_moves = keep_course sha wf Progress (λ w k p who o fr e. idle w k who o fr e p) (λ w k p who past q c right after. progress_called w k p who past q c right after (out_of w k p who past q c right after))

@@ -1,0 +1,181 @@
+-- What happens in a run, one after another, whether a schedule says it or principals run apart.
+use Rattle.std.specs.Prelude.{◌≡◌, ℕ, ◌+◌, ◌==◌, nat_lt, ◌&&◌, IsTrue, true, List, [], ◌∷◌, find, length, bytes_eq, refl, Option, Some, None, option_map, option_and_then, All, ⊤}
+use Rattle.std.specs.List.{AllByRecursion}
+use Rattle.std.specs.Option.{option_map_or}
+use Rattle.std.proofs.Common.{sym, ◌∙◌, ap, subst, inl, inr, arith}
+use Rattle.std.proofs.lemmas.Bool.{cases_Bool, eqb-true, and_parts}
+use Rattle.std.proofs.lemmas.Slice.Eq.{bytes_eq-Decides}
+use Rattle.sg_model.specs.Bytes.{IsBytes, AreBytes}
+use Rattle.sg_model.specs.Lists.{all_differ}
+use Rattle.sg_model.specs.Names.{Name, is_name}
+use Rattle.sg_model.specs.Shape.{role_at}
+use Rattle.sg_model.proofs.Small.{clash, same_bytes}
+use Rattle.sg_law.proofs.Upto.{In}
+use Rattle.sg_protocol.specs.Graph.{IsGraph, shape}
+use Rattle.sg_protocol.specs.Frame.{Cast, Frame}
+use Rattle.sg_protocol.specs.Texts.{Hash, IsHash, session_id, session_text_of}
+use Rattle.sg_protocol.specs.TextLaws.{IsVersion, CastFits}
+use Rattle.sg_protocol.specs.Keyring.{Program, key_of}
+use Rattle.sg_protocol.specs.Session.{principal}
+use Rattle.sg_protocol.specs.Calls.{Event, Call, Start, Act, Abandon, Deliver, Sends}
+use Rattle.sg_protocol.specs.Node.{Node}
+use Rattle.sg_protocol.specs.NodeAfter.{node_after}
+use Rattle.sg_protocol.specs.Acting.{answer}
+use Rattle.sg_protocol.specs.Past.{Past, past_after}
+use Rattle.sg_protocol.specs.Schedule.{Schedule, is_honest}
+use Rattle.sg_protocol.specs.World.{World, Outcome, past_of}
+use Rattle.sg_protocol.specs.Run.{called, uncalled, events_of_outcome}
+use Rattle.sg_protocol.specs.IsSchedule.{IsProgram}
+use Rattle.sg_protocol.specs.Ranges.{AreValues, IsCallInRange}
+use Rattle.sg_protocol.specs.Bounds.{IsSession, IsShortFrame}
+use Rattle.sg_protocol.proofs.Finding.{find_all, find_passes}
+use Rattle.sg_protocol.proofs.Nodes.{start_all, start_sends}
+use Rattle.sg_protocol.proofs.Progressing.{Suffix, suffix_refl, suffix_one, suffix_trans, next_past, past_called}
+use Rattle.sg_protocol.proofs.Ranges.{new_in_range, node_in_range, sent_in_range}
+
+-- a principal is asked, or an entry without a call is logged
+pub data Happening : Type 0 where
+  Asked : (who : Name) → Call → Happening
+  Idle : Option Name → Outcome → Option (List ℕ) → Happening
+
+-- the world after what happens as number k. At a principal that is not there nothing happens
+abbrev pub happens : Hash → World → ℕ → Happening → World
+happens sha w k (Asked who c) = option_map_or (called sha w k who c) (past_of w who) w
+happens sha w k (Idle who o fr) = uncalled w k who o fr
+
+abbrev pub all_happen : Hash → World → ℕ → List Happening → World
+all_happen sha w k [] = w
+all_happen sha w k (h ∷ hs) = all_happen sha (happens sha w k h) (k + 1) hs
+
+-- the run of a course of happenings at principals that begin so
+abbrev pub run_of : Hash → List Past → List Happening → World
+run_of sha ps course = all_happen sha (record { pasts = ps; log = [] }) 1 course
+
+-- the key that a principal holds for another
+abbrev pub key_at : World → Name → Name → Option (List ℕ)
+key_at w who other = option_and_then (λ (p : Past). key_of p.keys other) (past_of w who)
+
+-- the two hold one key for each other, or neither holds any
+abbrev pub HaveOneKey : World → Name → Name → Type 0
+HaveOneKey w a b = key_at w a b ≡ key_at w b a
+
+-- each two principals of the cast do
+abbrev pub HaveOneKeyEach : World → Cast → Type 0
+HaveOneKeyEach w cast = All (λ a. All (HaveOneKey w a) cast.names) cast.names
+
+-- ---- ranges
+
+-- the fields of a cast that is started are in range, and nothing is asked of how many names it has
+pub record IsStarted (c : Cast) : Type 0 where
+  pub version : IsVersion c.version
+  pub graph : AreBytes 32 c.graph
+  pub nonce : AreBytes 16 c.nonce
+  pub names : AllByRecursion (λ n. IsTrue (is_name n)) c.names
+
+abbrev pub IsGiven : Call → Type 0
+IsGiven (Start c) = IsStarted c
+IsGiven (Act sid label values confounders) = AreValues values confounders
+IsGiven (Abandon sid) = ⊤
+IsGiven (Deliver bytes) = IsBytes bytes
+
+pub given : (c : Call) → IsCallInRange c → IsGiven c
+given (Start c) h = record { version = h.version; graph = h.fields.graph; nonce = h.fields.nonce; names = h.fields.names }
+given (Act sid label values confounders) h = h
+given (Abandon sid) h = h
+given (Deliver bytes) h = h
+
+pub cast_given : (c : Cast) → IsStarted c → CastFits c
+cast_given c h = record { version = h.version; graph = h.graph.0; nonce = h.nonce.0 }
+
+-- a session that a node starts has as many principals as its graph has roles, so a node's sessions stay in range
+pub given_in_range : (sha : Hash) → IsHash sha → (n : Node) → AllByRecursion (IsProgram sha) n.programs → AllByRecursion IsSession n.live → (c : Call) → IsGiven c → AllByRecursion IsSession (node_after n c (answer sha n c)).live
+given_in_range sha hash n programs live (Start c) h = start_all sha n IsSession live c (λ p b.
+    let ip : IsProgram sha p = find_all (λ (p : Program). bytes_eq p.digest c.graph && (p.role == role_at (shape p.graph) 0)) (IsProgram sha) n.programs p programs b.found in
+    let len : length c.names ≡ length p.graph.roles = eqb-true (length c.names) (length p.graph.roles) (and_parts (length c.names == length p.graph.roles) (all_differ c.names) (and_parts _ (nat_lt p.role (length c.names)) (and_parts _ (bytes_eq (principal c p.role) n.keys.me) b.cast).0).0).0 in
+    new_in_range (session_id sha c) c p.role (hash (session_text_of c))
+    (record { version = h.version; fields = record { version = refl; graph = h.graph; nonce = h.nonce; count = ((let a = ip.accepted.two_roles in omega (arith, a, len)), (let a = ip.is_graph.sizes.0 in omega (arith, a, len))); names = h.names } })
+    (let a = ip.role in let b = ip.is_graph.sizes.0 in omega (arith, a, b)))
+given_in_range sha hash n programs live (Act sid label values confounders) h = node_in_range sha hash n programs live (Act sid label values confounders) h
+given_in_range sha hash n programs live (Abandon sid) h = node_in_range sha hash n programs live (Abandon sid) h
+given_in_range sha hash n programs live (Deliver bytes) h = node_in_range sha hash n programs live (Deliver bytes) h
+
+-- and what it sends is short
+pub given_sends : (sha : Hash) → IsHash sha → (n : Node) → AllByRecursion (IsProgram sha) n.programs → AllByRecursion IsSession n.live → (c : Call) → IsGiven c → (e : Event) (to : Name) (f : Frame) → answer sha n c ≡ Sends e to f → IsShortFrame f
+given_sends sha hash n programs live (Start c) h e to f a = absurd (start_sends sha n c e to f a)
+given_sends sha hash n programs live (Act sid label values confounders) h e to f a = sent_in_range sha hash n programs live (Act sid label values confounders) h e to f a
+given_sends sha hash n programs live (Abandon sid) h e to f a = sent_in_range sha hash n programs live (Abandon sid) h e to f a
+given_sends sha hash n programs live (Deliver bytes) h e to f a = sent_in_range sha hash n programs live (Deliver bytes) h e to f a
+
+-- what is asked is in range, and an entry without a call has no event
+abbrev pub IsRight : Happening → Type 0
+IsRight (Asked who c) = IsGiven c
+IsRight (Idle who o fr) = events_of_outcome o ≡ []
+
+-- a principal's programs are programs of these graphs
+abbrev pub Own : Hash → Schedule → List Program → Type 0
+Own sha s programs = AllByRecursion (λ (q : Program). IsProgram sha q × In s.graphs q.graph) programs
+
+-- a course of happenings at principals that were asked nothing yet and are the honest ones, with programs of the graphs
+pub record IsCourse (sha : Hash) (s : Schedule) (ps : List Past) (course : List Happening) : Type 0 where
+  pub graphs : AllByRecursion IsGraph s.graphs
+  pub own : (p : Past) → In ps p → Own sha s p.programs
+  pub calls : (p : Past) → In ps p → p.calls ≡ []
+  pub honest : (who : Name) (p : Past) → find (λ (p : Past). bytes_eq p.keys.me who) ps ≡ Some p → is_honest s who ≡ true
+  pub there : (who : Name) → is_honest s who ≡ true → (p : Past) × (find (λ (p : Past). bytes_eq p.keys.me who) ps ≡ Some p)
+  pub right : AllByRecursion IsRight course
+
+-- ---- logs
+
+suffix_past : (sha : Hash) (w : World) (k : ℕ) (who : Name) (c : Call) (o : Option Past) → Suffix k w.log (option_map_or (called sha w k who c) o w).log
+suffix_past sha w k who c None = suffix_refl k w.log
+suffix_past sha w k who c (Some past) = suffix_one k w.log _ refl
+
+pub suffix_happens : (sha : Hash) (w : World) (k : ℕ) (h : Happening) → Suffix k w.log (happens sha w k h).log
+suffix_happens sha w k (Asked who c) = suffix_past sha w k who c (past_of w who)
+suffix_happens sha w k (Idle who o fr) = suffix_one k w.log _ refl
+
+pub suffix_course : (sha : Hash) (w : World) (k : ℕ) (hs : List Happening) → Suffix k w.log (all_happen sha w k hs).log
+suffix_course sha w k [] = suffix_refl k w.log
+suffix_course sha w k (h ∷ hs) = suffix_trans k (k + 1) w.log (happens sha w k h).log (all_happen sha (happens sha w k h) (k + 1) hs).log (omega arith) (suffix_happens sha w k h) (suffix_course sha (happens sha w k h) (k + 1) hs)
+
+-- ---- what is kept
+
+-- what each call keeps, and each entry without a call, holds in the end
+module _ (sha : Hash) (wf : World) (P : World → Type 0)
+    (idles : (w : World) (k : ℕ) → P w → (who : Option Name) (o : Outcome) (fr : Option (List ℕ)) → events_of_outcome o ≡ [] → P (uncalled w k who o fr))
+    (keeps : (w : World) (k : ℕ) → P w → (who : Name) (past : Past) → past_of w who ≡ Some past → (c : Call) → IsGiven c → Suffix (k + 1) (called sha w k who c past).log wf.log → P (called sha w k who c past)) where
+  keep_call : (w : World) (k : ℕ) → P w → (who : Name) (c : Call) → IsGiven c → (o : Option Past) → past_of w who ≡ o → Suffix (k + 1) (option_map_or (called sha w k who c) o w).log wf.log → P (option_map_or (called sha w k who c) o w)
+  keep_call w k p who c right None q after = p
+  keep_call w k p who c right (Some past) q after = keeps w k p who past q c right after
+
+  keep_one : (w : World) (k : ℕ) → P w → (h : Happening) → IsRight h → Suffix (k + 1) (happens sha w k h).log wf.log → P (happens sha w k h)
+  keep_one w k p (Asked who c) right after = keep_call w k p who c right (past_of w who) refl after
+  keep_one w k p (Idle who o fr) right after = idles w k p who o fr right
+
+  pub keep_course : (w : World) (k : ℕ) → P w → (hs : List Happening) → AllByRecursion IsRight hs → all_happen sha w k hs ≡ wf → P wf
+  keep_course w k p [] right e = subst P e p
+  keep_course w k p (h ∷ hs) right e =
+      let after : Suffix (k + 1) (happens sha w k h).log wf.log = subst (λ (z : World). Suffix (k + 1) (happens sha w k h).log z.log) e (suffix_course sha (happens sha w k h) (k + 1) hs) in
+      keep_course (happens sha w k h) (k + 1) (keep_one w k p h right.0 after) hs right.1 e
+
+-- the pasts after a call
+module _ (sha : Hash) (w : World) (k : ℕ) (who : Name) (past : Past) (its_past : past_of w who ≡ Some past) (c : Call) (Q : Name → Past → Type 0) (mine : Q who (past_after sha past c)) (others : (me : Name) (y : Past) → (me ≡ who → ⊥) → past_of w me ≡ Some y → Q me y) where
+  go : (me : Name) (p' : Past) (o : Option Past) → past_of w me ≡ o → option_map (next_past sha who c) o ≡ Some p' → Q me p'
+  go me p' None q e = absurd (cc)
+  go me p' (Some y) q e =
+      let r : next_past sha who c y ≡ p' = cc in
+      let is_me : y.keys.me ≡ me = same_bytes y.keys.me me (find_passes (λ (z : Past). bytes_eq z.keys.me me) w.pasts y q) in
+      elim (cases_Bool (bytes_eq y.keys.me who)) [
+        | inl h ↦
+            let same : me ≡ who = sym is_me ∙ same_bytes y.keys.me who h in
+            let two : Some y ≡ Some past = sym q ∙ ap (past_of w) same ∙ its_past in
+            let y_past : y ≡ past = cc in
+            let after_ : past_after sha past c ≡ p' = ap (λ z. past_after sha z c) (sym y_past) ∙ (rw h at r) in
+            subst (λ z. Q z p') (sym same) (subst (Q who) after_ mine)
+        | inr h ↦
+            let r' : y ≡ p' = rw h at r in
+            subst (Q me) r' (others me y (λ z. clash (bytes_eq y.keys.me who) ((bytes_eq-Decides y.keys.me who).1 (is_me ∙ z)) h) q)
+      ]
+
+  pub pasts_kept : (me : Name) (p' : Past) → past_of (called sha w k who c past) me ≡ Some p' → Q me p'
+  pasts_kept me p' e = go me p' (past_of w me) refl (sym (past_called sha w k who c past me) ∙ e)

@@ -1,0 +1,55 @@
+-- The turn of a session with a sid is that of the one live session with it.
+use Rattle.std.specs.Prelude.{◌≡◌, ℕ, ◌≤◌, true, List, [], ◌∷◌, Contains, map, filter, find, flat_map, length, bytes_eq, refl, Option, Some, None, option_and_then}
+use Rattle.std.proofs.Common.{sym, ◌∙◌, ap, subst, inl, inr, arith}
+use Rattle.std.proofs.lemmas.Bool.{cases_Bool}
+use Rattle.sg_model.specs.Lists.{first_some}
+use Rattle.sg_model.specs.Names.{Name}
+use Rattle.sg_law.proofs.Members.{in_right}
+use Rattle.sg_law.proofs.Take.{contains_from_in}
+use Rattle.sg_law.proofs.Upto.{in_from_Contains}
+use Rattle.sg_protocol.specs.Texts.{Hash, IsHash, graph_text_of}
+use Rattle.sg_protocol.specs.Session.{Session}
+use Rattle.sg_protocol.specs.Node.{Node, session_with}
+use Rattle.sg_protocol.specs.Past.{Past, node_of}
+use Rattle.sg_protocol.specs.Schedule.{Schedule}
+use Rattle.sg_protocol.specs.World.{Logged, past_of}
+use Rattle.sg_protocol.specs.Premises.{CollisionFree, hashed}
+use Rattle.sg_protocol.proofs.Isolation.{of_sid, find-filter}
+use Rattle.sg_protocol.specs.Turn.{turn_in, turn_of}
+use Rattle.sg_protocol.proofs.Happenings.{Happening, IsCourse, run_of}
+use Rattle.sg_protocol.proofs.KnownLogs.{logs_known}
+use Rattle.sg_protocol.proofs.KnownNodes.{nothing}
+
+-- of one live session the turn is that of the first
+module _ (n : Node) (sid : List ℕ) where
+  first_one : (o : Option ℕ) → first_some (o ∷ []) ≡ o
+  first_one None = refl
+  first_one (Some k) = refl
+
+  found : (xs : List Session) → filter (of_sid sid) n.live ≡ xs → session_with n.live sid ≡ find (of_sid sid) xs
+  found xs e = sym (find-filter (λ (z : Session). bytes_eq z.sid sid) (of_sid sid) (λ z h. h) n.live) ∙ ap (find (of_sid sid)) e
+
+  passes : (xs : List Session) (x : Session) (rest : List Session) → filter (of_sid sid) xs ≡ x ∷ rest → of_sid sid x ≡ true
+  passes [] x rest e = absurd (cc)
+  passes (y ∷ xs) x rest e = elim (cases_Bool (of_sid sid y)) [
+    | inl h ↦ (let q : y ∷ filter (of_sid sid) xs ≡ x ∷ rest = rw h at e in let same : y ≡ x = cc in subst (λ (z : Session). of_sid sid z ≡ true) same h)
+    | inr h ↦ passes xs x rest (rw h at e)
+  ]
+
+  one_turn : (xs : List Session) → filter (of_sid sid) n.live ≡ xs → length xs ≤ 1 → turn_of n sid ≡ option_and_then (turn_in n.programs) (session_with n.live sid)
+  one_turn [] e few = ap (λ l. first_some (map (turn_in n.programs) l)) e ∙ sym (ap (option_and_then (turn_in n.programs)) (found [] e))
+  one_turn (x ∷ []) e few =
+      let is : session_with n.live sid ≡ Some x = found (x ∷ []) e ∙ rw (passes n.live x [] e) refl in
+      ap (λ l. first_some (map (turn_in n.programs) l)) e ∙ first_one (turn_in n.programs x) ∙ sym (ap (option_and_then (turn_in n.programs)) is)
+  one_turn (x ∷ y ∷ rest) e few = absurd (omega (arith, few))
+
+pub turn_is : (sha : Hash) (hash : IsHash sha) (s : Schedule) (ps : List Past) (course : List Happening) (is_course : IsCourse sha s ps course) → CollisionFree sha (hashed s (run_of sha ps course)) → (who : Name) (past : Past) (sid : List ℕ) → past_of (run_of sha ps course) who ≡ Some past → turn_of (node_of past) sid ≡ option_and_then (turn_in (node_of past).programs) (session_with (node_of past).live sid)
+turn_is sha hash s ps course is_course free who past sid its =
+    let k = (logs_known sha hash s ps course is_course).nodes who past its in
+    one_turn (node_of past) sid (filter (of_sid sid) (node_of past).live) refl (k.once fewer sid)
+  where
+    fewer : CollisionFree sha (hashed nothing (run_of sha ps course))
+    fewer a b i j e = free a b (there a i) (there b j) e
+      where
+        there : (t : List ℕ) → Contains (hashed nothing (run_of sha ps course)) t → Contains (hashed s (run_of sha ps course)) t
+        there t i = contains_from_in (hashed s (run_of sha ps course)) t (in_right (map graph_text_of s.graphs) (flat_map (λ (l : Logged). l.notes.hashed) (run_of sha ps course).log) t (in_from_Contains (hashed nothing (run_of sha ps course)) t i))
