@@ -3,7 +3,8 @@
 //!
 //! Each law is one of `sg_protocol`, as strong as it is there of the runs of schedules: of principals as `sg_apart` has them, whatever
 //! they are asked, and of the pasts of honest principals, in each order of their calls. The definitions stand in `specs/`. Each function
-//! is a law about them: it does nothing, and its contract is the law. Of the proofs read `proofs/Roles.antt` and `proofs/Walks.antt` first.
+//! is a law about them: it does nothing, and its contract is the law. They are laws of any course of happenings: of the proofs of
+//! `sg_protocol` read `OneCasts` and `EventWalks` first.
 #![tactic(auto)]
 
 ghost use Rattle.std.specs.Prelude.{ℕ, List};

@@ -1,19 +1,19 @@
 -- The run of the first calls apart is the beginning of the run.
-use Rattle.std.specs.Prelude.{◌≡◌, ℕ, zero, suc, ◌+◌, ◌<◌, ◌≤◌, ◌⊎◌, List, [], ◌∷◌, ◌++◌, map, flat_map, length, take, refl, Option, Some, None, Contains}
+use Rattle.std.specs.Prelude.{◌≡◌, ℕ, zero, suc, ◌+◌, ◌<◌, ◌≤◌, ◌⊎◌, List, [], ◌∷◌, ◌++◌, length, take, refl, Option, Some, None}
 use Rattle.std.specs.Option.{option_map_or}
 use Rattle.std.proofs.Common.{sym, ◌∙◌, ap, subst, inl, inr, arith}
 use Rattle.sg_model.specs.Last.{last}
 use Rattle.sg_law.proofs.Lists.{last-append}
-use Rattle.sg_law.proofs.Members.{in_left, in_right, in_flat, in_parts}
-use Rattle.sg_law.proofs.Take.{contains_from_in}
-use Rattle.sg_law.proofs.Upto.{In, in_from_Contains}
-use Rattle.sg_protocol.specs.Texts.{Hash, graph_text_of}
+use Rattle.sg_law.proofs.Members.{in_parts}
+use Rattle.sg_law.proofs.Upto.{In}
+use Rattle.sg_protocol.specs.Texts.{Hash}
 use Rattle.sg_protocol.specs.Past.{Past}
 use Rattle.sg_protocol.specs.Schedule.{Schedule}
 use Rattle.sg_protocol.specs.World.{World, Logged, past_of}
 use Rattle.sg_protocol.specs.Run.{called}
-use Rattle.sg_protocol.specs.Premises.{MadeBefore, hashed, Premises}
-use Rattle.sg_protocol.proofs.Progressing.{Suffix, suffix_refl, in_before, in_after}
+use Rattle.sg_protocol.specs.Premises.{Premises}
+use Rattle.sg_protocol.proofs.FirstSteps.{premises_earlier}
+use Rattle.sg_protocol.proofs.Progressing.{Suffix, suffix_refl}
 use Rattle.sg_apart.specs.Apart.{CallAt, world_called, world_after_calls, run_apart}
 use Rattle.sg_apart.proofs.Whole.{suffix_calls}
 
@@ -89,30 +89,7 @@ module _ (sha : Hash) (ps : List Past) (calls : List CallAt) (n : ℕ) where
       omega (arith, h, k)
 
   pub premises_before : (s : Schedule) → Premises sha s (run_apart sha ps calls) → Premises sha s (run_apart sha ps (take n calls))
-  premises_before s p = record {
-    unforged = λ l nt i j a b.
-        let m : MadeBefore l.number nt wf.log = p.unforged l nt (contains_from_in wf.log l (later l (in_from_Contains wb.log l i))) j a b in
-        let le = up_to l (in_from_Contains wb.log l i) in
-        let lt = m.2 in
-        (m.0, contains_from_in wb.log m.0 (in_before (1 + n) wb.log wf.log goes_on m.0 (in_from_Contains wf.log m.0 m.1) (omega (arith, le, lt))), m.2, m.3);
-    collision_free = λ a b i j e. p.collision_free a b (hashed_later a i) (hashed_later b j) e;
-  }
-    where
-      later : (l : Logged) → In wb.log l → In wf.log l
-      later l i = in_after (1 + n) wb.log wf.log goes_on l i
-
-      flat_later : (xs ys : List Logged) (t : List ℕ) → ((l : Logged) → In xs l → In ys l) → In (flat_map (λ (l : Logged). l.notes.hashed) xs) t → In (flat_map (λ (l : Logged). l.notes.hashed) ys) t
-      flat_later [] ys t f i = absurd i
-      flat_later (x ∷ xs) ys t f i = elim (in_parts x.notes.hashed (flat_map (λ (l : Logged). l.notes.hashed) xs) t i) [
-        | inl j ↦ in_flat (λ (l : Logged). l.notes.hashed) ys x t (f x (inl refl)) j
-        | inr j ↦ flat_later xs ys t (λ l k. f l (inr k)) j
-      ]
-
-      hashed_later : (t : List ℕ) → Contains (hashed s wb) t → Contains (hashed s wf) t
-      hashed_later t i = contains_from_in (hashed s wf) t (elim (in_parts (map graph_text_of s.graphs) (flat_map (λ (l : Logged). l.notes.hashed) wb.log) t (in_from_Contains (hashed s wb) t i)) [
-        | inl j ↦ in_left (map graph_text_of s.graphs) (flat_map (λ (l : Logged). l.notes.hashed) wf.log) t j
-        | inr j ↦ in_right (map graph_text_of s.graphs) (flat_map (λ (l : Logged). l.notes.hashed) wf.log) t (flat_later wb.log wf.log t later j)
-      ])
+  premises_before s = premises_earlier sha s (1 + n) wb wf goes_on (λ l i. let h = up_to l i in omega (arith, h))
 
 -- a call that accepts is the last one of the run up to it
 pub is_last : (sha : Hash) (ps : List Past) (calls : List CallAt) (l : Logged) → In (run_apart sha ps calls).log l → last (run_apart sha ps (take l.number calls)).log ≡ Some l

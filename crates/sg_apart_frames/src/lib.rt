@@ -6,7 +6,8 @@
 //! (`HoldOneKey`). Each also holds of honest principals' pasts, in whatever order their calls happened.
 //!
 //! The definitions stand in `specs/`: `Receipts`, `LastSteps`, `Delivery`, `GoesOn`. Each function is a law about them: it does nothing,
-//! and its contract is the law. Of the proofs read `proofs/Showing.antt` first, then `Flight`: what each call keeps of a session.
+//! and its contract is the law. They are laws of any course of happenings: of the proofs of `sg_protocol` read `Showing` first, then `Flight`,
+//! what each call keeps of a session, and `Accepting`.
 #![tactic(auto)]
 
 ghost use Rattle.std.specs.Prelude.{ℕ, List};

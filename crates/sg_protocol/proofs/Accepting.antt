@@ -56,7 +56,7 @@ use Rattle.sg_protocol.proofs.Ends.{after_all}
 use Rattle.sg_protocol.proofs.Nodes.{start_sends, abandon_sends, deliver_sends}
 use Rattle.sg_protocol.proofs.Reduced.{has-reduced}
 use Rattle.sg_protocol.proofs.RowLemmas.{roles_reduced}
-use Rattle.sg_protocol.proofs.Origins as S
+use Rattle.sg_protocol.proofs.LiveSessions.{act_event, keys_after}
 use Rattle.sg_protocol.proofs.Whole.{found_in}
 use Rattle.sg_law.proofs.Members.{all_in}
 use Rattle.sg_protocol.proofs.OneWalk.{FirstCast, first_cast, first_moves, node_begins}
@@ -64,8 +64,8 @@ use Rattle.sg_protocol.proofs.Agreeing.{With}
 use Rattle.sg_protocol.proofs.Flight.{HonestSession, Flight, FrameOk, WasReceived, Track, New, SessOk, OnTheWay, FlightOfRun, flight_of_run}
 use Rattle.sg_protocol.proofs.Flight as L
 use Rattle.sg_protocol.proofs.HeldKeys.{SameFor, in_at, pair_keys, pairs_differ, pairs_hold, rows_same, targets_apart}
-use Rattle.sg_protocol.proofs.Happenings.{Happening, IsCourse, IsRight, Own, HaveOneKey, HaveOneKeyEach, key_at, keep_course, pasts_kept, run_of}
-use Rattle.sg_protocol.proofs.Senders.{key_kept, nobody, nobody_compiled, nobody_is, receipts_are_of_sends, some_event}
+use Rattle.sg_protocol.proofs.Happenings.{Happening, IsCourse, IsRight, Own, HaveOneKey, HaveOneKeyEach, key_at, key_kept, keep_course, pasts_kept, run_of}
+use Rattle.sg_protocol.proofs.Senders.{receipts_are_of_sends, some_event}
 use Rattle.sg_protocol.proofs.Showing.{facts_of, first_progress, agree_first, of_run}
 
 not_over : (a b : ℕ) → a < b → nat_le b a ≡ false
@@ -220,14 +220,14 @@ module _ (sha : Hash) (hash : IsHash sha) (s : Schedule) (ps : List Past) (cours
   sends_sid n (Start c) e to f a = absurd (start_sends sha n c e to f a)
   sends_sid n (Abandon sid0) e to f a = absurd (abandon_sends sha n sid0 e to f a)
   sends_sid n (Deliver bs) e to f a = absurd (deliver_sends sha n bs e to f a)
-  sends_sid n (Act sid0 label values confs) e to f a = (S.act_event sha hash [] nobody (nobody_compiled sha) (nobody_is sha) (run_of sha ps course) n sid0 label values confs e to f a).0
+  sends_sid n (Act sid0 label values confs) e to f a = (act_event sha n sid0 label values confs e to f a).0
 
   was_sent_ : (l : Logged) (who : Name) (bs : List ℕ) (f : Frame) → IsTaken (run_of sha ps course) l who bs f → f.sid ≡ sid → honest_role s first.cast f.sender ≡ true → In first.cast.names who → In first.cast.names (principal first.cast f.sender) → WasSent (run_of sha ps course) l.number (principal first.cast f.sender) bs f
   was_sent_ l who bs f t q h i j = (receipts_are_of_sends sha hash s ps course is_course premises l who bs f first.cast t (ap (λ z. cast_of_session z (run_of sha ps course).log) q ∙ first.is_cast) h).1
       (λ _. all_in (HaveOneKey wf who) first.cast.names (principal first.cast f.sender) (all_in (λ a. All (HaveOneKey wf a) first.cast.names) first.cast.names who one_key i) j)
 
   keys_kept : (n : Node) (c : Call) (a : Answer) → (NodeAfter'.node_after n c a).keys ≡ n.keys
-  keys_kept n c a = S.keys_after sha hash [] nobody (nobody_compiled sha) (nobody_is sha) (run_of sha ps course) n c a
+  keys_kept n c a = keys_after n c a
 
   known_of_session : HonestSession sha s sid first.cast first.program.graph (run_of sha ps course) Own_ keys targets Key (first_of ps)
   known_of_session = record {

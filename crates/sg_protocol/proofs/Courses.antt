@@ -1,5 +1,5 @@
 -- The run of a schedule is a course of happenings at its honest principals.
-use Rattle.std.specs.Prelude.{◌≡◌, ◌≢◌, ℕ, ◌+◌, true, All, List, [], ◌∷◌, refl, Option, Some, None, option_map, option_and_then}
+use Rattle.std.specs.Prelude.{◌≡◌, ◌≢◌, ℕ, ◌+◌, true, All, List, [], ◌∷◌, ◌++◌, refl, Option, Some, None, option_map, option_and_then}
 use Rattle.std.specs.List.{AllByRecursion}
 use Rattle.std.specs.Option.{option_map_or}
 use Rattle.std.proofs.Common.{sym, ◌∙◌, ap, subst, inl, inr}
@@ -20,9 +20,8 @@ use Rattle.sg_protocol.specs.Crafted.{crafted}
 use Rattle.sg_protocol.specs.IsSchedule.{AreCompiled, IsPairKey, IsProgram, IsSchedule, IsStep}
 use Rattle.sg_protocol.proofs.Acts as C
 use Rattle.sg_protocol.proofs.Fits.{Fit, fit_new, fit_next, call_given}
-use Rattle.sg_protocol.proofs.Happenings.{Happening, Asked, Idle, IsCourse, IsGiven, IsRight, Own, HaveOneKey, happens, all_happen, key_at, keep_course, pasts_kept, run_of}
-use Rattle.sg_protocol.proofs.Senders.{key_kept}
-use Rattle.sg_protocol.proofs.Origins.{key_same}
+use Rattle.sg_protocol.proofs.Happenings.{Happening, Asked, Idle, IsCourse, IsGiven, IsRight, Own, HaveOneKey, happens, all_happen, key_at, key_kept, keep_course, pasts_kept, run_of}
+use Rattle.sg_protocol.proofs.LiveSessions.{key_same}
 use Rattle.sg_protocol.proofs.Whole.{first_past, has_past, new_past, program_graph}
 
 -- ---- what happens at a step
@@ -58,9 +57,14 @@ module _ (sha : Hash) (s : Schedule) where
   step_same w k (DeliverStep who what) = asks_same w k who (past_of w who) refl (call_of sha s w k (DeliverStep who what))
   step_same w k (CraftStep c) = refl
 
-  all_same : (w : World) (k : ℕ) (xs : List Step) → all_happen sha w k (course_from w k xs) ≡ world_after_all sha s w k xs
+  pub all_same : (w : World) (k : ℕ) (xs : List Step) → all_happen sha w k (course_from w k xs) ≡ world_after_all sha s w k xs
   all_same w k [] = refl
   all_same w k (x ∷ xs) = ap (λ z. all_happen sha z (k + 1) (course_from (world_after sha s w k x) (k + 1) xs)) (step_same w k x) ∙ all_same (world_after sha s w k x) (k + 1) xs
+
+  -- the course of the first steps is its beginning
+  pub course_split : (w : World) (k : ℕ) (xs ys : List Step) → (rest : List Happening) × (course_from w k (xs ++ ys) ≡ course_from w k xs ++ rest)
+  course_split w k [] ys = (course_from w k ys, refl)
+  course_split w k (x ∷ xs) ys = let r = course_split (world_after sha s w k x) (k + 1) xs ys in (r.0, ap (λ l. happening w k x ∷ l) r.1)
 
 -- ---- the course of a schedule
 

@@ -1,5 +1,5 @@
 -- The cast of each event that a principal's node answers.
-use Rattle.std.specs.Prelude.{◌≡◌, ℕ, ◌<◌, true, not, List, [], length, refl, Option, Some, None, option_and_then, Result, Ok, Err}
+use Rattle.std.specs.Prelude.{◌≡◌, ℕ, ◌<◌, true, not, List, length, refl, Option, Some, None, option_and_then, Result, Ok, Err}
 use Rattle.std.specs.Option.{option_map_or}
 use Rattle.std.specs.Result.{result_ok}
 use Rattle.std.proofs.Common.{sym, ◌∙◌, ap, subst, inl, inr}
@@ -22,6 +22,7 @@ use Rattle.sg_protocol.specs.Node.{Node, has_joined, is_cast, starter}
 use Rattle.sg_protocol.specs.Verdict.{row, rows, decided, receipt, verdict_on}
 use Rattle.sg_protocol.specs.Acting.{answer, rows_of_start, started}
 use Rattle.sg_protocol.specs.Notes.{notes, notes_of_read}
+use Rattle.sg_protocol.specs.Schedule.{Schedule}
 use Rattle.sg_protocol.specs.World.{World}
 use Rattle.sg_protocol.specs.Run.{cast_in}
 use Rattle.sg_protocol.specs.Bounds.{IsSession}
@@ -30,9 +31,9 @@ use Rattle.sg_protocol.proofs.AfterCalls.{cast_parts}
 use Rattle.sg_protocol.proofs.Progressing.{small_values}
 use Rattle.sg_protocol.proofs.Moves.{row_none}
 use Rattle.sg_protocol.proofs.ReadBack.{read-SpellsFrame}
-use Rattle.sg_protocol.proofs.Origins.{took}
+use Rattle.sg_protocol.proofs.LiveSessions.{took}
 use Rattle.sg_protocol.proofs.Named.{call_named}
-use Rattle.sg_protocol.proofs.KnownNodes.{Hashed, IsKnown, KnownNode, compiled, fits_cast, fresh, none_compiled, none_declared, nothing, owned}
+use Rattle.sg_protocol.proofs.KnownNodes.{Hashed, IsKnown, KnownNode, compiled, fits_cast, fresh, owned}
 use Rattle.sg_protocol.proofs.Happenings.{IsGiven, cast_given}
 
 -- an answer with an event names its numbers
@@ -59,13 +60,13 @@ has_role g c (Sends e' to f) e (inl i) h = subst (λ (z : Event). role_of z < le
     go (Event.Received sid r label time values joins) h = h.0
 has_role g c other e i h = absurd i
 
-module _ (sha : Hash) (hash : IsHash sha) (graphs : List Graph) (wf : World) (who : Name) (n : Node) (k : KnownNode sha hash graphs wf who n) (c : Call) (range : IsGiven c) (hs : (t : List ℕ) → In (notes sha n c).hashed t → Hashed sha hash graphs wf t) where
+module _ (sha : Hash) (hash : IsHash sha) (s : Schedule) (wf : World) (who : Name) (n : Node) (k : KnownNode sha hash s wf who n) (c : Call) (range : IsGiven c) (hs : (t : List ℕ) → In (notes sha n c).hashed t → Hashed sha hash s wf t) where
   -- the cast that an event is of
   pub record EventCast (e : Event) : Type 0 where
     pub cast : Cast
     pub fits : CastFits cast
     pub id : session_id sha cast ≡ sid_of e
-    pub is_hashed : Hashed sha hash graphs wf (session_text_of cast)
+    pub is_hashed : Hashed sha hash s wf (session_text_of cast)
     pub me : principal cast (role_of e) ≡ who
     pub program : Program
     pub there : In n.programs program
@@ -91,14 +92,14 @@ module _ (sha : Hash) (hash : IsHash sha) (graphs : List Graph) (wf : World) (wh
       by_program None i = absurd i
       by_program (Some p) i = by_rows p (first_some (rows_of_start n p (session_id sha d) d)) refl i
 
-  deliver_begins : (bs : List ℕ) (d : Cast) (e : Event) → IsGiven (Deliver bs) → ((t : List ℕ) → In (notes_of_read sha n (read bs)).hashed t → Hashed sha hash graphs wf t) → cast_in (Deliver bs) ≡ Some d → In (events_of_answer (answer sha n (Deliver bs))) e → Begins d e
+  deliver_begins : (bs : List ℕ) (d : Cast) (e : Event) → IsGiven (Deliver bs) → ((t : List ℕ) → In (notes_of_read sha n (read bs)).hashed t → Hashed sha hash s wf t) → cast_in (Deliver bs) ≡ Some d → In (events_of_answer (answer sha n (Deliver bs))) e → Begins d e
   deliver_begins bs d e h hs_ j i = by_read (read bs) refl i
     where
       by_rows : (f : Frame) → read bs ≡ Ok f → (o : Option Refusal) → first_some (rows sha n f) ≡ o → In (events_of_answer (decided (receipt f) o)) e → Begins d e
       by_rows f rd (Some r) q i = absurd i
       by_rows f rd None q (inr i) = absurd i
       by_rows f rd None q (inl i) =
-          let t = took sha hash [] nothing (none_compiled sha) (none_declared sha) wf who n k.me k.known k.fits f (read-SpellsFrame bs f h rd).is_frame q (λ y z. hs_ y (subst (λ r. In (notes_of_read sha n r).hashed y) (sym rd) z)) in
+          let t = took sha (Hashed sha hash s wf) who n k.me k.known k.fits f (read-SpellsFrame bs f h rd).is_frame q (λ y z. hs_ y (subst (λ r. In (notes_of_read sha n r).hashed y) (sym rd) z)) in
           let same : d ≡ t.cast = t.joins d (sym (ap (λ r. option_and_then (λ (f : Frame). f.join) (result_ok r)) rd) ∙ j) in
           (subst CastFits (sym same) t.fits, ap (λ z. principal z (role_of e)) same ∙ ap (λ z. principal t.cast (role_of z)) i ∙ t.me)
 
@@ -106,7 +107,7 @@ module _ (sha : Hash) (hash : IsHash sha) (graphs : List Graph) (wf : World) (wh
       by_read (Err at) q i = absurd i
       by_read (Ok f) q i = by_rows f q (first_some (rows sha n f)) refl i
 
-  call_begins : (b : Call) → IsGiven b → ((t : List ℕ) → In (notes sha n b).hashed t → Hashed sha hash graphs wf t) → (d : Cast) (e : Event) → cast_in b ≡ Some d → In (events_of_answer (answer sha n b)) e → Begins d e
+  call_begins : (b : Call) → IsGiven b → ((t : List ℕ) → In (notes sha n b).hashed t → Hashed sha hash s wf t) → (d : Cast) (e : Event) → cast_in b ≡ Some d → In (events_of_answer (answer sha n b)) e → Begins d e
   call_begins (Start c') h hs_ d e j i = (let same : c' ≡ d = cc in subst (λ z. Begins z e) same (start_begins c' e h i))
   call_begins (Act sid label values confs) h hs_ d e j i = absurd (let z : None ≡ Some d = j in cc)
   call_begins (Abandon sid) h hs_ d e j i = absurd (let z : None ≡ Some d = j in cc)
@@ -120,16 +121,16 @@ module _ (sha : Hash) (hash : IsHash sha) (graphs : List Graph) (wf : World) (wh
 
   pub event_cast : (e : Event) → In (events_of_answer (answer sha n c)) e → EventCast e
   event_cast e i =
-      let t = call_named sha n (compiled sha hash graphs wf who n k c range hs) c (gives c range) (answer sha n c) refl (names (answer sha n c) e i) in
+      let t = call_named sha n (compiled sha hash s wf who n k c range hs) c (gives c range) (answer sha n c) refl (names (answer sha n c) e i) in
       let same = t.is_named.event e (contains_from_in (events_of_answer (answer sha n c)) e i) in
       let x : Session = t.is_named.session in
       let within : role_of e < length (t.is_named.program).graph.roles = has_role (t.is_named.program).graph c (answer sha n c) e i t.is_named.named in
       elim t.is_from [
         | inl j ↦
-            let kx : IsKnown sha hash graphs wf who x = rec_in (IsKnown sha hash graphs wf who) n.live x k.known j in
+            let kx : IsKnown sha hash s wf who x = rec_in (IsKnown sha hash s wf who) n.live x k.known j in
             record {
               cast = x.cast;
-              fits = fits_cast sha hash graphs wf x (rec_in IsSession n.live x k.fits j);
+              fits = fits_cast sha hash s wf x (rec_in IsSession n.live x k.fits j);
               id = kx.id ∙ sym same.0;
               is_hashed = kx.is_hashed;
               me = ap (principal x.cast) same.1 ∙ kx.me;
@@ -137,7 +138,7 @@ module _ (sha : Hash) (hash : IsHash sha) (graphs : List Graph) (wf : World) (wh
               there = t.there;
               digest = t.is_named.is_graph;
               role = within;
-              joins = λ d. absurd (contradicts (owned n.joins n.live x k.owns j) (ap (λ z. has_joined n.joins z x.role) (sym same.0) ∙ ap (has_joined n.joins (sid_of e)) (sym same.1) ∙ fresh sha hash graphs wf who n k c range hs e i d));
+              joins = λ d. absurd (contradicts (owned n.joins n.live x k.owns j) (ap (λ z. has_joined n.joins z x.role) (sym same.0) ∙ ap (has_joined n.joins (sid_of e)) (sym same.1) ∙ fresh sha hash s wf who n k c range hs e i d));
             }
         | inr b ↦
             let both = call_begins c range hs x.cast e b.0 i in

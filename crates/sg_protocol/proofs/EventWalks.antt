@@ -26,7 +26,7 @@ use Rattle.sg_protocol.specs.Premises.{Premises, hashed}
 use Rattle.sg_protocol.specs.IsSchedule.{IsProgram}
 use Rattle.sg_protocol.specs.Explaining.{AllShown, view_in, walk_after_steps}
 use Rattle.sg_protocol.proofs.Paths.{TypedDeed, acts_of, one_path, steps_of}
-use Rattle.sg_protocol.proofs.Origins.{no_entry}
+use Rattle.sg_protocol.proofs.LiveSessions.{no_entry}
 use Rattle.sg_protocol.proofs.Going.{Progress, SessionInRun}
 use Rattle.sg_protocol.proofs.OneWalk.{FirstCast, begins, first_moves, binding, first_cast, graph_is, known, the_program}
 use Rattle.sg_protocol.proofs.Agreeing.{with_all}

@@ -25,6 +25,30 @@ use Rattle.sg_protocol.specs.Beginnings.{first_steps, IsLogUpTo, RunsGoOn, Premi
 use Rattle.sg_protocol.proofs.OtherSteps.{crafted_same, all_on}
 use Rattle.sg_protocol.proofs.Progressing.{Suffix, suffix_refl, suffix_all, in_before, in_after}
 
+-- if the assumptions hold of a world they hold of one before
+pub premises_earlier : (sha : Hash) (s : Schedule) (n : ℕ) (wb wf : World) → Suffix n wb.log wf.log → ((l : Logged) → In wb.log l → l.number < n) → Premises sha s wf → Premises sha s wb
+premises_earlier sha s n wb wf t below p = record {
+  unforged = λ l nt i j a b.
+      let m : MadeBefore l.number nt wf.log = p.unforged l nt (contains_from_in wf.log l (in_after n wb.log wf.log t l (in_from_Contains wb.log l i))) j a b in
+      let le = below l (in_from_Contains wb.log l i) in
+      let lt = m.2 in
+      (m.0, contains_from_in wb.log m.0 (in_before n wb.log wf.log t m.0 (in_from_Contains wf.log m.0 m.1) (omega (arith, le, lt))), m.2, m.3);
+  collision_free = λ a b i j e. p.collision_free a b (hashed_later a i) (hashed_later b j) e;
+}
+  where
+    flat_later : (xs ys : List Logged) (t : List ℕ) → ((l : Logged) → In xs l → In ys l) → In (flat_map (λ (l : Logged). l.notes.hashed) xs) t → In (flat_map (λ (l : Logged). l.notes.hashed) ys) t
+    flat_later [] ys t f i = absurd i
+    flat_later (x ∷ xs) ys t f i = elim (in_parts x.notes.hashed (flat_map (λ (l : Logged). l.notes.hashed) xs) t i) [
+      | inl j ↦ in_flat (λ (l : Logged). l.notes.hashed) ys x t (f x (inl refl)) j
+      | inr j ↦ flat_later xs ys t (λ l k. f l (inr k)) j
+    ]
+
+    hashed_later : (x : List ℕ) → Contains (hashed s wb) x → Contains (hashed s wf) x
+    hashed_later x i = contains_from_in (hashed s wf) x (elim (in_parts (map graph_text_of s.graphs) (flat_map (λ (l : Logged). l.notes.hashed) wb.log) x (in_from_Contains (hashed s wb) x i)) [
+      | inl j ↦ in_left (map graph_text_of s.graphs) (flat_map (λ (l : Logged). l.notes.hashed) wf.log) x j
+      | inr j ↦ in_right (map graph_text_of s.graphs) (flat_map (λ (l : Logged). l.notes.hashed) wf.log) x (flat_later wb.log wf.log x (λ l k. in_after n wb.log wf.log t l k) j)
+    ])
+
 -- ---- the schedule's steps don't matter to one step
 
 module _ (sha : Hash) (s : Schedule) (n : ℕ) where
@@ -149,30 +173,9 @@ module _ (sha : Hash) (programs : List Program) (s : Schedule) (n : ℕ) where
   }
 
   pub premises_before : Premises sha s (run sha programs s) → Premises sha (first_steps n s) (run sha programs (first_steps n s))
-  premises_before p = record {
-    unforged = λ l nt i j a b.
-        let m : MadeBefore l.number nt wf.log = p.unforged l nt (contains_from_in wf.log l (later l (in_from_Contains wb.log l i))) j a b in
-        let le = up_to l (in_from_Contains wb.log l i) in
-        let lt = m.2 in
-        (m.0, contains_from_in wb.log m.0 (in_before (1 + n) wb.log wf.log goes_on m.0 (in_from_Contains wf.log m.0 m.1) (omega (arith, le, lt))), m.2, m.3);
-    collision_free = λ a b i j e. p.collision_free a b (hashed_later a i) (hashed_later b j) e;
-  }
-    where
-      later : (l : Logged) → In wb.log l → In wf.log l
-      later l i = in_after (1 + n) wb.log wf.log goes_on l i
-
-      flat_later : (xs ys : List Logged) (t : List ℕ) → ((l : Logged) → In xs l → In ys l) → In (flat_map (λ (l : Logged). l.notes.hashed) xs) t → In (flat_map (λ (l : Logged). l.notes.hashed) ys) t
-      flat_later [] ys t f i = absurd i
-      flat_later (x ∷ xs) ys t f i = elim (in_parts x.notes.hashed (flat_map (λ (l : Logged). l.notes.hashed) xs) t i) [
-        | inl j ↦ in_flat (λ (l : Logged). l.notes.hashed) ys x t (f x (inl refl)) j
-        | inr j ↦ flat_later xs ys t (λ l k. f l (inr k)) j
-      ]
-
-      hashed_later : (t : List ℕ) → Contains (hashed (first_steps n s) wb) t → Contains (hashed s wf) t
-      hashed_later t i = contains_from_in (hashed s wf) t (elim (in_parts (map graph_text_of s.graphs) (flat_map (λ (l : Logged). l.notes.hashed) wb.log) t (in_from_Contains (hashed (first_steps n s) wb) t i)) [
-        | inl j ↦ in_left (map graph_text_of s.graphs) (flat_map (λ (l : Logged). l.notes.hashed) wf.log) t j
-        | inr j ↦ in_right (map graph_text_of s.graphs) (flat_map (λ (l : Logged). l.notes.hashed) wf.log) t (flat_later wb.log wf.log t later j)
-      ])
+  premises_before p =
+      let q : Premises sha s wb = premises_earlier sha s (1 + n) wb wf goes_on (λ l i. let h = up_to l i in omega (arith, h)) p in
+      record { unforged = q.unforged; collision_free = q.collision_free }
 
 -- a step that accepts is the last one of the run up to it
 pub is_last : (sha : Hash) (programs : List Program) (s : Schedule) (l : Logged) → In (run sha programs s).log l → last (run sha programs (first_steps l.number s)).log ≡ Some l

@@ -15,7 +15,6 @@ use Rattle.sg_protocol.specs.Acting.{openings_for}
 use Rattle.sg_protocol.specs.Spelling.{spelling, HasSpelling, u64}
 use Rattle.sg_model.specs.Bytes.{AreBytes}
 use Rattle.sg_protocol.specs.Texts.{Hash, IsHash, session_id, cut, graph_text_of}
-use Rattle.sg_protocol.specs.TextLaws.{CastFits}
 use Rattle.sg_protocol.specs.Keyring.{Program}
 use Rattle.sg_protocol.specs.Session.{Session, new_session}
 use Rattle.sg_protocol.specs.Calls.{Event, Call, Start, Act, Abandon, Deliver, Answer, Sends}
@@ -40,8 +39,7 @@ use Rattle.sg_protocol.specs.IsSchedule.{IsSchedule, IsStep, IsDeclared, AreComp
 use Rattle.sg_protocol.proofs.Finding.{find_passes}
 use Rattle.sg_model.specs.Names.{is_name}
 use Rattle.sg_model.proofs.Small.{same_bytes, all-append}
-use Rattle.sg_protocol.proofs.Happenings.{IsGiven, IsStarted, cast_given, given_in_range, given_sends}
-use Rattle.sg_protocol.proofs.KnownSession.{FitSteps}
+use Rattle.sg_protocol.proofs.Happenings.{IsGiven, IsStarted, given_in_range, given_sends}
 use Rattle.sg_protocol.proofs.Progressing.{past_called, next_past, node_more}
 use Rattle.sg_protocol.proofs.Whole.{first_past}
 use Rattle.sg_protocol.proofs.First.{programs_after}
@@ -237,9 +235,6 @@ module _ (sha : Hash) (hash : IsHash sha) (programs : List Program) (s : Schedul
       go None q e = absurd (cc)
       go (Some d) q e = (let r : d.cast ≡ c = cc in subst IsStarted r (of_declared d (declared_in NamedSession (IsDeclared sha s.graphs) s.sessions n d sched.sessions q)))
 
-  pub casts_fit : (n : ℕ) (c : Cast) → cast_of s n ≡ Some c → CastFits c
-  casts_fit n c e = cast_given c (cast_given_ n c e)
-
   -- what a step asks is in range
   pub call_given : (w : World) → Fit w → (k : ℕ) (x : Step) → IsStep sha s x → (c : Call) → call_of sha s w k x ≡ Some c → IsGiven c
   call_given w fit k x good c e = go x good c e
@@ -311,6 +306,3 @@ module _ (sha : Hash) (hash : IsHash sha) (programs : List Program) (s : Schedul
   fit_next w k (ActStep who n' label values) fit good = past_fit w k fit (ActStep who n' label values) good who (past_of w who) refl (call_of sha s w k (ActStep who n' label values)) refl
   fit_next w k (AbandonStep who n') fit good = past_fit w k fit (AbandonStep who n') good who (past_of w who) refl (call_of sha s w k (AbandonStep who n')) refl
   fit_next w k (DeliverStep who what) fit good = past_fit w k fit (DeliverStep who what) good who (past_of w who) refl (call_of sha s w k (DeliverStep who what)) refl
-
-  pub fit_steps : FitSteps sha s Fit
-  fit_steps = record { next = fit_next; bytes = fit_bytes; sends = fit_sends; casts = casts_fit }

@@ -1,17 +1,16 @@
 -- What happens in a run is to the law one list of moves of a session.
-use Rattle.std.specs.Prelude.{◌≡◌, ℕ, suc, ◌+◌, ◌==◌, nat_lt, not, if◌then◌else◌, ◌&&◌, Bool, true, false, List, [], ◌∷◌, ◌++◌, map, filter, flat_map, length, bytes_eq, refl, Option, Some, None, option_map}
+use Rattle.std.specs.Prelude.{◌≡◌, ℕ, suc, ◌+◌, ◌==◌, nat_lt, not, if◌then◌else◌, ◌&&◌, Bool, true, false, List, [], ◌∷◌, ◌++◌, map, filter, flat_map, length, bytes_eq, refl, Option, Some, None}
 use Rattle.std.specs.List.{AllByRecursion}
 use Rattle.std.specs.Option.{option_map_or}
 use Rattle.std.proofs.Common.{sym, ◌∙◌, ap, subst, inl, inr, arith, append-nil}
 use Rattle.std.proofs.lemmas.Bool.{cases_Bool, eq-eqb, and_parts}
 use Rattle.std.proofs.lemmas.List.{map-append}
-use Rattle.std.proofs.lemmas.Slice.Eq.{bytes_eq-Decides}
 use Rattle.sg_model.specs.Last.{Map}
 use Rattle.sg_model.specs.Lists.{first_some, is_in, keys_of, rises_from}
 use Rattle.sg_model.specs.Names.{Name}
 use Rattle.sg_model.specs.Values.{Value, Opening}
 use Rattle.sg_model.proofs.Numbers.{absent}
-use Rattle.sg_model.proofs.Small.{same_bytes, all-append, all_weaker}
+use Rattle.sg_model.proofs.Small.{all-append, all_weaker}
 use Rattle.sg_law.specs.Values as V
 use Rattle.sg_law.specs.Values.{State, Move, Commit, AllMay, moved_all, deed_of, all_openings}
 use Rattle.sg_law.proofs.Members.{in_right, in_flat, in_parts}
@@ -45,9 +44,9 @@ use Rattle.sg_protocol.proofs.AfterCalls.{nothing, node_kept}
 use Rattle.sg_protocol.proofs.AbandonCall.{abandon_out}
 use Rattle.sg_protocol.proofs.ActCall.{act_out}
 use Rattle.sg_protocol.proofs.Calls.{NodeOk, Out}
-use Rattle.sg_protocol.proofs.Progressing.{Suffix, suffix_one, suffix_trans, in_before, in_after, node_more, next_past, past_called, moved-append, may-append, openings-append, events-append, note_more, small_values}
+use Rattle.sg_protocol.proofs.Progressing.{Suffix, suffix_one, suffix_trans, in_before, in_after, node_more, moved-append, may-append, openings-append, events-append, note_more, small_values}
 use Rattle.sg_protocol.proofs.DeliverCall.{deliver_out}
-use Rattle.sg_protocol.proofs.Finding.{find_passes, find_all}
+use Rattle.sg_protocol.proofs.Finding.{find_all}
 use Rattle.sg_protocol.proofs.Gives.{keys_are}
 use Rattle.sg_protocol.proofs.KnownSession.{SessionOfCast}
 use Rattle.sg_protocol.proofs.Moves.{NoteOk}
@@ -56,7 +55,7 @@ use Rattle.sg_protocol.proofs.Paths.{acts_of, TypedDeed, flat_map-append, writes
 use Rattle.sg_protocol.proofs.Ranges.{act_in_range}
 use Rattle.sg_protocol.proofs.StartCall.{start_out}
 use Rattle.sg_protocol.proofs.TextLaws.{opening_fits}
-use Rattle.sg_protocol.proofs.Happenings.{Happening, IsGiven, IsRight, all_happen, cast_given, given_in_range, keep_course}
+use Rattle.sg_protocol.proofs.Happenings.{Happening, IsGiven, IsRight, all_happen, cast_given, given_in_range, keep_course, pasts_kept}
 
 -- ---- confounders
 
@@ -228,7 +227,7 @@ module _ {sha : Hash} {s : Schedule} {sid : List ℕ} {cast : Cast} {g : Graph} 
     progress_called c range after out = record {
       moves = p.moves ++ out.moves;
       may = may-append (shape g) honest commit (V.at_first (shape g)) p.moves out.moves p.may out.may;
-      nodes = λ me p' e. subst (λ z. Fits z me p') (sym (moved-append commit (V.at_first (shape g)) p.moves out.moves)) (nodes_ me p' (past_of w me) refl (sym (past_called sha w k who c past me) ∙ e));
+      nodes = λ me p' e. subst (λ z. Fits z me p') (sym (moved-append commit (V.at_first (shape g)) p.moves out.moves)) (pasts_kept sha w k who past its_past c (Fits (moved_all commit st out.moves)) called_fits (λ me y ne q. other_fits me y ne (p.nodes me y q)) me p' e);
       noted = λ l nt i j. subst (λ (z : State). NoteOk g sid z.log nt) (sym (moved-append commit (V.at_first (shape g)) p.moves out.moves)) (elim (in_parts w.log (entry_ c ∷ []) l i) [
         | inl a ↦ note_more g sid st.log (moved_all commit st out.moves).log out.log nt (p.noted l nt a j)
         | inr a ↦ elim a [ inl b ↦ out.made nt (subst (λ (z : Logged). In z.notes.made nt) b j) | inr b ↦ absurd b ]
@@ -258,26 +257,6 @@ module _ {sha : Hash} {s : Schedule} {sid : List ℕ} {cast : Cast} {g : Graph} 
           honest = f.honest;
           live = f.live;
         }
-
-        nodes_ : (me : Name) (p' : Past) (o : Option Past) → past_of w me ≡ o → option_map (next_past sha who c) o ≡ Some p' → Fits (moved_all commit st out.moves) me p'
-        nodes_ me p' None q e = absurd (cc)
-        nodes_ me p' (Some y) q e =
-            let r : next_past sha who c y ≡ p' = cc in
-            let is_me : y.keys.me ≡ me = same_bytes y.keys.me me (find_passes (λ (z : Past). bytes_eq z.keys.me me) w.pasts y q) in
-            elim (cases_Bool (bytes_eq y.keys.me who)) [
-              | inl h ↦
-                  let same : me ≡ who = sym is_me ∙ same_bytes y.keys.me who h in
-                  let two : Some y ≡ Some past = sym q ∙ ap (past_of w) same ∙ its_past in
-                  let y_past : y ≡ past = cc in
-                  let after_ : past_after sha past c ≡ p' = ap (λ z. past_after sha z c) (sym y_past) ∙ (rw h at r) in
-                  subst (λ z. Fits (moved_all commit st out.moves) z p') (sym same) (subst (Fits (moved_all commit st out.moves) who) after_ called_fits)
-              | inr h ↦
-                  let r' : y ≡ p' = rw h at r in
-                  subst (Fits (moved_all commit st out.moves) me) r' (other_fits me y (λ z. no_clash (bytes_eq y.keys.me who) ((bytes_eq-Decides y.keys.me who).1 (is_me ∙ z)) h) (p.nodes me y q))
-            ]
-          where
-            no_clash : (b : Bool) → b ≡ true → b ≡ false → ⊥
-            no_clash b t f = absurd (cc)
 
     pub progress_moves : (c : Call) (range : IsGiven c) (after : Suffix (k + 1) (called sha w k who c past).log wf.log) (out : Outs c) → (progress_called c range after out).moves ≡ p.moves ++ out.moves
     unfolding progress_called

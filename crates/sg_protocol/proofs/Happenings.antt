@@ -1,15 +1,15 @@
 -- What happens in a run, one after another, whether a schedule says it or principals run apart.
-use Rattle.std.specs.Prelude.{◌≡◌, ℕ, ◌+◌, ◌==◌, nat_lt, ◌&&◌, IsTrue, true, List, [], ◌∷◌, find, length, bytes_eq, refl, Option, Some, None, option_map, option_and_then, All, ⊤}
+use Rattle.std.specs.Prelude.{◌≡◌, ℕ, ◌+◌, ◌==◌, nat_lt, ◌&&◌, IsTrue, true, List, [], ◌∷◌, ◌++◌, find, length, bytes_eq, refl, Option, Some, None, option_map, option_and_then, All, ⊤}
 use Rattle.std.specs.List.{AllByRecursion}
 use Rattle.std.specs.Option.{option_map_or}
-use Rattle.std.proofs.Common.{sym, ◌∙◌, ap, subst, inl, inr, arith}
+use Rattle.std.proofs.Common.{sym, ◌∙◌, ap, subst, inl, inr, arith, append-nil}
 use Rattle.std.proofs.lemmas.Bool.{cases_Bool, eqb-true, and_parts}
 use Rattle.std.proofs.lemmas.Slice.Eq.{bytes_eq-Decides}
 use Rattle.sg_model.specs.Bytes.{IsBytes, AreBytes}
 use Rattle.sg_model.specs.Lists.{all_differ}
 use Rattle.sg_model.specs.Names.{Name, is_name}
 use Rattle.sg_model.specs.Shape.{role_at}
-use Rattle.sg_model.proofs.Small.{clash, same_bytes}
+use Rattle.sg_model.proofs.Small.{all_weaker, clash, same_bytes}
 use Rattle.sg_law.proofs.Upto.{In}
 use Rattle.sg_protocol.specs.Graph.{IsGraph, shape}
 use Rattle.sg_protocol.specs.Frame.{Cast, Frame}
@@ -115,6 +115,9 @@ IsRight (Idle who o fr) = events_of_outcome o ≡ []
 abbrev pub Own : Hash → Schedule → List Program → Type 0
 Own sha s programs = AllByRecursion (λ (q : Program). IsProgram sha q × In s.graphs q.graph) programs
 
+pub are_programs : (sha : Hash) (s : Schedule) (xs : List Program) → Own sha s xs → AllByRecursion (IsProgram sha) xs
+are_programs sha s xs own = all_weaker _ _ (λ q h. h.0) xs own
+
 -- a course of happenings at principals that were asked nothing yet and are the honest ones, with programs of the graphs
 pub record IsCourse (sha : Hash) (s : Schedule) (ps : List Past) (course : List Happening) : Type 0 where
   pub graphs : AllByRecursion IsGraph s.graphs
@@ -152,11 +155,14 @@ module _ (sha : Hash) (wf : World) (P : World → Type 0)
   keep_one w k p (Asked who c) right after = keep_call w k p who c right (past_of w who) refl after
   keep_one w k p (Idle who o fr) right after = idles w k p who o fr right
 
+  pub keep_prefix : (w : World) (k : ℕ) → P w → (hs gs : List Happening) → AllByRecursion IsRight hs → all_happen sha w k (hs ++ gs) ≡ wf → P (all_happen sha w k hs)
+  keep_prefix w k p [] gs right e = p
+  keep_prefix w k p (h ∷ hs) gs right e =
+      let after : Suffix (k + 1) (happens sha w k h).log wf.log = subst (λ (z : World). Suffix (k + 1) (happens sha w k h).log z.log) e (suffix_course sha (happens sha w k h) (k + 1) (hs ++ gs)) in
+      keep_prefix (happens sha w k h) (k + 1) (keep_one w k p h right.0 after) hs gs right.1 e
+
   pub keep_course : (w : World) (k : ℕ) → P w → (hs : List Happening) → AllByRecursion IsRight hs → all_happen sha w k hs ≡ wf → P wf
-  keep_course w k p [] right e = subst P e p
-  keep_course w k p (h ∷ hs) right e =
-      let after : Suffix (k + 1) (happens sha w k h).log wf.log = subst (λ (z : World). Suffix (k + 1) (happens sha w k h).log z.log) e (suffix_course sha (happens sha w k h) (k + 1) hs) in
-      keep_course (happens sha w k h) (k + 1) (keep_one w k p h right.0 after) hs right.1 e
+  keep_course w k p hs right e = subst P e (keep_prefix w k p hs [] right (ap (all_happen sha w k) (append-nil hs) ∙ e))
 
 -- the pasts after a call
 module _ (sha : Hash) (w : World) (k : ℕ) (who : Name) (past : Past) (its_past : past_of w who ≡ Some past) (c : Call) (Q : Name → Past → Type 0) (mine : Q who (past_after sha past c)) (others : (me : Name) (y : Past) → (me ≡ who → ⊥) → past_of w me ≡ Some y → Q me y) where
@@ -179,3 +185,17 @@ module _ (sha : Hash) (w : World) (k : ℕ) (who : Name) (past : Past) (its_past
 
   pub pasts_kept : (me : Name) (p' : Past) → past_of (called sha w k who c past) me ≡ Some p' → Q me p'
   pasts_kept me p' e = go me p' (past_of w me) refl (sym (past_called sha w k who c past me) ∙ e)
+
+-- the key that a principal holds for another stays the same
+next_keys : (sha : Hash) (who : Name) (c : Call) (p : Past) → (next_past sha who c p).keys ≡ p.keys
+next_keys sha who c p = elim (cases_Bool (bytes_eq p.keys.me who)) [ inl e ↦ rw e refl | inr e ↦ rw e refl ]
+
+pub key_called : (sha : Hash) (w : World) (k : ℕ) (who : Name) (c : Call) (past : Past) (a b : Name) → key_at (called sha w k who c past) a b ≡ key_at w a b
+key_called sha w k who c past a b = ap (option_and_then (λ (p : Past). key_of p.keys b)) (past_called sha w k who c past a) ∙ go (past_of w a)
+  where
+    go : (o : Option Past) → option_and_then (λ (p : Past). key_of p.keys b) (option_map (next_past sha who c) o) ≡ option_and_then (λ (p : Past). key_of p.keys b) o
+    go None = refl
+    go (Some p) = ap (λ z. key_of z b) (next_keys sha who c p)
+
+pub key_kept : (sha : Hash) (ps : List Past) (course : List Happening) → AllByRecursion IsRight course → (a b : Name) → key_at (run_of sha ps course) a b ≡ key_at (record { pasts = ps; log = [] }) a b
+key_kept sha ps course right a b = keep_course sha (run_of sha ps course) (λ w. key_at w a b ≡ key_at (record { pasts = ps; log = [] }) a b) (λ w k h who o fr e. h) (λ w k h who past q c r after. key_called sha w k who c past a b ∙ h) (record { pasts = ps; log = [] }) 1 refl course right refl

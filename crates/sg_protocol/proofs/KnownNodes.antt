@@ -5,15 +5,15 @@ use Rattle.std.specs.Option.{option_map_or}
 use Rattle.std.proofs.Common.{sym, ◌∙◌, ap, subst, inl, inr, arith, append-nil}
 use Rattle.std.proofs.lemmas.Bool.{cases_Bool, and_parts}
 use Rattle.std.proofs.lemmas.List.{length-append}
-use Rattle.std.proofs.lemmas.List.Elements.{All-nil, filter-append}
+use Rattle.std.proofs.lemmas.List.Elements.{filter-append}
 use Rattle.sg_model.specs.Last.{last}
 use Rattle.sg_model.specs.Lists.{all_differ, first_some}
 use Rattle.sg_model.specs.Names.{Name}
-use Rattle.sg_model.proofs.Small.{all_weaker, contradicts, length_filter, same_bytes}
+use Rattle.sg_model.proofs.Small.{contradicts, length_filter, same_bytes}
 use Rattle.sg_law.proofs.Members.{in_left, in_right, rec_in}
 use Rattle.sg_law.proofs.Take.{contains_from_in}
 use Rattle.sg_law.proofs.Upto.{In}
-use Rattle.sg_protocol.specs.Graph.{Graph, IsGraph}
+use Rattle.sg_protocol.specs.Graph.{Graph}
 use Rattle.sg_protocol.specs.Frame.{Cast, Frame, Item}
 use Rattle.sg_protocol.specs.Reading.{read}
 use Rattle.sg_protocol.specs.Texts.{Hash, IsHash, session_text_of}
@@ -30,7 +30,7 @@ use Rattle.sg_protocol.specs.Past.{joins_once}
 use Rattle.sg_protocol.specs.Schedule.{Schedule}
 use Rattle.sg_protocol.specs.World.{World}
 use Rattle.sg_protocol.specs.Premises.{CollisionFree, hashed}
-use Rattle.sg_protocol.specs.IsSchedule.{AreCompiled, IsDeclared, IsPairKey, IsProgram, IsSchedule, IsStep}
+use Rattle.sg_protocol.specs.IsSchedule.{IsProgram}
 use Rattle.sg_protocol.specs.Bounds.{IsSession}
 use Rattle.sg_protocol.proofs.AfterCalls.{cast_parts}
 use Rattle.sg_protocol.proofs.Finding.{one_index}
@@ -38,29 +38,9 @@ use Rattle.sg_protocol.proofs.First.{programs_after}
 use Rattle.sg_protocol.proofs.Isolation.{of_sid, still-other}
 use Rattle.sg_protocol.proofs.Joins.{Owns, call_step, owns_after}
 use Rattle.sg_protocol.proofs.Nodes.{start_all, abandon_all, act_all, deliver_all}
-use Rattle.sg_protocol.proofs.Origins.{Known, call_known, keys_after}
+use Rattle.sg_protocol.proofs.LiveSessions.{Known, call_known, keys_after}
 use Rattle.sg_protocol.proofs.TextLaws.{cast_fits, one_cast}
-use Rattle.sg_protocol.proofs.Happenings.{IsGiven, given_in_range}
-
--- ---- no schedule
-
--- Lemmas of sg_protocol on any node stand where a schedule is given, of which they use nothing: this one declares nothing
-abbrev pub nothing : Schedule
-nothing = record { graphs = []; honest = []; keys = []; sessions = []; steps = [] }
-
-pub none_compiled : (sha : Hash) → AreCompiled sha [] []
-none_compiled sha = record { each = All-nil (IsProgram sha); all = refl }
-
-pub none_declared : (sha : Hash) → IsSchedule sha nothing
-none_declared sha = record {
-  are_graphs = All-nil IsGraph;
-  graph_names = refl;
-  honest_names = refl;
-  keys = All-nil IsPairKey;
-  pairs = λ i j d lt within. absurd (omega (arith, within));
-  sessions = All-nil (IsDeclared sha []);
-  steps = All-nil (IsStep sha nothing);
-}
+use Rattle.sg_protocol.proofs.Happenings.{IsGiven, are_programs, given_in_range}
 
 -- ---- lists
 
@@ -116,14 +96,14 @@ fresh_pair js a e i h d = go a i h
 
 -- ---- a node
 
-module _ (sha : Hash) (hash : IsHash sha) (graphs : List Graph) (wf : World) where
+module _ (sha : Hash) (hash : IsHash sha) (s : Schedule) (wf : World) where
   -- the texts that were hashed in calls
   abbrev pub Hashed : List ℕ → Type 0
-  Hashed t = In (hashed nothing wf) t
+  Hashed t = In (hashed s wf) t
 
   -- the sid is of the cast, whose text was hashed, and the principal has the role
   abbrev pub IsKnown : Name → Session → Type 0
-  IsKnown who x = Known sha hash [] nothing (none_compiled sha) (none_declared sha) wf who x
+  IsKnown who x = Known sha Hashed who x
 
   -- the principals differ, and the role is that of one
   abbrev pub IsInside : Session → Type 0
@@ -132,12 +112,12 @@ module _ (sha : Hash) (hash : IsHash sha) (graphs : List Graph) (wf : World) whe
   -- a node of the principal, whose programs are of these graphs. Of one sid it has at most one live session, if no two texts have one digest
   pub record KnownNode (who : Name) (n : Node) : Type 0 where
     pub me : n.keys.me ≡ who
-    pub programs : AllByRecursion (λ (q : Program). IsProgram sha q × In graphs q.graph) n.programs
+    pub programs : AllByRecursion (λ (q : Program). IsProgram sha q × In s.graphs q.graph) n.programs
     pub owns : Owns n.joins n.live
     pub fits : AllByRecursion IsSession n.live
     pub known : AllByRecursion (IsKnown who) n.live
     pub inside : AllByRecursion IsInside n.live
-    pub once : CollisionFree sha (hashed nothing wf) → (sid : List ℕ) → length (filter (of_sid sid) n.live) ≤ 1
+    pub once : CollisionFree sha (hashed s wf) → (sid : List ℕ) → length (filter (of_sid sid) n.live) ≤ 1
 
   -- what the test of a cast says
   cast_inside : (keys : Keyring) (g : Graph) (c : Cast) (r : ℕ) → is_cast keys g c r ≡ true → (r < length c.names) × (all_differ c.names ≡ true)
@@ -149,15 +129,15 @@ module _ (sha : Hash) (hash : IsHash sha) (graphs : List Graph) (wf : World) whe
   fits_cast x f = cast_fits x.cast f.version f.cast
 
   -- two sessions of one sid are of one cast and role
-  same_pair : CollisionFree sha (hashed nothing wf) → (who : Name) (x y : Session) → IsSession x → IsKnown who x → IsInside x → IsSession y → IsKnown who y → IsInside y → x.sid ≡ y.sid → x.role ≡ y.role
+  same_pair : CollisionFree sha (hashed s wf) → (who : Name) (x y : Session) → IsSession x → IsKnown who x → IsInside x → IsSession y → IsKnown who y → IsInside y → x.sid ≡ y.sid → x.role ≡ y.role
   same_pair free who x y fx kx ix fy ky iy sids =
-      let text : session_text_of x.cast ≡ session_text_of y.cast = free (session_text_of x.cast) (session_text_of y.cast) (contains_from_in (hashed nothing wf) (session_text_of x.cast) kx.is_hashed) (contains_from_in (hashed nothing wf) (session_text_of y.cast) ky.is_hashed) (kx.id ∙ sids ∙ sym ky.id) in
+      let text : session_text_of x.cast ≡ session_text_of y.cast = free (session_text_of x.cast) (session_text_of y.cast) (contains_from_in (hashed s wf) (session_text_of x.cast) kx.is_hashed) (contains_from_in (hashed s wf) (session_text_of y.cast) ky.is_hashed) (kx.id ∙ sids ∙ sym ky.id) in
       let cast : x.cast ≡ y.cast = one_cast x.cast y.cast (fits_cast x fx) (fits_cast y fy) text in
       one_index x.cast.names x.role y.role ix.1 ix.0 (subst (λ (c : Cast). y.role < length c.names) (sym cast) iy.0) (kx.me ∙ sym ky.me ∙ ap (λ (c : Cast). principal c y.role) (sym cast))
 
   module _ (who : Name) (n : Node) (k : KnownNode who n) (c : Call) (range : IsGiven c) (hs : (t : List ℕ) → In (notes sha n c).hashed t → Hashed t) where
     pub compiled : AllByRecursion (IsProgram sha) n.programs
-    compiled = all_weaker _ _ (λ q h. h.0) n.programs k.programs
+    compiled = are_programs sha s n.programs k.programs
 
     pub fresh : (e : Event) → In (events_of_answer (answer sha n c)) e → does_join e ≡ true → has_joined n.joins (sid_of e) (role_of e) ≡ false
     fresh e i d = fresh_pair n.joins (answer sha n c) e i (call_step sha n k.owns [] c refl) d
@@ -168,7 +148,7 @@ module _ (sha : Hash) (hash : IsHash sha) (graphs : List Graph) (wf : World) whe
     fits_after = given_in_range sha hash n compiled k.fits c range
 
     known_after : AllByRecursion (IsKnown who) (node_after n c (answer sha n c)).live
-    known_after = call_known sha hash [] nothing (none_compiled sha) (none_declared sha) wf who n k.me k.known c hs
+    known_after = call_known sha Hashed who n k.me k.known c hs
 
     inside_after : (d : Call) → AllByRecursion IsInside (node_after n d (answer sha n d)).live
     inside_after (Start d) = start_all sha n IsInside k.inside d (λ p b. cast_inside n.keys p.graph d p.role b.cast)
@@ -180,7 +160,7 @@ module _ (sha : Hash) (hash : IsHash sha) (graphs : List Graph) (wf : World) whe
     inside_after (Abandon sid) = abandon_all sha n IsInside k.inside sid
     inside_after (Deliver bs) = deliver_all sha n IsInside k.inside bs (λ f x rd b h. h) (λ f d rd j b. cast_inside n.keys (b.p).graph d f.receiver b.cast)
 
-    module _ (free : CollisionFree sha (hashed nothing wf)) (sid : List ℕ) where
+    module _ (free : CollisionFree sha (hashed s wf)) (sid : List ℕ) where
       abbrev Few : Node → Type 0
       Few m = length (filter (of_sid sid) m.live) ≤ 1
 
@@ -279,8 +259,8 @@ module _ (sha : Hash) (hash : IsHash sha) (graphs : List Graph) (wf : World) whe
 
     pub node_known : KnownNode who (node_after n c (answer sha n c))
     node_known = record {
-      me = ap (λ (z : Keyring). z.me) (keys_after sha hash [] nothing (none_compiled sha) (none_declared sha) wf n c (answer sha n c)) ∙ k.me;
-      programs = subst (AllByRecursion (λ (q : Program). IsProgram sha q × In graphs q.graph)) (sym (programs_after n c (answer sha n c))) k.programs;
+      me = ap (λ (z : Keyring). z.me) (keys_after n c (answer sha n c)) ∙ k.me;
+      programs = subst (AllByRecursion (λ (q : Program). IsProgram sha q × In s.graphs q.graph)) (sym (programs_after n c (answer sha n c))) k.programs;
       owns = owns_after n c (answer sha n c) k.owns;
       fits = fits_after;
       known = known_after;

@@ -1,5 +1,5 @@
 -- What an accepted frame shows, in a run with restarts.
-use Rattle.std.specs.Prelude.{◌≡◌, ℕ, ◌+◌, ◌<◌, ◌⊎◌, Bool, true, false, cond, List, [], ◌∷◌, ◌++◌, map, flat_map, length, bytes_eq, refl, Option, Some, None, option_map, All, Contains}
+use Rattle.std.specs.Prelude.{◌≡◌, ℕ, ◌+◌, ◌<◌, ◌⊎◌, Bool, true, false, cond, List, [], ◌∷◌, ◌++◌, map, flat_map, length, bytes_eq, refl, Option, Some, None, option_map, All}
 use Rattle.std.specs.List.{AllByRecursion, cons_option}
 use Rattle.std.specs.Option.{option_map_or}
 use Rattle.std.proofs.Common.{sym, ◌∙◌, ap, subst, inl, inr, arith, append_assoc, append-nil}
@@ -9,11 +9,10 @@ use Rattle.sg_model.specs.Last.{last, up_to_last, last_of, after_last}
 use Rattle.sg_model.specs.Names.{Name}
 use Rattle.sg_model.proofs.Small.{same_bytes, bytes_refl, length-more, all-parts}
 use Rattle.sg_law.proofs.Lists.{last-append}
-use Rattle.sg_law.proofs.Members.{in_left, in_right, in_flat, in_parts}
-use Rattle.sg_law.proofs.Take.{contains_from_in}
+use Rattle.sg_law.proofs.Members.{in_parts}
 use Rattle.sg_law.proofs.Upto.{In, in_from_Contains}
 use Rattle.sg_protocol.specs.Frame.{Item, Frame}
-use Rattle.sg_protocol.specs.Texts.{Hash, IsHash, graph_text_of}
+use Rattle.sg_protocol.specs.Texts.{Hash, IsHash}
 use Rattle.sg_protocol.specs.Keyring.{Program}
 use Rattle.sg_protocol.specs.Session.{items_of, principal, commitments}
 use Rattle.sg_protocol.specs.Calls.{Call, Deliver, Happened, Abandoned}
@@ -24,13 +23,13 @@ use Rattle.sg_protocol.specs.Past.{AnsweredCall, Past, node_of, past_after}
 use Rattle.sg_protocol.specs.Schedule.{Schedule, NamedSession, Step, StartStep, ActStep, AbandonStep, DeliverStep, CraftStep}
 use Rattle.sg_protocol.specs.World.{Outcome, Logged, World, Answered, Crafted, NoFrame, past_of, new_world, call_of}
 use Rattle.sg_protocol.specs.Run.{called, called_if, uncalled, world_after, world_after_all, run, frame_in}
-use Rattle.sg_protocol.specs.Premises.{MadeBefore, hashed, Premises}
+use Rattle.sg_protocol.specs.Premises.{Premises}
 use Rattle.sg_protocol.specs.Receipts.{IsTaken}
 use Rattle.sg_protocol.specs.LastSteps.{exchanges_in, exchanges_of, is_of, sent_item, honest_items, bare, HeldBySender, ShowsLastSteps}
 use Rattle.sg_protocol.specs.Restarts.{StepOrRestart, Stepped, Restarted, live_of, world_restarted, world_over_restarts, run_with_restarts, IsStepOrRestart, dropped, without_restarts, HasMoreAbandonments, answered_call, called_by, calls_at, HeldInLife, ShowsLastStepsInLife, FramesShowLastStepsOverRestarts}
-use Rattle.sg_protocol.proofs.Progressing.{next_past, past_called, Suffix, suffix_refl, suffix_trans, suffix_step, in_before, in_after}
+use Rattle.sg_protocol.proofs.Progressing.{next_past, past_called, Suffix, suffix_refl, suffix_trans, suffix_step}
 use Rattle.sg_protocol.proofs.Finding.{find_passes}
-use Rattle.sg_protocol.proofs.FirstSteps.{OneMore, one_more}
+use Rattle.sg_protocol.proofs.FirstSteps.{OneMore, one_more, premises_earlier}
 use Rattle.sg_protocol.proofs.LastSteps.{shows_at_end}
 use Rattle.sg_protocol.proofs.OverRestarts.{cast_same, premises_same, taken_there}
 use Rattle.sg_protocol.proofs.Restarts.{AddsSame, Same, plain, same_runs, is_plain, same_last}
@@ -183,30 +182,6 @@ module _ (sha : Hash) (s : Schedule) where
   over_below [] w k a = a
   over_below (Stepped x ∷ xs) w k a = over_below xs (world_after sha s w k x) (k + 1) (step_below w k x a)
   over_below (Restarted who ∷ xs) w k a = over_below xs (world_restarted w who) (k + length (live_of w who)) (λ l i. let h = a l i in omega (arith, h))
-
--- if the assumptions hold of a world they hold of one before
-premises_earlier : (sha : Hash) (s : Schedule) (n : ℕ) (wb wf : World) → Suffix n wb.log wf.log → ((l : Logged) → In wb.log l → l.number < n) → Premises sha s wf → Premises sha s wb
-premises_earlier sha s n wb wf t below p = record {
-  unforged = λ l nt i j a b.
-      let m : MadeBefore l.number nt wf.log = p.unforged l nt (contains_from_in wf.log l (in_after n wb.log wf.log t l (in_from_Contains wb.log l i))) j a b in
-      let le = below l (in_from_Contains wb.log l i) in
-      let lt = m.2 in
-      (m.0, contains_from_in wb.log m.0 (in_before n wb.log wf.log t m.0 (in_from_Contains wf.log m.0 m.1) (omega (arith, le, lt))), m.2, m.3);
-  collision_free = λ a b i j e. p.collision_free a b (hashed_later a i) (hashed_later b j) e;
-}
-  where
-    flat_later : (xs ys : List Logged) (t : List ℕ) → ((l : Logged) → In xs l → In ys l) → In (flat_map (λ (l : Logged). l.notes.hashed) xs) t → In (flat_map (λ (l : Logged). l.notes.hashed) ys) t
-    flat_later [] ys t f i = absurd i
-    flat_later (x ∷ xs) ys t f i = elim (in_parts x.notes.hashed (flat_map (λ (l : Logged). l.notes.hashed) xs) t i) [
-      | inl j ↦ in_flat (λ (l : Logged). l.notes.hashed) ys x t (f x (inl refl)) j
-      | inr j ↦ flat_later xs ys t (λ l k. f l (inr k)) j
-    ]
-
-    hashed_later : (x : List ℕ) → Contains (hashed s wb) x → Contains (hashed s wf) x
-    hashed_later x i = contains_from_in (hashed s wf) x (elim (in_parts (map graph_text_of s.graphs) (flat_map (λ (l : Logged). l.notes.hashed) wb.log) x (in_from_Contains (hashed s wb) x i)) [
-      | inl j ↦ in_left (map graph_text_of s.graphs) (flat_map (λ (l : Logged). l.notes.hashed) wf.log) x j
-      | inr j ↦ in_right (map graph_text_of s.graphs) (flat_map (λ (l : Logged). l.notes.hashed) wf.log) x (flat_later wb.log wf.log x (λ l k. in_after n wb.log wf.log t l k) j)
-    ])
 
 -- ---- the law
 

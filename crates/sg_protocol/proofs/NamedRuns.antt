@@ -34,18 +34,20 @@ use Rattle.sg_protocol.specs.IsSchedule.{IsProgram, AreCompiled, IsSchedule, IsS
 use Rattle.sg_protocol.specs.Headline.{IsOfCast}
 use Rattle.sg_protocol.specs.Named.{IsNamed, GivesVariables, IsAnswered, EntriesAreAnswered, EntriesAreNamed, EntriesHaveOneGraph, IsOfOneGraph, StepsAreNamed, names_numbers}
 use Rattle.sg_protocol.proofs.TextLaws as TL
-use Rattle.sg_protocol.proofs.Progressing.{Suffix, suffix_all, small_values}
+use Rattle.sg_protocol.proofs.Progressing.{small_values}
 use Rattle.sg_protocol.proofs.Finding.{find_passes}
-use Rattle.sg_protocol.proofs.First.{first_cast, first_of_live}
+use Rattle.sg_protocol.proofs.OneWalk.{FirstCast, first_cast, first_of_live}
 use Rattle.sg_protocol.proofs.FirstSteps.{run_first}
-use Rattle.sg_protocol.proofs.Fits.{fit_new, fit_next, fit_steps}
+use Rattle.sg_protocol.proofs.Courses.{all_same, course, course_from, course_split, is_course, same_run}
+use Rattle.sg_protocol.proofs.Happenings.{Happening, IsGiven, are_programs, cast_given, run_of}
 use Rattle.sg_protocol.proofs.Ranges.{joined_in_range}
 use Rattle.sg_protocol.proofs.ReadBack.{read-SpellsFrame}
 use Rattle.sg_protocol.proofs.Roles.{sessions_have_one_cast}
-use Rattle.sg_protocol.proofs.Origins.{Known, LogsOk, all_logs, new_logs, step_logs, no_entry}
-use Rattle.sg_protocol.proofs.Sent.{FitSession}
+use Rattle.sg_protocol.proofs.KnownLogs.{At, known_before, logs_known}
+use Rattle.sg_protocol.proofs.LiveSessions.{Known, no_entry}
+use Rattle.sg_protocol.specs.Bounds.{IsSession}
 use Rattle.sg_protocol.proofs.Named.{NamesFrom, call_named, answers_are_named}
-use Rattle.sg_protocol.proofs.Whole.{FirstCast, find_some, found_in, program_graph, same_name, same_named}
+use Rattle.sg_protocol.proofs.Whole.{find_some, found_in, same_name, same_named}
 
 -- ---- the step of an entry
 
@@ -176,12 +178,6 @@ module _ (sha : Hash) (hash : IsHash sha) (programs : List Program) (s : Schedul
   steps_are : AllByRecursion (IsStep sha s) s.steps
   steps_are = recursion_from_All (IsStep sha s) s.steps sched.steps
 
-  logs_at : (wf w : World) (k : ℕ) (xs ys : List Step) → AllByRecursion (IsStep sha s) xs → LogsOk sha hash programs s compiled sched wf w → world_after_all sha s w k (xs ++ ys) ≡ wf → LogsOk sha hash programs s compiled sched wf (world_after_all sha s w k xs)
-  logs_at wf w k [] ys good q e = q
-  logs_at wf w k (x ∷ xs) ys good q e =
-      logs_at wf (world_after sha s w k x) (k + 1) xs ys good.1
-      (step_logs sha hash programs s compiled sched wf w k x good.0 q (fit_next sha hash programs s compiled sched w k x q.fit good.0) (subst (λ (z : World). Suffix (k + 1) (world_after sha s w k x).log z.log) e (suffix_all sha s (world_after sha s w k x) (k + 1) (xs ++ ys)))) e
-
   module _ (l : Logged) (c : Call) (r : StepOf sha s l c (new_world programs s) 1 s.steps) where
     abbrev at : World
     at = world_after_all sha s (new_world programs s) 1 r.before
@@ -189,21 +185,26 @@ module _ (sha : Hash) (hash : IsHash sha) (programs : List Program) (s : Schedul
     good_step : IsStep sha s r.step
     good_step = all_mid (IsStep sha s) r.before r.step r.after (subst (AllByRecursion (IsStep sha s)) r.parts steps_are)
 
-    logs_before : LogsOk sha hash programs s compiled sched (run sha programs s) at
-    logs_before = logs_at (run sha programs s) (new_world programs s) 1 r.before (r.step ∷ r.after) (all_prefix (IsStep sha s) r.before (r.step ∷ r.after) (subst (AllByRecursion (IsStep sha s)) r.parts steps_are))
-        (new_logs sha hash programs s compiled sched (run sha programs s)) (ap (world_after_all sha s (new_world programs s) 1) (sym r.parts))
-
     abbrev n : Node
     n = node_of r.one.past
 
-    programs_are : n.programs ≡ programs
-    programs_are = (logs_before.fit.nodes r.one.who r.one.past r.one.is_past).0
+    abbrev before : List Happening
+    before = course_from sha s (new_world programs s) 1 r.before
 
-    are_programs : AllByRecursion (IsProgram sha) n.programs
-    are_programs = subst (AllByRecursion (IsProgram sha)) (sym programs_are) (recursion_from_All (IsProgram sha) programs compiled.each)
+    parts : (rest : List Happening) × (course sha hash programs s compiled sched ≡ course_from sha s (new_world programs s) 1 r.before ++ rest)
+    parts = let q = course_split sha s (new_world programs s) 1 r.before (r.step ∷ r.after) in (q.0, ap (course_from sha s (new_world programs s) 1) r.parts ∙ q.1)
 
-    named : names_numbers (answer sha n c) ≡ true → NamesFrom sha n are_programs c (answer sha n c)
-    named h = call_named sha n are_programs c (call_small sha s at (1 + length r.before) r.step c good_step r.one.call) (answer sha n c) refl h
+    its_past : past_of (run_of sha (new_world programs s).pasts before) r.one.who ≡ Some r.one.past
+    its_past = ap (λ (w : World). past_of w r.one.who) (all_same sha s (new_world programs s) 1 r.before) ∙ r.one.is_past
+
+    known_past : At sha hash s (new_world programs s).pasts (course sha hash programs s compiled sched) (is_course sha hash programs s compiled sched) r.one.who r.one.past
+    known_past = (known_before sha hash s (new_world programs s).pasts (course sha hash programs s compiled sched) (is_course sha hash programs s compiled sched) before parts.0 parts.1).nodes r.one.who r.one.past its_past
+
+    programs_are : AllByRecursion (IsProgram sha) n.programs
+    programs_are = are_programs sha s n.programs (known_past.known).programs
+
+    named : names_numbers (answer sha n c) ≡ true → NamesFrom sha n programs_are c (answer sha n c)
+    named h = call_named sha n programs_are c (call_small sha s at (1 + length r.before) r.step c good_step r.one.call) (answer sha n c) refl h
 
 pub entries_are_named : (sha : Hash) → IsHash sha → EntriesAreNamed sha
 entries_are_named sha hash programs s compiled sched l c i e a h =
@@ -222,7 +223,7 @@ module _ (sha : Hash) (hash : IsHash sha) (programs : List Program) (s : Schedul
   abbrev n' : Node
   n' = node_of r.one.past
 
-  abbrev t : NamesFrom sha n' (are_programs sha hash programs s compiled sched l c r) c (answer sha n' c)
+  abbrev t : NamesFrom sha n' (programs_are sha hash programs s compiled sched l c r) c (answer sha n' c)
   t = named sha hash programs s compiled sched l c r h
 
   -- the session's cast is one whose text was hashed
@@ -231,44 +232,60 @@ module _ (sha : Hash) (hash : IsHash sha) (programs : List Program) (s : Schedul
     id : session_id sha x.cast ≡ x.sid
     is_hashed : In (hashed s w) (session_text_of x.cast)
 
+  abbrev w' : World
+  w' = run_of sha (new_world programs s).pasts (course sha hash programs s compiled sched)
+
+  one_run : w' ≡ w
+  one_run = same_run sha hash programs s compiled sched
+
+  hashed_in : (t : List ℕ) → In (hashed s w') t → In (hashed s w) t
+  hashed_in t j = subst (λ (z : World). In (hashed s z) t) one_run j
+
+  cast_in_run : (sid : List ℕ) → cast_of_session sid w'.log ≡ cast_of_session sid w.log
+  cast_in_run sid = ap (λ (z : World). cast_of_session sid z.log) one_run
+
+  its_given : IsGiven c
+  its_given = elim ((logs_known sha hash s (new_world programs s).pasts (course sha hash programs s compiled sched) (is_course sha hash programs s compiled sched)).logs l (subst (λ (z : World). In z.log l) (sym one_run) i)) [
+    | inl q ↦ absurd (let z : None ≡ Some c = sym q.call ∙ e in cc)
+    | inr o ↦ (let z : Some o.c ≡ Some c = sym o.is_call ∙ e in let its : o.c ≡ c = cc in subst IsGiven its o.in_range)
+  ]
+
   noted : (x : Session) → In n'.live x ⊎ ((cast_in c ≡ Some x.cast) × (session_id sha x.cast ≡ x.sid) × In (notes sha n' c).hashed (session_text_of x.cast)) → IsNoted x
   noted x (inl j) =
-      let q = logs_before sha hash programs s compiled sched l c r in
-      let k : Known sha hash programs s compiled sched w r.one.who x = rec_in (Known sha hash programs s compiled sched w r.one.who) n'.live x (q.nodes r.one.who r.one.past r.one.is_past).2 j in
-      let f : FitSession x = rec_in FitSession n'.live x (q.fit.nodes r.one.who r.one.past r.one.is_past).1 j in
-      record { fits = TL.cast_fits x.cast f.version f.cast; id = k.id; is_hashed = k.is_hashed }
+      let q = (known_past sha hash programs s compiled sched l c r).known in
+      let k : Known sha (λ t. In (hashed s w') t) r.one.who x = rec_in (Known sha (λ t. In (hashed s w') t) r.one.who) n'.live x q.known j in
+      let f : IsSession x = rec_in IsSession n'.live x q.fits j in
+      record { fits = TL.cast_fits x.cast f.version f.cast; id = k.id; is_hashed = hashed_in (session_text_of x.cast) k.is_hashed }
   noted x (inr b) = record {
-    fits = by_call c e b.0;
+    fits = by_call c its_given b.0;
     id = b.1;
     is_hashed = in_right (map graph_text_of s.graphs) (flat_map (λ (z : Logged). z.notes.hashed) w.log) (session_text_of x.cast) (in_flat (λ (z : Logged). z.notes.hashed) w.log l (session_text_of x.cast) i (subst (λ z. In z.hashed (session_text_of x.cast)) (sym r.one.is_notes) b.2));
   }
     where
-      logs : LogsOk sha hash programs s compiled sched w w
-      logs = all_logs sha hash programs s compiled sched w (new_world programs s) 1 s.steps (steps_are sha hash programs s compiled sched) (new_logs sha hash programs s compiled sched w) refl
-
-      by_call : (d : Call) → l.call ≡ Some d → cast_in d ≡ Some x.cast → CastFits x.cast
-      by_call (Start y) e q = (let same : y ≡ x.cast = cc in subst CastFits same ((logs.logs l (Start y) i e).starts y refl))
-      by_call (Act sid label values confs) e q = absurd (cc)
-      by_call (Abandon sid) e q = absurd (cc)
-      by_call (Deliver bs) e q = go (read bs) refl q
+      by_call : (d : Call) → IsGiven d → cast_in d ≡ Some x.cast → CastFits x.cast
+      by_call (Start y) h q = (let is : y ≡ x.cast = cc in subst CastFits is (cast_given y h))
+      by_call (Act sid label values confs) h q = absurd (cc)
+      by_call (Abandon sid) h q = absurd (cc)
+      by_call (Deliver bs) h q = go (read bs) refl q
         where
           go : (m : Result Frame ℕ) → read bs ≡ m → option_and_then (λ (f : Frame). f.join) (result_ok m) ≡ Some x.cast → CastFits x.cast
           go (Err at) rd q = absurd (cc)
-          go (Ok f) rd q =
-              let z : FitSession (new_session f.sid x.cast f.receiver) = joined_in_range f x.cast (read-SpellsFrame bs f ((logs.logs l (Deliver bs) i e).bytes bs refl) rd).is_frame q in
-              TL.cast_fits x.cast z.version z.cast
+          go (Ok f) rd q = let z : IsSession (new_session f.sid x.cast f.receiver) = joined_in_range f x.cast (read-SpellsFrame bs f h rd).is_frame q in TL.cast_fits x.cast z.version z.cast
 
   -- the cast of a sid is that of each such session of it
-  first_is : (sid : List ℕ) (cast : Cast) → cast_of_session sid w.log ≡ Some cast → FirstCast sha s programs sid w
-  first_is sid cast q = first_cast sha hash s programs sid (fit_steps sha hash programs s compiled sched) (steps_are sha hash programs s compiled sched) (fit_new sha hash programs s compiled sched)
-      (λ none. let two : None ≡ Some cast = sym (ap (option_and_then (λ (z : Logged). option_and_then cast_in z.call)) (no_entry sid w.log none)) ∙ q in cc)
+  abbrev First : List ℕ → Type 0
+  First sid = FirstCast sha hash s (new_world programs s).pasts (course sha hash programs s compiled sched) (is_course sha hash programs s compiled sched) sid
+
+  first_is : (sid : List ℕ) (cast : Cast) → cast_of_session sid w.log ≡ Some cast → First sid
+  first_is sid cast q = first_cast sha hash s (new_world programs s).pasts (course sha hash programs s compiled sched) (is_course sha hash programs s compiled sched) sid
+      (λ none. let two : None ≡ Some cast = sym (ap (option_and_then (λ (z : Logged). option_and_then cast_in z.call)) (no_entry sid w'.log none)) ∙ cast_in_run sid ∙ q in cc)
 
   same_cast : CollisionFree sha (hashed s w) → (x : Session) → IsNoted x → (cast : Cast) → cast_of_session x.sid w.log ≡ Some cast → x.cast ≡ cast
   same_cast free x nt cast q =
-      let f : FirstCast sha s programs x.sid w = first_is x.sid cast q in
-      let two : Some f.cast ≡ Some cast = sym f.is_cast ∙ q in
+      let f : First x.sid = first_is x.sid cast q in
+      let two : Some f.cast ≡ Some cast = sym f.is_cast ∙ cast_in_run x.sid ∙ q in
       let is : f.cast ≡ cast = cc in
-      TL.one_cast x.cast f.cast nt.fits f.fits (free (session_text_of x.cast) (session_text_of f.cast) (contains_from_in (hashed s w) (session_text_of x.cast) nt.is_hashed) (contains_from_in (hashed s w) (session_text_of f.cast) f.is_hashed) (nt.id ∙ sym f.sid_is)) ∙ is
+      TL.one_cast x.cast f.cast nt.fits f.fits (free (session_text_of x.cast) (session_text_of f.cast) (contains_from_in (hashed s w) (session_text_of x.cast) nt.is_hashed) (contains_from_in (hashed s w) (session_text_of f.cast) (hashed_in (session_text_of f.cast) f.is_hashed)) (nt.id ∙ sym f.sid_is)) ∙ is
 
   same_digest : CollisionFree sha (hashed s w) → (a b : Graph) → In s.graphs a → In s.graphs b → graph_digest sha a ≡ graph_digest sha b → a ≡ b
   same_digest free a b i j e =
@@ -276,10 +293,8 @@ module _ (sha : Hash) (hash : IsHash sha) (programs : List Program) (s : Schedul
       let t : graph_text_of a ≡ graph_text_of b = free (graph_text_of a) (graph_text_of b) (there a i) (there b j) e in
       same_named s.graphs a b sched.graph_names i j (same_name a b (all_in IsGraph s.graphs a sched.are_graphs i) (all_in IsGraph s.graphs b sched.are_graphs j) (TL.one_canonical a b t))
 
-  graph_found : CollisionFree sha (hashed s w) → (p : Program) → In programs p → (digest : List ℕ) → digest ≡ p.digest → graph_with sha s.graphs digest ≡ Some p.graph
-  graph_found free p j digest d =
-      let ip : IsProgram sha p = all_in (IsProgram sha) programs p compiled.each j in
-      let there : In s.graphs p.graph = program_graph sha s.graphs programs compiled p j in
+  graph_found : CollisionFree sha (hashed s w) → (p : Program) → IsProgram sha p → In s.graphs p.graph → (digest : List ℕ) → digest ≡ p.digest → graph_with sha s.graphs digest ≡ Some p.graph
+  graph_found free p ip there digest d =
       let test = λ (z : Graph). bytes_eq (graph_digest sha z) digest in
       let y = find_some test s.graphs p.graph there ((bytes_eq-Decides (graph_digest sha p.graph) digest).1 (sym ip.digest ∙ sym d)) in
       y.1 ∙ ap (λ z. Some z) (same_digest free y.0 p.graph (found_in test s.graphs y.0 y.1) there (same_bytes (graph_digest sha y.0) digest (find_passes test s.graphs y.0 y.1) ∙ d ∙ ip.digest))
@@ -290,17 +305,16 @@ module _ (sha : Hash) (hash : IsHash sha) (programs : List Program) (s : Schedul
       let pair : (t.is_named.program, t.is_named.session) ≡ (u.program, u.session) = cc in
       let xs : t.is_named.session ≡ u.session = ap (λ (z : Program × Session). z.1) pair in
       let ps : t.is_named.program ≡ u.program = ap (λ (z : Program × Session). z.0) pair in
-      let there : In programs u.program = subst (In programs) ps (subst (λ z. In z t.is_named.program) (programs_are sha hash programs s compiled sched l c r) t.there) in
+      let its : IsProgram sha u.program × In s.graphs u.program.graph = subst (λ (z : Program). IsProgram sha z × In s.graphs z.graph) ps (rec_in (λ (z : Program). IsProgram sha z × In s.graphs z.graph) n'.programs t.is_named.program ((known_past sha hash programs s compiled sched l c r).known).programs t.there) in
       let same : (cast : Cast) → cast_of_session u.session.sid w.log ≡ Some cast → u.session.cast ≡ cast = same_cast free u.session (subst IsNoted xs (noted t.is_named.session t.is_from)) in
-      record { graph = graph_found free u.program there u.session.cast.graph u.is_graph; cast = same; event = had same; live = λ j. is_live same (in_from_Contains n'.live u.session j) }
+      record { graph = graph_found free u.program its.0 its.1 u.session.cast.graph u.is_graph; cast = same; event = had same; live = λ j. is_live same (in_from_Contains n'.live u.session j) }
     where
       is_live : ((cast : Cast) → cast_of_session u.session.sid w.log ≡ Some cast → u.session.cast ≡ cast) → In n'.live u.session → cast_of_session u.session.sid w.log ≡ Some u.session.cast
       is_live same j =
-          let good = subst (AllByRecursion (IsStep sha s)) r.parts (steps_are sha hash programs s compiled sched) in
-          let f0 : FirstCast sha s programs u.session.sid (world_after_all sha s (new_world programs s) 1 (r.before ++ r.step ∷ r.after)) = first_of_live sha hash s programs u.session.sid (fit_steps sha hash programs s compiled sched)
-          r.before (r.step ∷ r.after) (all_prefix (IsStep sha s) r.before (r.step ∷ r.after) good) (fit_new sha hash programs s compiled sched) r.one.who r.one.past r.one.is_past u.session j (bytes_same u.session.sid u.session.sid refl) in
-          let f : FirstCast sha s programs u.session.sid w = subst (λ xs. FirstCast sha s programs u.session.sid (world_after_all sha s (new_world programs s) 1 xs)) (sym r.parts) f0 in
-          f.is_cast ∙ ap (λ z. Some z) (sym (same f.cast f.is_cast))
+          let f : First u.session.sid = first_of_live sha hash s (new_world programs s).pasts (course sha hash programs s compiled sched) (is_course sha hash programs s compiled sched) u.session.sid
+          (before sha hash programs s compiled sched l c r) (parts sha hash programs s compiled sched l c r).0 (parts sha hash programs s compiled sched l c r).1 r.one.who r.one.past (its_past sha hash programs s compiled sched l c r) u.session j (bytes_same u.session.sid u.session.sid refl) in
+          let is : cast_of_session u.session.sid w.log ≡ Some f.cast = sym (cast_in_run u.session.sid) ∙ f.is_cast in
+          is ∙ ap (λ z. Some z) (sym (same f.cast is))
 
       had : ((cast : Cast) → cast_of_session u.session.sid w.log ≡ Some cast → u.session.cast ≡ cast) → (v : Event) → Contains (events_of_answer (answer sha n' c)) v → cast_of_session u.session.sid w.log ≡ Some u.session.cast
       had same v j =

@@ -1,9 +1,9 @@
 -- All events of a session of a run are of one cast, and so a principal has one role in it.
-use Rattle.std.specs.Prelude.{◌≡◌, ◌≢◌, ◌<◌, ◌⊎◌, Bool, true, List, [], ◌∷◌, filter, flat_map, map, length, bytes_eq, refl, Some, None, option_and_then}
+use Rattle.std.specs.Prelude.{◌≡◌, ◌≢◌, ◌<◌, ◌⊎◌, Bool, true, List, [], ◌∷◌, filter, flat_map, map, length, bytes_eq, refl, Some, option_and_then}
 use Rattle.std.proofs.Common.{sym, ◌∙◌, ap, subst, inl, inr}
 use Rattle.std.proofs.lemmas.Bool.{cases_Bool}
 use Rattle.std.proofs.lemmas.Slice.Eq.{bytes_eq-Decides}
-use Rattle.sg_law.proofs.Members.{in_flat, in_left, in_map, in_right, rec_in}
+use Rattle.sg_law.proofs.Members.{in_flat, in_left, in_map, rec_in}
 use Rattle.sg_model.specs.Names.{Name}
 use Rattle.sg_law.proofs.Take.{contains_from_in}
 use Rattle.sg_law.proofs.Upto.{In, in_from_Contains}
@@ -26,7 +26,7 @@ use Rattle.sg_protocol.proofs.Whole.{find_some}
 use Rattle.sg_protocol.proofs.Happenings.{Happening, IsCourse, run_of}
 use Rattle.sg_protocol.proofs.OneWalk.{FirstCast, first_cast}
 use Rattle.sg_protocol.specs.Headline.{HadEvent, IsOfCast}
-use Rattle.sg_protocol.proofs.KnownLogs.{Origin, logs_known}
+use Rattle.sg_protocol.proofs.KnownLogs.{Origin, Silent, logs_known}
 use Rattle.sg_protocol.proofs.EventCasts.{EventCast, event_cast}
 
 pub filter_in : {A : Type 0} (q : A → Bool) (xs : List A) (x : A) → In xs x → q x ≡ true → In (filter q xs) x
@@ -47,9 +47,9 @@ event_of_cast sha hash s ps course is_course free l who e had =
     let l_in : In wf.log l = in_from_Contains wf.log l had.0 in
     let e_in : In (events_of_outcome l.outcome) e = in_from_Contains (events_of_outcome l.outcome) e had.2 in
     let o : Origin sha hash s ps course is_course l = its_origin l e e_in ((logs_known sha hash s ps course is_course).logs l l_in) in
-    let ec : EventCast sha hash s.graphs wf o.who o.n o.known o.c o.in_range o.hashes e = event_cast sha hash s.graphs wf o.who o.n o.known o.c o.in_range o.hashes e (subst (λ z. In (events_of_outcome z) e) o.is_outcome e_in) in
+    let ec : EventCast sha hash s wf o.who o.n o.known o.c o.in_range o.hashes e = event_cast sha hash s wf o.who o.n o.known o.c o.in_range o.hashes e (subst (λ z. In (events_of_outcome z) e) o.is_outcome e_in) in
     let first : FirstCast sha hash s ps course is_course (sid_of e) = first_cast sha hash s ps course is_course (sid_of e) (has_events wf.log l e l_in e_in) in
-    let text : In (hashed s wf) (session_text_of ec.cast) = in_right (map graph_text_of s.graphs) (flat_map (λ (l : Logged). l.notes.hashed) wf.log) (session_text_of ec.cast) ec.is_hashed in
+    let text : In (hashed s wf) (session_text_of ec.cast) = ec.is_hashed in
     let same : ec.cast ≡ first.cast = one_cast ec.cast first.cast ec.fits first.fits (free (session_text_of ec.cast) (session_text_of first.cast) (contains_from_in (hashed s wf) (session_text_of ec.cast) text) (contains_from_in (hashed s wf) (session_text_of first.cast) first.is_hashed) (ec.id ∙ sym first.sid_is)) in
     let its = rec_in (λ (q : Program). IsProgram sha q × In s.graphs q.graph) (o.n).programs ec.program (o.known).programs ec.there in
     let there : (g : Graph) → In s.graphs g → In (hashed s wf) (graph_text_of g) = λ g i. in_left (map graph_text_of s.graphs) (flat_map (λ (l : Logged). l.notes.hashed) wf.log) (graph_text_of g) (in_map graph_text_of s.graphs g i) in
@@ -73,8 +73,8 @@ event_of_cast sha hash s ps course is_course free l who e had =
     }
   where
     -- an entry with an event is a call's
-    its_origin : (l : Logged) (e : Event) → In (events_of_outcome l.outcome) e → ((l.call ≡ None) × (events_of_outcome l.outcome ≡ [])) ⊎ Origin sha hash s ps course is_course l → Origin sha hash s ps course is_course l
-    its_origin l e i (inl none) = absurd (subst (λ es. In es e) none.1 i)
+    its_origin : (l : Logged) (e : Event) → In (events_of_outcome l.outcome) e → Silent sha hash s ps course is_course l ⊎ Origin sha hash s ps course is_course l → Origin sha hash s ps course is_course l
+    its_origin l e i (inl none) = absurd (subst (λ es. In es e) none.events i)
     its_origin l e i (inr o) = o
 
 pub one_role : (sha : Hash) (s : Schedule) (w : World) → ((l : Logged) (who : Name) (e : Event) → HadEvent w l who e → IsOfCast sha s w l who e) → (l l' : Logged) (who : Name) (e e' : Event) → HadEvent w l who e → HadEvent w l' who e' → sid_of e ≡ sid_of e' → role_of e ≡ role_of e'

@@ -1,24 +1,20 @@
 -- The turn of a session with a sid is that of the one live session with it.
-use Rattle.std.specs.Prelude.{◌≡◌, ℕ, ◌≤◌, true, List, [], ◌∷◌, Contains, map, filter, find, flat_map, length, bytes_eq, refl, Option, Some, None, option_and_then}
+use Rattle.std.specs.Prelude.{◌≡◌, ℕ, ◌≤◌, true, List, [], ◌∷◌, map, filter, find, length, bytes_eq, refl, Option, Some, None, option_and_then}
 use Rattle.std.proofs.Common.{sym, ◌∙◌, ap, subst, inl, inr, arith}
 use Rattle.std.proofs.lemmas.Bool.{cases_Bool}
 use Rattle.sg_model.specs.Lists.{first_some}
 use Rattle.sg_model.specs.Names.{Name}
-use Rattle.sg_law.proofs.Members.{in_right}
-use Rattle.sg_law.proofs.Take.{contains_from_in}
-use Rattle.sg_law.proofs.Upto.{in_from_Contains}
-use Rattle.sg_protocol.specs.Texts.{Hash, IsHash, graph_text_of}
+use Rattle.sg_protocol.specs.Texts.{Hash, IsHash}
 use Rattle.sg_protocol.specs.Session.{Session}
 use Rattle.sg_protocol.specs.Node.{Node, session_with}
 use Rattle.sg_protocol.specs.Past.{Past, node_of}
 use Rattle.sg_protocol.specs.Schedule.{Schedule}
-use Rattle.sg_protocol.specs.World.{Logged, past_of}
+use Rattle.sg_protocol.specs.World.{past_of}
 use Rattle.sg_protocol.specs.Premises.{CollisionFree, hashed}
 use Rattle.sg_protocol.proofs.Isolation.{of_sid, find-filter}
 use Rattle.sg_protocol.specs.Turn.{turn_in, turn_of}
 use Rattle.sg_protocol.proofs.Happenings.{Happening, IsCourse, run_of}
 use Rattle.sg_protocol.proofs.KnownLogs.{logs_known}
-use Rattle.sg_protocol.proofs.KnownNodes.{nothing}
 
 -- of one live session the turn is that of the first
 module _ (n : Node) (sid : List ℕ) where
@@ -45,11 +41,5 @@ module _ (n : Node) (sid : List ℕ) where
 
 pub turn_is : (sha : Hash) (hash : IsHash sha) (s : Schedule) (ps : List Past) (course : List Happening) (is_course : IsCourse sha s ps course) → CollisionFree sha (hashed s (run_of sha ps course)) → (who : Name) (past : Past) (sid : List ℕ) → past_of (run_of sha ps course) who ≡ Some past → turn_of (node_of past) sid ≡ option_and_then (turn_in (node_of past).programs) (session_with (node_of past).live sid)
 turn_is sha hash s ps course is_course free who past sid its =
-    let k = (logs_known sha hash s ps course is_course).nodes who past its in
-    one_turn (node_of past) sid (filter (of_sid sid) (node_of past).live) refl (k.once fewer sid)
-  where
-    fewer : CollisionFree sha (hashed nothing (run_of sha ps course))
-    fewer a b i j e = free a b (there a i) (there b j) e
-      where
-        there : (t : List ℕ) → Contains (hashed nothing (run_of sha ps course)) t → Contains (hashed s (run_of sha ps course)) t
-        there t i = contains_from_in (hashed s (run_of sha ps course)) t (in_right (map graph_text_of s.graphs) (flat_map (λ (l : Logged). l.notes.hashed) (run_of sha ps course).log) t (in_from_Contains (hashed nothing (run_of sha ps course)) t i))
+    let k = ((logs_known sha hash s ps course is_course).nodes who past its).known in
+    one_turn (node_of past) sid (filter (of_sid sid) (node_of past).live) refl (k.once free sid)

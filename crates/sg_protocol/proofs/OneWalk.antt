@@ -1,5 +1,5 @@
 -- One walk explains each session of a run.
-use Rattle.std.specs.Prelude.{◌≡◌, ◌≢◌, ℕ, ◌+◌, ◌==◌, ◌&&◌, ◌⊎◌, Bool, true, false, List, [], ◌∷◌, ◌++◌, map, filter, flat_map, length, find, bytes_eq, refl, Option, Some, None, option_map, option_and_then}
+use Rattle.std.specs.Prelude.{◌≡◌, ◌≢◌, ℕ, ◌+◌, ◌==◌, ◌&&◌, ◌⊎◌, Bool, true, false, List, [], ◌∷◌, ◌++◌, map, filter, flat_map, length, find, bytes_eq, refl, Option, Some, None, option_and_then}
 use Rattle.std.specs.List.{AllByRecursion, list_any}
 use Rattle.std.specs.Option.{option_map_or}
 use Rattle.std.proofs.Common.{sym, ◌∙◌, ap, subst, inl, inr, append_assoc, append-nil}
@@ -22,6 +22,7 @@ use Rattle.sg_protocol.specs.Frame.{Cast}
 use Rattle.sg_protocol.specs.Texts.{Hash, IsHash, commitment, commitment_text_of, session_id, session_text_of, graph_text_of, graph_digest}
 use Rattle.sg_protocol.specs.TextLaws.{CastFits, OpeningFits}
 use Rattle.sg_protocol.specs.Keyring.{Program}
+use Rattle.sg_protocol.specs.Session.{Session}
 use Rattle.sg_protocol.specs.Calls.{Call, Answer, events_of_answer, sid_of}
 use Rattle.sg_protocol.specs.Node.{Node, program_for}
 use Rattle.sg_protocol.specs.NodeAfter.{node_after}
@@ -35,7 +36,7 @@ use Rattle.sg_protocol.specs.Premises.{hashed, Premises}
 use Rattle.sg_protocol.specs.Headline.{IsExplained}
 use Rattle.sg_protocol.specs.IsSchedule.{IsProgram}
 use Rattle.sg_protocol.specs.Bounds.{IsSession}
-use Rattle.sg_protocol.proofs.Progressing.{Suffix, node_more, next_past, past_called}
+use Rattle.sg_protocol.proofs.Progressing.{Suffix, node_more}
 use Rattle.sg_protocol.proofs.Calls.{NodeOk}
 use Rattle.sg_protocol.proofs.Finding.{find_passes, find_all}
 use Rattle.sg_protocol.proofs.First.{programs_after}
@@ -46,7 +47,7 @@ use Rattle.sg_protocol.proofs.TextLaws.{one_cast, one_opening}
 use Rattle.sg_protocol.proofs.Whole.{found_in, find_some}
 use Rattle.sg_protocol.proofs.Begun.{BegunBy, Either, call_first}
 use Rattle.sg_protocol.proofs.Going.{SessionInRun, Progress, Left, all_moves}
-use Rattle.sg_protocol.proofs.Happenings.{Happening, Asked, Idle, IsCourse, IsGiven, IsRight, Own, happens, all_happen, run_of, suffix_course}
+use Rattle.sg_protocol.proofs.Happenings.{Happening, Asked, Idle, IsCourse, IsGiven, IsRight, Own, are_programs, happens, all_happen, pasts_kept, run_of, suffix_course}
 
 none_any : {A : Type 0} (q : A → Bool) (xs : List A) → filter q xs ≡ [] → list_any q xs ≡ false
 none_any q [] e = refl
@@ -116,7 +117,7 @@ module _ (sha : Hash) (hash : IsHash sha) (s : Schedule) (ps : List Past) (cours
       called_first : Either sha sid n c (answer sha n c) (notes sha n c) → QuietIn (called sha w k who c past) ⊎ BegunIn (called sha w k who c past)
       called_first (inr b) = inr record { before = w.log; l = record { number = k; who = Some who; call = Some c; outcome = Answered (answer sha n c); frame = frame_in (answer sha n c); notes = notes sha n c }; rest = []; is = refl; none = q.none; node = n; own = subst (Own sha s) (sym at.1) at.0; call = c; answer_ = answer sha n c; is_call = refl; is_outcome = refl; begun = b }
       called_first (inl a) = inl record {
-        nodes = λ me p' e. nodes_ me p' (past_of w me) refl (sym (past_called sha w k who c past me) ∙ e);
+        nodes = pasts_kept sha w k who past its_past c (λ me y. Quiet y) mine (λ me y ne e. q.nodes me y e);
         none = no_events w.log _ q.none (ap (filter (λ e. bytes_eq (sid_of e) sid)) (append-nil (events_of_answer (answer sha n c))) ∙ a.0);
       }
         where
@@ -125,21 +126,6 @@ module _ (sha : Hash) (hash : IsHash sha) (s : Schedule) (ps : List Past) (cours
 
           mine : Quiet (past_after sha past c)
           mine = (at.0, ap (λ (m : Node). m.programs) node_is ∙ programs_after n c (answer sha n c) ∙ at.1, ap (λ (m : Node). filter (of_sid sid) m.live) node_is ∙ a.1)
-
-          nodes_ : (me : Name) (p' : Past) (o : Option Past) → past_of w me ≡ o → option_map (next_past sha who c) o ≡ Some p' → Quiet p'
-          nodes_ me p' None q' e = absurd (cc)
-          nodes_ me p' (Some y) q' e =
-              let r : next_past sha who c y ≡ p' = cc in
-              let is_me : y.keys.me ≡ me = same_bytes y.keys.me me (find_passes (λ (z : Past). bytes_eq z.keys.me me) w.pasts y q') in
-              elim (cases_Bool (bytes_eq y.keys.me who)) [
-                | inl h ↦
-                    let same : me ≡ who = sym is_me ∙ same_bytes y.keys.me who h in
-                    let two : Some y ≡ Some past = sym q' ∙ ap (past_of w) same ∙ its_past in
-                    let y_past : y ≡ past = cc in
-                    let after_ : past_after sha past c ≡ p' = ap (λ z. past_after sha z c) (sym y_past) ∙ (rw h at r) in
-                    subst Quiet after_ mine
-                | inr h ↦ (let r' : y ≡ p' = rw h at r in subst Quiet r' (q.nodes me y q'))
-              ]
 
     by_past : (w : World) (k : ℕ) → QuietIn w → (who : Name) (c : Call) → IsGiven c → (o : Option Past) → past_of w who ≡ o → QuietIn (option_map_or (called sha w k who c) o w) ⊎ BegunIn (option_map_or (called sha w k who c) o w)
     by_past w k q who c h None e = inl q
@@ -198,6 +184,24 @@ module _ (sha : Hash) (hash : IsHash sha) (s : Schedule) (ps : List Past) (cours
       | inr b ↦ from_begun b
     ]
 
+    none_there : (p : Session → Bool) (xs : List Session) (x : Session) → filter p xs ≡ [] → In xs x → p x ≡ true → ⊥
+    none_there p [] x e i h = i
+    none_there p (y ∷ ys) x e i h = elim (cases_Bool (p y)) [
+      | inl k ↦ (let f = rw k at e in absurd (cc))
+      | inr k ↦ elim i [ inl q ↦ absurd (let f : true ≡ false = sym h ∙ ap p q ∙ k in cc) | inr j ↦ none_there p ys x (rw k at e) j h ]
+    ]
+
+    -- if a node has a live session, the session has had an event
+    begun_live : (w : World) (k : ℕ) → QuietIn w → (hs gs : List Happening) → AllByRecursion IsRight (hs ++ gs) → (who : Name) (p : Past) → past_of (all_happen sha w k hs) who ≡ Some p → (x : Session) → In (node_of p).live x → of_sid sid x ≡ true → BegunIn (all_happen sha w k (hs ++ gs))
+    begun_live w k q [] gs right who p e x i h = absurd (none_there (of_sid sid) (node_of p).live x (q.nodes who p e).2 i h)
+    begun_live w k q (g ∷ hs) gs right who p e x i h = elim (one_first w k q g right.0) [
+      | inl q' ↦ begun_live (happens sha w k g) (k + 1) q' hs gs right.1 who p e x i h
+      | inr b ↦ begun_later (k + 1) (happens sha w k g) (all_happen sha (happens sha w k g) (k + 1) (hs ++ gs)) (suffix_course sha (happens sha w k g) (k + 1) (hs ++ gs)) b
+    ]
+
+    pub first_of_live : (hs gs : List Happening) → course ≡ hs ++ gs → (who : Name) (p : Past) → past_of (run_of sha ps hs) who ≡ Some p → (x : Session) → In (node_of p).live x → of_sid sid x ≡ true → FirstCast
+    first_of_live hs gs e who p its x i h = from_begun (subst (λ c. BegunIn (run_of sha ps c)) (sym e) (begun_live w0 1 quiet_new hs gs (subst (AllByRecursion IsRight) e is_course.right) who p its x i h))
+
     -- ---- the session
 
     module _ (premises : Premises sha s wf) (first : FirstCast) where
@@ -250,13 +254,9 @@ module _ (sha : Hash) (hash : IsHash sha) (s : Schedule) (ps : List Past) (cours
           programs_of = prog xs own;
           one_cast = the_cast;
         };
-        programs = only_programs;
+        programs = are_programs sha s;
         unforged = premises.unforged;
       }
-        where
-          only_programs : (xs : List Program) → (Own sha s) xs → AllByRecursion (IsProgram sha) xs
-          only_programs [] a = tt
-          only_programs (q ∷ xs) a = (a.0.0, only_programs xs a.1)
 
       pub begins : Progress known w0
       begins = record {

@@ -32,7 +32,7 @@ use Rattle.sg_law.proofs.Cut as Cut'
 use Rattle.sg_law.proofs.Upto as Upto'
 use Rattle.sg_law.proofs.Lists.{last-append, has-map}
 use Rattle.sg_law.proofs.Lists as Lists'
-use Rattle.sg_protocol.proofs.Origins.{key_same}
+use Rattle.sg_protocol.proofs.LiveSessions.{key_same}
 use Rattle.sg_law.proofs.Walks.{walk-append, end_of-append}
 use Rattle.sg_protocol.proofs.Entries.{Roles, edges_same}
 use Rattle.sg_protocol.proofs.Moves.{step}

@@ -1,18 +1,14 @@
 -- A receipt from an honest sender has its sending.
-use Rattle.std.specs.Prelude.{◌≡◌, ◌≢◌, ℕ, ◌+◌, true, List, [], ◌∷◌, ◌++◌, map, flat_map, bytes_eq, refl, Option, Some, None, option_map, option_and_then, unwrap_or, Result, Ok, Err}
-use Rattle.std.specs.List.{AllByRecursion}
+use Rattle.std.specs.Prelude.{◌≡◌, ◌≢◌, ℕ, ◌+◌, true, List, [], ◌∷◌, ◌++◌, map, flat_map, bytes_eq, refl, Option, Some, None, option_and_then, unwrap_or, Result, Ok, Err, ◌⊎◌}
 use Rattle.std.specs.Option.{option_map_or}
-use Rattle.std.proofs.Common.{sym, ◌∙◌, ap, subst, inl, inr, arith}
-use Rattle.std.proofs.lemmas.Bool.{cases_Bool}
-use Rattle.std.proofs.lemmas.List.Elements.{All-nil}
+use Rattle.std.proofs.Common.{sym, ◌∙◌, ap, subst, inl, inr}
 use Rattle.sg_model.specs.Last.{last}
 use Rattle.sg_model.specs.Names.{Name}
-use Rattle.sg_model.proofs.Small.{same_bytes}
 use Rattle.sg_law.proofs.Members.{in_right, in_flat, in_parts, rec_in}
 use Rattle.sg_law.proofs.Take.{contains_from_in}
 use Rattle.sg_law.proofs.Upto.{In, in_from_Contains}
 use Rattle.sg_protocol.specs.Frame.{Cast, Item, Frame}
-use Rattle.sg_protocol.specs.Spelling.{HasSpelling, SpellsFrame, spelling, body}
+use Rattle.sg_protocol.specs.Spelling.{SpellsFrame, spelling, body}
 use Rattle.sg_protocol.specs.Reading.{read}
 use Rattle.sg_protocol.specs.Texts.{Hash, IsHash, cut, hmac, frame_text_of, graph_text_of, session_id, session_text_of}
 use Rattle.sg_protocol.specs.TextLaws.{CastFits, untagged}
@@ -21,65 +17,28 @@ use Rattle.sg_protocol.specs.Session.{Session, principal, transcript, commitment
 use Rattle.sg_protocol.specs.Sending.{tag_for, text_of, text_to}
 use Rattle.sg_protocol.specs.Calls.{Event, Call, Start, Act, Abandon, Deliver, Answer, Happened, Sends, NotStarted, Refusal, StartFault, sid_of, role_of}
 use Rattle.sg_protocol.specs.Node.{Node, program_for}
-use Rattle.sg_protocol.specs.NodeAfter.{node_after}
 use Rattle.sg_protocol.specs.Acting.{answer, answer_act, openings_for}
 use Rattle.sg_protocol.specs.Verdict.{decided, receipt, rows, verdict_on}
 use Rattle.sg_model.specs.Lists.{first_some}
 use Rattle.sg_protocol.specs.Notes.{Note, Notes, note_of, notes, no_notes, notes_of_start, notes_of_act, notes_of_sent, notes_of_read, notes_in_session, session_of_frame, row_number}
-use Rattle.sg_protocol.specs.Past.{Past, node_of, new_node, past_after}
+use Rattle.sg_protocol.specs.Past.{Past}
 use Rattle.sg_protocol.specs.Schedule.{Schedule, is_honest, honest_role}
-use Rattle.sg_protocol.specs.World.{World, Logged, Outcome, Answered, past_of}
-use Rattle.sg_protocol.specs.Run.{called, uncalled, frame_in, events_of, events_of_outcome, cast_in, cast_of_session}
+use Rattle.sg_protocol.specs.World.{World, Logged, Answered}
+use Rattle.sg_protocol.specs.Run.{frame_in, events_of, cast_in, cast_of_session}
 use Rattle.sg_protocol.specs.Premises.{hashed, MadeBefore, Premises}
-use Rattle.sg_protocol.specs.IsSchedule.{AreCompiled, IsSchedule, IsProgram}
 use Rattle.sg_protocol.specs.Bounds.{IsSession}
 use Rattle.sg_protocol.specs.Receipts.{IsTaken, WasSent}
 use Rattle.sg_protocol.proofs.Acts as C
-use Rattle.sg_protocol.proofs.Progressing.{Suffix, node_more, next_past, past_called, in_after}
-use Rattle.sg_protocol.proofs.Finding.{find_passes}
-use Rattle.sg_protocol.proofs.First.{programs_after}
 use Rattle.sg_protocol.proofs.Moves.{note_text, note_both}
 use Rattle.sg_protocol.proofs.Nodes.{ActSent, act_sends, start_sends, abandon_sends, deliver_sends}
 use Rattle.sg_protocol.proofs.ReadBack.{read-SpellsFrame}
-use Rattle.sg_protocol.proofs.Origins as S
+use Rattle.sg_protocol.proofs.LiveSessions.{Known, Took_, act_event, no_entry, took}
+use Rattle.sg_protocol.proofs.KnownLogs.{Origin, Silent, logs_known}
 use Rattle.sg_protocol.proofs.TextLaws as TL
 use Rattle.sg_protocol.proofs.TextLaws.{kinds_differ}
 use Rattle.sg_protocol.proofs.Whole.{found_in}
-use Rattle.sg_protocol.proofs.OneWalk.{FirstCast, first_cast, node_begins}
-use Rattle.sg_protocol.proofs.Happenings.{Happening, IsCourse, IsGiven, IsRight, given_in_range, given_sends, keep_course, key_at, HaveOneKey, pasts_kept, run_of}
-
--- ---- a schedule of nobody, under which a session's texts are hashed by calls alone
-
-abbrev pub nobody : Schedule
-nobody = record { graphs = []; honest = []; keys = []; sessions = []; steps = [] }
-
-pub nobody_compiled : (sha : Hash) → AreCompiled sha [] []
-nobody_compiled sha = record { each = All-nil (IsProgram sha); all = refl }
-
-pub nobody_is : (sha : Hash) → IsSchedule sha nobody
-nobody_is sha = record {
-  are_graphs = All-nil _;
-  graph_names = refl;
-  honest_names = refl;
-  keys = All-nil _;
-  pairs = λ i j d lt within. absurd (omega (arith, within));
-  sessions = All-nil _;
-  steps = All-nil _;
-}
-
--- the key that a principal holds for another stays the same
-next_keys : (sha : Hash) (who : Name) (c : Call) (p : Past) → (next_past sha who c p).keys ≡ p.keys
-next_keys sha who c p = elim (cases_Bool (bytes_eq p.keys.me who)) [ inl e ↦ rw e refl | inr e ↦ rw e refl ]
-
-pub key_called : (sha : Hash) (w : World) (k : ℕ) (who : Name) (c : Call) (past : Past) (a b : Name) → key_at (called sha w k who c past) a b ≡ key_at w a b
-key_called sha w k who c past a b = ap (option_and_then (λ (p : Past). key_of p.keys b)) (past_called sha w k who c past a) ∙ go (past_of w a)
-  where
-    go : (o : Option Past) → option_and_then (λ (p : Past). key_of p.keys b) (option_map (next_past sha who c) o) ≡ option_and_then (λ (p : Past). key_of p.keys b) o
-    go None = refl
-    go (Some p) = ap (λ z. key_of z b) (next_keys sha who c p)
-
-pub key_kept : (sha : Hash) (ps : List Past) (course : List Happening) → AllByRecursion IsRight course → (a b : Name) → key_at (run_of sha ps course) a b ≡ key_at (record { pasts = ps; log = [] }) a b
-key_kept sha ps course right a b = keep_course sha (run_of sha ps course) (λ w. key_at w a b ≡ key_at (record { pasts = ps; log = [] }) a b) (λ w k h who o fr e. h) (λ w k h who past q c r after. key_called sha w k who c past a b ∙ h) (record { pasts = ps; log = [] }) 1 refl course right refl
+use Rattle.sg_protocol.proofs.OneWalk.{FirstCast, first_cast}
+use Rattle.sg_protocol.proofs.Happenings.{Happening, IsCourse, IsGiven, are_programs, given_sends, key_at, key_kept, HaveOneKey, run_of}
 
 -- ---- where a note was made
 
@@ -164,130 +123,11 @@ module _ (sha : Hash) (hash : IsHash sha) (s : Schedule) (ps : List Past) (cours
   abbrev wf : World
   wf = run_of sha ps course
 
-  -- what is known of a live session of a principal
-  abbrev Known : Name → Session → Type 0
-  Known who x = S.Known sha hash [] nobody (nobody_compiled sha) (nobody_is sha) (run_of sha ps course) who x
+  abbrev Hashed : List ℕ → Type 0
+  Hashed t = In (hashed s (run_of sha ps course)) t
 
-  -- a principal on the way
-  record Is (who : Name) (p : Past) : Type 0 where
-    me : (node_of p).keys.me ≡ who
-    keys : (node_of p).keys ≡ p.keys
-    honest : is_honest s who ≡ true
-    programs : AllByRecursion (IsProgram sha) (node_of p).programs
-    live : AllByRecursion IsSession (node_of p).live
-    known : AllByRecursion (Known who) (node_of p).live
-
-  -- where an entry of the log comes from
-  record Origin (l : Logged) : Type 0 where
-    who : Name
-    n : Node
-    c : Call
-    is_who : l.who ≡ Some who
-    is_call : l.call ≡ Some c
-    is_outcome : l.outcome ≡ Answered (answer sha n c)
-    is_frame : l.frame ≡ frame_in (answer sha n c)
-    is_notes : l.notes ≡ notes sha n c
-    me : n.keys.me ≡ who
-    held : (other : Name) → key_of n.keys other ≡ key_at (record { pasts = ps; log = [] }) who other
-    honest : is_honest s who ≡ true
-    live : AllByRecursion IsSession n.live
-    known : AllByRecursion (Known who) n.live
-    spelled : (e : Event) (to : Name) (f : Frame) → answer sha n c ≡ Sends e to f → HasSpelling f
-    in_range : IsGiven c
-
-  record Logs (w : World) : Type 0 where
-    logs : (l : Logged) (c : Call) → In w.log l → l.call ≡ Some c → Origin l
-    quiet : (l : Logged) (nt : Note) → In w.log l → l.call ≡ None → In l.notes.made nt → ⊥
-    nodes : (who : Name) (p : Past) → past_of w who ≡ Some p → Is who p
-    keys : (a b : Name) → key_at w a b ≡ key_at (record { pasts = ps; log = [] }) a b
-
-  logs_called : (w : World) (k : ℕ) → Logs w → (who : Name) (past : Past) → past_of w who ≡ Some past → (c : Call) → IsGiven c → Suffix (k + 1) (called sha w k who c past).log wf.log → Logs (called sha w k who c past)
-  logs_called w k q who past its_past c good after = record {
-    logs = λ l d i e. elim (in_parts w.log _ l i) [ inl a ↦ q.logs l d a e | inr a ↦ elim a [ inl b ↦ subst Origin (sym b) origin | inr b ↦ absurd b ] ];
-    quiet = λ l nt i e j. elim (in_parts w.log _ l i) [ inl a ↦ q.quiet l nt a e j | inr a ↦ elim a [ inl b ↦ absurd (let h : Some c ≡ None = ap (λ (z : Logged). z.call) (sym b) ∙ e in cc) | inr b ↦ absurd b ] ];
-    nodes = λ me p' e. pasts_kept sha w k who past its_past c Is next (λ me y ne h. q.nodes me y h) me p' e;
-    keys = λ a b. key_called sha w k who c past a b ∙ q.keys a b;
-  }
-    where
-      entry_ : Logged
-      entry_ = record { number = k; who = Some who; call = Some c; outcome = Answered (answer sha (node_of past) c); frame = frame_in (answer sha (node_of past) c); notes = notes sha (node_of past) c }
-
-      at : Is who past
-      at = q.nodes who past its_past
-
-      hs : (t : List ℕ) → In (notes sha (node_of past) c).hashed t → In (hashed nobody wf) t
-      hs t i = in_flat (λ (l : Logged). l.notes.hashed) wf.log (record { number = k; who = Some who; call = Some c; outcome = Answered (answer sha (node_of past) c); frame = frame_in (answer sha (node_of past) c); notes = notes sha (node_of past) c }) t
-          (in_after (k + 1) (called sha w k who c past).log wf.log after (record { number = k; who = Some who; call = Some c; outcome = Answered (answer sha (node_of past) c); frame = frame_in (answer sha (node_of past) c); notes = notes sha (node_of past) c }) (C.in_last w.log (record { number = k; who = Some who; call = Some c; outcome = Answered (answer sha (node_of past) c); frame = frame_in (answer sha (node_of past) c); notes = notes sha (node_of past) c }))) i
-
-      origin : Origin (record { number = k; who = Some who; call = Some c; outcome = Answered (answer sha (node_of past) c); frame = frame_in (answer sha (node_of past) c); notes = notes sha (node_of past) c })
-      origin = record {
-        who = who;
-        n = node_of past;
-        c = c;
-        is_who = refl;
-        is_call = refl;
-        is_outcome = refl;
-        is_frame = refl;
-        is_notes = refl;
-        me = at.me;
-        held = λ other. ap (λ z. key_of z other) at.keys ∙ sym (ap (option_and_then (λ (p : Past). key_of p.keys other)) its_past) ∙ q.keys who other;
-        honest = at.honest;
-        live = at.live;
-        known = at.known;
-        spelled = λ e to f a. (given_sends sha hash (node_of past) at.programs at.live c good e to f a).spelled;
-        in_range = good;
-      }
-
-      node_is : node_of (past_after sha past c) ≡ node_after (node_of past) c (answer sha (node_of past) c)
-      node_is = node_more (new_node past.keys past.programs past.first) past.calls (record { call = c; answer = answer sha (node_of past) c })
-
-      keys_are : (node_of (past_after sha past c)).keys ≡ (node_of past).keys
-      keys_are = ap (λ (m : Node). m.keys) node_is ∙ S.keys_after sha hash [] nobody (nobody_compiled sha) (nobody_is sha) wf (node_of past) c (answer sha (node_of past) c)
-
-      next : Is who (past_after sha past c)
-      next = record {
-        me = ap (λ z. z.me) keys_are ∙ at.me;
-        keys = keys_are ∙ at.keys;
-        honest = at.honest;
-        programs = subst (AllByRecursion (IsProgram sha)) (sym (ap (λ (m : Node). m.programs) node_is ∙ programs_after (node_of past) c (answer sha (node_of past) c))) at.programs;
-        live = subst (λ (m : Node). AllByRecursion IsSession m.live) (sym node_is) (given_in_range sha hash (node_of past) at.programs at.live c good);
-        known = subst (λ (m : Node). AllByRecursion (Known who) m.live) (sym node_is) (S.call_known sha hash [] nobody (nobody_compiled sha) (nobody_is sha) wf who (node_of past) at.me at.known c hs);
-      }
-
-  logs_idle : (w : World) (k : ℕ) → Logs w → (who : Option Name) (o : Outcome) (fr : Option (List ℕ)) → events_of_outcome o ≡ [] → Logs (uncalled w k who o fr)
-  logs_idle w k q who o fr none = record {
-    logs = λ l d i e. elim (in_parts w.log _ l i) [ inl a ↦ q.logs l d a e | inr a ↦ elim a [ inl b ↦ absurd (let h : None ≡ Some d = ap (λ (z : Logged). z.call) (sym b) ∙ e in cc) | inr b ↦ absurd b ] ];
-    quiet = λ l nt i e j. elim (in_parts w.log _ l i) [ inl a ↦ q.quiet l nt a e j | inr a ↦ elim a [ inl b ↦ absurd (subst (λ (z : Logged). In z.notes.made nt) b j) | inr b ↦ absurd b ] ];
-    nodes = q.nodes;
-    keys = q.keys;
-  }
-
-  logs_new : Logs w0
-  logs_new = record {
-    logs = λ l c i e. absurd i;
-    quiet = λ l nt i e j. absurd i;
-    nodes = λ who p e. first who p e (found_in (λ (p : Past). bytes_eq p.keys.me who) ps p e);
-    keys = λ a b. refl;
-  }
-    where
-      only_programs : (xs : List Program) → AllByRecursion (λ (q : Program). IsProgram sha q × In s.graphs q.graph) xs → AllByRecursion (IsProgram sha) xs
-      only_programs [] a = tt
-      only_programs (q ∷ xs) a = (a.0.0, only_programs xs a.1)
-
-      first : (who : Name) (p : Past) → past_of (record { pasts = ps; log = [] }) who ≡ Some p → In ps p → Is who p
-      first who p e i =
-          let b : node_of p ≡ new_node p.keys p.programs p.first = node_begins sha hash s ps course is_course p i in
-          record {
-            me = ap (λ (n : Node). n.keys.me) b ∙ same_bytes p.keys.me who (find_passes (λ (p : Past). bytes_eq p.keys.me who) ps p e);
-            keys = ap (λ (n : Node). n.keys) b;
-            honest = is_course.honest who p e;
-            programs = subst (AllByRecursion (IsProgram sha)) (sym (ap (λ (n : Node). n.programs) b)) (only_programs p.programs (is_course.own p i));
-            live = subst (λ (n : Node). AllByRecursion IsSession n.live) (sym b) tt;
-            known = subst (λ (n : Node). AllByRecursion (Known who) n.live) (sym b) tt;
-          }
-
-  all_logs : Logs wf
-  all_logs = keep_course sha wf Logs logs_idle logs_called w0 1 logs_new course is_course.right refl
+  logs : (l : Logged) → In wf.log l → Silent sha hash s ps course is_course l ⊎ Origin sha hash s ps course is_course l
+  logs = (logs_known sha hash s ps course is_course).logs
 
   -- ---- the receipt and the sending
 
@@ -296,8 +136,8 @@ module _ (sha : Hash) (hash : IsHash sha) (s : Schedule) (ps : List Past) (cours
     l_in : In wf.log l
     l_in = in_from_Contains wf.log l taken.0
 
-    o : Origin l
-    o = all_logs.logs l (Deliver bs) l_in taken.2
+    o : Origin sha hash s ps course is_course l
+    o = elim (logs l l_in) [ inl q ↦ absurd (let z : None ≡ Some (Deliver bs) = sym q.call ∙ taken.2 in cc) | inr r ↦ r ]
 
     call_is : o.c ≡ Deliver bs
     call_is = (let a : Some o.c ≡ Some (Deliver bs) = sym o.is_call ∙ taken.2 in cc)
@@ -308,12 +148,8 @@ module _ (sha : Hash) (hash : IsHash sha) (s : Schedule) (ps : List Past) (cours
     first_is : first.cast ≡ cast
     first_is = (let a : Some first.cast ≡ Some cast = sym first.is_cast ∙ is_cast_ in cc)
 
-    -- what calls hashed
-    by_calls : (t : List ℕ) → In (hashed nobody wf) t → In (hashed s wf) t
-    by_calls t i = in_right (map graph_text_of s.graphs) (flat_map (λ (z : Logged). z.notes.hashed) wf.log) t i
-
-    with_sid : (c : Cast) → CastFits c → In (hashed nobody wf) (session_text_of c) → session_id sha c ≡ f.sid → c ≡ cast
-    with_sid c fits i e = TL.one_cast c first.cast fits first.fits (premises.collision_free (session_text_of c) (session_text_of first.cast) (contains_from_in (hashed s wf) (session_text_of c) (by_calls (session_text_of c) i)) (contains_from_in (hashed s wf) (session_text_of first.cast) first.is_hashed) (e ∙ sym first.sid_is)) ∙ first_is
+    with_sid : (c : Cast) → CastFits c → In (hashed s wf) (session_text_of c) → session_id sha c ≡ f.sid → c ≡ cast
+    with_sid c fits i e = TL.one_cast c first.cast fits first.fits (premises.collision_free (session_text_of c) (session_text_of first.cast) (contains_from_in (hashed s wf) (session_text_of c) i) (contains_from_in (hashed s wf) (session_text_of first.cast) first.is_hashed) (e ∙ sym first.sid_is)) ∙ first_is
 
     spells : SpellsFrame bs f
     spells = read-SpellsFrame bs f (subst IsGiven call_is o.in_range) taken.3
@@ -324,9 +160,9 @@ module _ (sha : Hash) (hash : IsHash sha) (s : Schedule) (ps : List Past) (cours
     notes_l : l.notes ≡ notes_of_read sha o.n (Ok f)
     notes_l = o.is_notes ∙ ap (notes sha o.n) call_is ∙ ap (notes_of_read sha o.n) taken.3
 
-    t : S.Took_ sha hash [] nobody (nobody_compiled sha) (nobody_is sha) wf o.who o.n f (notes_of_read sha o.n (Ok f))
-    t = S.took sha hash [] nobody (nobody_compiled sha) (nobody_is sha) wf o.who o.n o.me o.known o.live f spells.is_frame rows_none
-        (λ y i. in_flat (λ (z : Logged). z.notes.hashed) wf.log l y l_in (subst (λ (z : Notes). In z.hashed y) (sym notes_l) i))
+    t : Took_ sha Hashed o.who o.n f (notes_of_read sha o.n (Ok f))
+    t = took sha Hashed o.who o.n (o.known).me (o.known).known (o.known).fits f spells.is_frame rows_none
+        (λ y i. in_right (map graph_text_of s.graphs) (flat_map (λ (z : Logged). z.notes.hashed) wf.log) y (in_flat (λ (z : Logged). z.notes.hashed) wf.log l y l_in (subst (λ (z : Notes). In z.hashed y) (sym notes_l) i)))
 
     cast_is : t.cast ≡ cast
     cast_is = with_sid t.cast t.fits t.is_hashed t.id
@@ -336,19 +172,15 @@ module _ (sha : Hash) (hash : IsHash sha) (s : Schedule) (ps : List Past) (cours
 
     made_before : MadeBefore l.number its_note wf.log
     made_before =
-        let both = note_both (λ z. is_honest s z ≡ true) (o.n).keys.me (principal t.cast f.sender) (text_of f) (ap (is_honest s) o.me ∙ o.honest) (ap (λ (c : Cast). is_honest s (principal c f.sender)) cast_is ∙ hon) in
+        let both = note_both (λ z. is_honest s z ≡ true) (o.n).keys.me (principal t.cast f.sender) (text_of f) (ap (is_honest s) (o.known).me ∙ o.honest) (ap (λ (c : Cast). is_honest s (principal c f.sender)) cast_is ∙ hon) in
         premises.unforged l its_note taken.0 (contains_from_in l.notes.found _ (subst (λ (z : Notes). In z.found its_note) (sym notes_l) t.found)) both.0 both.1
 
     -- it was noted of a call
-    its_call : (c : Call) × ((made_before.0).call ≡ Some c)
-    its_call = go (made_before.0).call refl
-      where
-        go : (d : Option Call) → (made_before.0).call ≡ d → (c : Call) × ((made_before.0).call ≡ Some c)
-        go None e = absurd (all_logs.quiet made_before.0 its_note (in_from_Contains wf.log made_before.0 made_before.1) e (in_from_Contains (made_before.0).notes.made its_note made_before.3))
-        go (Some c) e = (c, e)
-
-    o' : Origin made_before.0
-    o' = all_logs.logs made_before.0 its_call.0 (in_from_Contains wf.log made_before.0 made_before.1) its_call.1
+    o' : Origin sha hash s ps course is_course made_before.0
+    o' = elim (logs made_before.0 (in_from_Contains wf.log made_before.0 made_before.1)) [
+      | inl q ↦ absurd (subst (λ (z : Notes). In z.made its_note) q.notes (in_from_Contains (made_before.0).notes.made its_note made_before.3))
+      | inr r ↦ r
+    ]
 
     -- the frame whose text the sender had tagged
     g : Gave sha o'.n o'.c its_note.text
@@ -358,13 +190,13 @@ module _ (sha : Hash) (hash : IsHash sha) (s : Schedule) (ps : List Past) (cours
     same_text_ = sym (note_text (o.n).keys.me (principal t.cast f.sender) (text_of f)) ∙ g.is_text
 
     same_but_tag : untagged f ≡ untagged g.f
-    same_but_tag = TL.one_frame f.version (g.f).version f g.f spells.is_frame (o'.spelled g.e g.to g.f g.is_answer) same_text_
+    same_but_tag = TL.one_frame f.version (g.f).version f g.f spells.is_frame (given_sends sha hash o'.n (are_programs sha s (o'.n).programs (o'.known).programs) (o'.known).fits o'.c o'.in_range g.e g.to g.f g.is_answer).spelled same_text_
 
-    its_known : Known o'.who g.x
-    its_known = rec_in (Known o'.who) (o'.n).live g.x o'.known g.there
+    its_known : Known sha Hashed o'.who g.x
+    its_known = rec_in (Known sha Hashed o'.who) (o'.n).live g.x (o'.known).known g.there
 
     in_range_ : IsSession g.x
-    in_range_ = rec_in IsSession (o'.n).live g.x o'.live g.there
+    in_range_ = rec_in IsSession (o'.n).live g.x (o'.known).fits g.there
 
     sid_same : f.sid ≡ (g.f).sid
     sid_same = ap (λ (z : Frame). z.sid) same_but_tag
@@ -385,7 +217,7 @@ module _ (sha : Hash) (hash : IsHash sha) (s : Schedule) (ps : List Past) (cours
     with_its = ap (λ (z : Frame). record z { tag = (g.f).tag }) same_but_tag
 
     event_of : (n : Node) (c : Call) (e : Event) (to : Name) (f : Frame) → answer sha n c ≡ Sends e to f → (sid_of e ≡ f.sid) × (role_of e ≡ f.sender)
-    event_of n (Act sid0 label values confs) e to f a = S.act_event sha hash [] nobody (nobody_compiled sha) (nobody_is sha) wf n sid0 label values confs e to f a
+    event_of n (Act sid0 label values confs) e to f a = act_event sha n sid0 label values confs e to f a
     event_of n (Start c) e to f a = absurd (start_sends sha n c e to f a)
     event_of n (Abandon sid0) e to f a = absurd (abandon_sends sha n sid0 e to f a)
     event_of n (Deliver bs) e to f a = absurd (deliver_sends sha n bs e to f a)
@@ -433,7 +265,7 @@ module _ (sha : Hash) (hash : IsHash sha) (s : Schedule) (ps : List Past) (cours
 
 -- a session with a cast has an event
 pub some_event : (sid : List ℕ) (log : List Logged) (cast : Cast) → cast_of_session sid log ≡ Some cast → events_of sid log ≢ []
-some_event sid log cast e none = (let n : cast_of_session sid log ≡ None = ap (option_and_then (λ (l : Logged). option_and_then cast_in l.call)) (S.no_entry sid log none) in absurd (cc))
+some_event sid log cast e none = (let n : cast_of_session sid log ≡ None = ap (option_and_then (λ (l : Logged). option_and_then cast_in l.call)) (no_entry sid log none) in absurd (cc))
 
 pub receipts_are_of_sends : (sha : Hash) (hash : IsHash sha) (s : Schedule) (ps : List Past) (course : List Happening) (is_course : IsCourse sha s ps course) → Premises sha s (run_of sha ps course)
     → (l : Logged) (who : Name) (bs : List ℕ) (f : Frame) (cast : Cast) → IsTaken (run_of sha ps course) l who bs f → cast_of_session f.sid (run_of sha ps course).log ≡ Some cast → honest_role s cast f.sender ≡ true

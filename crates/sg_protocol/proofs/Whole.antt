@@ -1,4 +1,4 @@
--- Each session of a run follows one walk.
+-- Graphs with one text, look-ups, and the pasts with which a schedule begins.
 use Rattle.std.specs.Prelude.{codes, ◌≡◌, ℕ, nat_le, ◌||◌, ◌&&◌, ◌⊎◌, Bool, true, false, not, List, [], ◌∷◌, ◌++◌, map, flat_map, length, find, bytes_eq, refl, Some}
 use Rattle.std.specs.List.{list_all, AllByRecursion}
 use Rattle.std.proofs.Common.{sym, ◌∙◌, ap, subst, inl, inr, append_assoc}
@@ -11,17 +11,14 @@ use Rattle.sg_protocol.specs.Frame.{Cast}
 use Rattle.sg_protocol.specs.Session.{principal}
 use Rattle.std.specs.Prelude.{zero, suc, ◌<◌, get_or}
 use Rattle.std.proofs.Common.{arith}
-use Rattle.sg_protocol.specs.Texts.{Hash, session_id, session_text_of}
+use Rattle.sg_protocol.specs.Texts.{Hash}
 use Rattle.sg_protocol.specs.Keyring.{Program}
 use Rattle.sg_protocol.specs.Schedule.{Schedule, honest_role, PairKey}
 use Rattle.sg_law.proofs.Upto.{In}
 use Rattle.sg_model.specs.Lists.{has_text}
-use Rattle.sg_protocol.specs.TextLaws.{CastFits}
 use Rattle.sg_protocol.proofs.Acts as C
 use Rattle.sg_protocol.specs.Past.{Past}
-use Rattle.sg_protocol.specs.World.{World, keyring_of}
-use Rattle.sg_protocol.specs.Run.{cast_of_session}
-use Rattle.sg_protocol.specs.Premises.{hashed}
+use Rattle.sg_protocol.specs.World.{keyring_of}
 use Rattle.sg_protocol.specs.IsSchedule.{IsSchedule, AreCompiled, parts}
 use Rattle.sg_model.specs.Names.{is_name, is_name_byte, is_letter, reserved}
 use Rattle.sg_model.proofs.Small.{same_bytes, clash}
@@ -166,19 +163,6 @@ has_past keys programs (n ∷ ns) who h = elim (cases_Bool (bytes_eq n who)) [
 
     differs : (b : Bool) → b ≡ true → b ≡ false → ⊥
     differs b t f = absurd (cc)
-
--- what the first event of a session says
-pub record FirstCast (sha : Hash) (s : Schedule) (programs : List Program) (sid : List ℕ) (wf : World) : Type 0 where
-  pub cast : Cast
-  pub is_cast : cast_of_session sid wf.log ≡ Some cast
-  pub sid_is : session_id sha cast ≡ sid
-  pub fits : CastFits cast
-  pub is_hashed : In (hashed s wf) (session_text_of cast)
-  pub program : Program
-  pub there : In programs program
-  pub digest : program.digest ≡ cast.graph
-  pub differ : all_differ cast.names ≡ true
-  pub lengths : length cast.names ≡ length program.graph.roles
 
 -- an honest role is one of the cast
 pub honest_inside : (sha : Hash) (s : Schedule) → IsSchedule sha s → (c : Cast) (k : ℕ) → honest_role s c k ≡ true → k < length c.names

@@ -9,7 +9,8 @@
 //! `Past`, `Notes`, `Schedule`, `World`, `Crafted`, `Run`, `Premises`, `Walk`, `IsSchedule`, `Headline`. What code keeps and may
 //! rely on: `Kept`, `Representation`, `Following`, `Live`, `Reachable`, `NodeStates`, `Ranges`. What a replay reports: `Explaining`, `Steps`,
 //! `Broken`, `Turn`, `Named`. What else holds: `Isolation`, `Receipts`, `LastSteps`, `Completeness`, `GoesOn`, `Claims`, `Restarts`. Examples
-//! are computed in `proofs/Example*.antt`; of the proofs read `proofs/Whole.antt` first, which puts the headline together.
+//! are computed in `proofs/Example*.antt`. The laws of runs are proved of any course of happenings (`proofs/Happenings.antt`), which the
+//! run of a schedule is (`proofs/Courses.antt`); of the proofs read `proofs/OneWalk.antt` first, which puts the headline together.
 #![tactic(auto)]
 
 ghost use Rattle.std.specs.Prelude.{◌≡◌, ◌++◌, ℕ, List, [], Ok};

@@ -1,5 +1,5 @@
--- Where the entries of a log come from, and what is known of the live sessions of nodes.
-use Rattle.std.specs.Prelude.{◌≡◌, ◌≢◌, ℕ, ◌+◌, ◌==◌, nat_lt, nat_le, ◌&&◌, ◌⊎◌, Bool, true, false, not, List, [], ◌∷◌, map, filter, flat_map, length, find, position, bytes_eq, refl, Option, Some, None, option_map, IfSome}
+-- What is known of the live sessions of nodes, and what a receipt checked.
+use Rattle.std.specs.Prelude.{◌≡◌, ◌≢◌, ℕ, ◌+◌, ◌==◌, nat_lt, nat_le, ◌&&◌, ◌⊎◌, Bool, true, false, not, List, [], ◌∷◌, filter, flat_map, length, find, position, bytes_eq, refl, Option, Some, None, option_map, IfSome}
 use Rattle.std.specs.List.{list_any, AllByRecursion}
 use Rattle.std.specs.Option.{option_map_or}
 use Rattle.std.proofs.Common.{sym, ◌∙◌, ap, subst, inl, inr}
@@ -10,8 +10,8 @@ use Rattle.sg_model.specs.Lists.{first_some}
 use Rattle.sg_model.specs.Values.{Value}
 use Rattle.sg_model.specs.Names.{Name}
 use Rattle.sg_protocol.specs.Frame.{Cast, Item, Frame, IsCastOf}
-use Rattle.sg_protocol.specs.Spelling.{spelling, HasSpelling}
-use Rattle.sg_protocol.specs.Texts.{Hash, IsHash, session_id, session_text_of, graph_text_of}
+use Rattle.sg_protocol.specs.Spelling.{HasSpelling}
+use Rattle.sg_protocol.specs.Texts.{Hash, session_id, session_text_of}
 use Rattle.sg_protocol.specs.TextLaws.{IsVersion, CastFits}
 use Rattle.sg_protocol.specs.Keyring.{Keyring, Program, key_of}
 use Rattle.sg_protocol.specs.Session.{Session, Exchange, Took, Gave, principal, own_time, time, at_turn, extended, new_session}
@@ -19,31 +19,23 @@ use Rattle.sg_protocol.specs.Sending.{text_of, frame_sent, tag_for}
 use Rattle.sg_protocol.specs.Checks.{texts_checked}
 use Rattle.sg_protocol.specs.Calls.{Refusal, BadFrameTag, NoSuchView, BadEvidence, BadOpening, ActFault, Event, Started, Sent, Received, Call, Start, Act, Abandon, Deliver, Answer, Happened, Sends, Abandoned, NotStarted, NotActed, StartFault, UnknownGraph, UnknownSession, NotWaiting, BadCast, BadSession, UnknownPeer, Joined, CacheFull, SessionsFull, sid_of, role_of}
 use Rattle.sg_protocol.specs.Verdict.{row, rows_of_session, has_frame_tag, is_shown, bad_time, has_item_tag, is_right, decided, receipt, verdict_on, rows_of_join, rows_of_next, join_rows, next_rows, rows}
-use Rattle.sg_protocol.specs.Notes.{Note, note_of, notes_in_session, Notes, notes, notes_of_start, no_notes, notes_of_read, session_of_frame, hashed_of_join, row_number}
-use Rattle.sg_protocol.specs.Schedule.{Schedule, is_honest, Step, StartStep, ActStep, AbandonStep, DeliverStep, CraftStep, PairKey, cast_of, sid_at, confounder}
+use Rattle.sg_protocol.specs.Notes.{note_of, notes_in_session, Notes, notes, notes_of_start, no_notes, notes_of_read, session_of_frame, hashed_of_join, row_number}
+use Rattle.sg_protocol.specs.Schedule.{PairKey}
 use Rattle.sg_law.proofs.Upto.{In}
 use Rattle.sg_protocol.proofs.Moves.{row_none}
 use Rattle.sg_protocol.specs.Acting.{rows_of_act, openings_for, answer, started, acted, sent, rows_of_start}
 use Rattle.std.specs.Prelude.{Result, Ok, Err, option_and_then}
-use Rattle.sg_model.specs.Bytes.{IsBytes}
 use Rattle.sg_model.proofs.Small.{same_bytes, none_parts, both_nil, all-append}
-use Rattle.sg_law.proofs.Members.{in_left, in_right, in_flat, in_parts}
+use Rattle.sg_law.proofs.Members.{in_left}
 use Rattle.sg_protocol.specs.Reading.{read}
 use Rattle.sg_protocol.specs.Node.{Node, is_for, is_cast, stranger, session_with, session_for, has_joined, program_for, starter}
 use Rattle.sg_protocol.specs.NodeAfter.{node_after, joined, goes_on, replace, still, is_over, takes_read}
-use Rattle.sg_protocol.proofs.Acts as C
-use Rattle.sg_protocol.specs.Past.{Past, node_of, new_node, past_after}
-use Rattle.sg_protocol.specs.World.{World, Logged, Outcome, Answered, Crafted, past_of, new_world, call_of, bytes_of, keyring_of}
-use Rattle.sg_protocol.specs.Run.{called, called_if, uncalled, world_after, world_after_all, frame_in, events_of, events_of_outcome}
-use Rattle.sg_protocol.specs.Crafted.{crafted}
+use Rattle.sg_protocol.specs.World.{Logged, keyring_of}
+use Rattle.sg_protocol.specs.Run.{events_of, events_of_outcome}
 use Rattle.sg_protocol.specs.Premises.{hashed}
-use Rattle.sg_protocol.specs.IsSchedule.{IsSchedule, IsStep, AreCompiled}
 use Rattle.sg_protocol.proofs.Finding.{find_passes, find_all}
 use Rattle.sg_protocol.proofs.TextLaws as TL
-use Rattle.sg_protocol.proofs.Progressing.{past_called, next_past, node_more, Suffix, suffix_all, in_after}
-use Rattle.sg_protocol.proofs.Whole.{first_past}
 use Rattle.sg_protocol.proofs.Sent.{FitSession}
-use Rattle.sg_protocol.proofs.Fits.{Fit, fit_new, fit_next, fit_bytes, fit_sends, casts_fit}
 use Rattle.sg_protocol.proofs.TextLaws as TL
 
 replace_all : {P : Session → Type 0} (which : Session → Bool) (now : Session → List Session) (xs : List Session) → ((z : Session) → which z ≡ true → P z → AllByRecursion P (now z)) → AllByRecursion P xs → AllByRecursion P (replace which now xs)
@@ -91,11 +83,46 @@ key_same (k ∷ ks) h a b = go (cases_Bool (bytes_eq k.one a)) (cases_Bool (byte
     go (inr p) (inr q) (inr r) (inl t) ih = rw (p, q, r, t) (rw p ih)
     go (inr p) (inr q) (inr r) (inr t) ih = rw (p, q, r, t) ih
 
-module _ (sha : Hash) (hash : IsHash sha) (programs : List Program) (s : Schedule) (compiled : AreCompiled sha s.graphs programs) (sched : IsSchedule sha s) (wf : World) where
+takes_keys : (n : Node) (f : Frame) (o : Option Cast) → (option_map_or (λ c. joined n (extended (new_session f.sid c f.receiver) (Took f))) o (goes_on n (is_for f) (λ z. still n.programs (extended z (Took f))))).keys ≡ n.keys
+takes_keys n f None = refl
+takes_keys n f (Some c) = refl
+
+read_keys : (n : Node) (r : Result Frame ℕ) → (takes_read n r).keys ≡ n.keys
+read_keys n (Err at) = refl
+read_keys n (Ok f) = takes_keys n f f.join
+
+pub keys_after : (n : Node) (c : Call) (a : Answer) → (node_after n c a).keys ≡ n.keys
+keys_after n (Start c) (Happened (Started sid r)) = refl
+keys_after n (Act sid label values confounders) (Sends e to f) = refl
+keys_after n (Abandon sid) Abandoned = refl
+keys_after n (Deliver bs) (Happened (Received sid r label time values joins)) = read_keys n (read bs)
+keys_after n c other = refl
+
+-- the event of a sending says what its frame says
+pub act_event : (sha : Hash) (n : Node) (sid0 : List ℕ) (label : ℕ) (values : Map Value) (confs : List (List ℕ)) (e : Event) (to : Name) (f : Frame) → answer sha n (Act sid0 label values confs) ≡ Sends e to f → (sid_of e ≡ f.sid) × (role_of e ≡ f.sender)
+act_event sha n sid0 label values confs e to f a = by_session (session_with n.live sid0) a
+  where
+    by_rows : (x : Session) (p : Program) (o : Option ActFault) → acted (sent sha n.keys p x label values confs) o ≡ Sends e to f → (sid_of e ≡ f.sid) × (role_of e ≡ f.sender)
+    by_rows x p (Some fault) a = absurd (cc)
+    by_rows x p None a =
+        let q : Sent x.sid x.role label (time x + 1) values ≡ e = cc in
+        let r : frame_sent sha n.keys p x label (openings_for values confs) ≡ f = cc in
+        (ap sid_of (sym q) ∙ ap (λ (z : Frame). z.sid) r, ap role_of (sym q) ∙ ap (λ (z : Frame). z.sender) r)
+
+    by_session : (o : Option Session) → option_map_or (λ x. option_map_or (λ p. acted (sent sha n.keys p x label values confs) (first_some (rows_of_act p x label values))) (program_for n.programs x.cast.graph x.role) (NotActed ActFault.UnknownSession)) o (NotActed ActFault.UnknownSession) ≡ Sends e to f → (sid_of e ≡ f.sid) × (role_of e ≡ f.sender)
+    by_session None a = absurd (cc)
+    by_session (Some x) a = by_program (program_for n.programs x.cast.graph x.role) a
+      where
+        by_program : (o : Option Program) → option_map_or (λ p. acted (sent sha n.keys p x label values confs) (first_some (rows_of_act p x label values))) o (NotActed ActFault.UnknownSession) ≡ Sends e to f → (sid_of e ≡ f.sid) × (role_of e ≡ f.sender)
+        by_program None a = absurd (cc)
+        by_program (Some p) a = by_rows x p (first_some (rows_of_act p x label values)) a
+
+-- Hashed says which texts were hashed
+module _ (sha : Hash) (Hashed : List ℕ → Type 0) where
   -- what is known of a live session of a principal
   pub record Known (who : Name) (x : Session) : Type 0 where
     pub id : session_id sha x.cast ≡ x.sid
-    pub is_hashed : In (hashed s wf) (session_text_of x.cast)
+    pub is_hashed : Hashed (session_text_of x.cast)
     pub me : principal x.cast x.role ≡ who
 
   still_known : (who : Name) (ps : List Program) (x : Session) → Known who x → AllByRecursion (Known who) (still ps x)
@@ -105,10 +132,10 @@ module _ (sha : Hash) (hash : IsHash sha) (programs : List Program) (s : Schedul
   more_known who x e h = record { id = h.id; is_hashed = h.is_hashed; me = h.me }
 
   module _ (who : Name) (n : Node) (me : n.keys.me ≡ who) (live : AllByRecursion (Known who) n.live) where
-    start_known : (c : Cast) → ((t : List ℕ) → In (notes sha n (Start c)).hashed t → In (hashed s wf) t) → AllByRecursion (Known who) (node_after n (Start c) (answer sha n (Start c))).live
+    start_known : (c : Cast) → ((t : List ℕ) → In (notes sha n (Start c)).hashed t → Hashed t) → AllByRecursion (Known who) (node_after n (Start c) (answer sha n (Start c))).live
     start_known c hs = by_program (starter n.programs c.graph) hs
       where
-        by_rows : (p : Program) (o : Option StartFault) → first_some (rows_of_start n p (session_id sha c) c) ≡ o → ((t : List ℕ) → In (notes_of_start c (started (session_id sha c) p.role o)).hashed t → In (hashed s wf) t) → AllByRecursion (Known who) (node_after n (Start c) (started (session_id sha c) p.role o)).live
+        by_rows : (p : Program) (o : Option StartFault) → first_some (rows_of_start n p (session_id sha c) c) ≡ o → ((t : List ℕ) → In (notes_of_start c (started (session_id sha c) p.role o)).hashed t → Hashed t) → AllByRecursion (Known who) (node_after n (Start c) (started (session_id sha c) p.role o)).live
         by_rows p (Some f) e hs = live
         by_rows p None e hs =
             let one = none_parts (row (not (is_cast n.keys p.graph c p.role)) StartFault.BadCast) (option_map StartFault.UnknownPeer (stranger n.keys c) ∷ row (has_joined n.joins (session_id sha c) p.role) StartFault.Joined ∷ row (nat_le 65536 (length n.joins)) StartFault.CacheFull ∷ row (nat_le 4096 (length n.live)) StartFault.SessionsFull ∷ []) e in
@@ -116,7 +143,7 @@ module _ (sha : Hash) (hash : IsHash sha) (programs : List Program) (s : Schedul
             all-append (Known who) n.live (still n.programs (new_session (session_id sha c) c p.role)) live (still_known who n.programs (new_session (session_id sha c) c p.role) record { id = refl; is_hashed = hs (session_text_of c) (inl refl); me = same_bytes (principal c p.role) n.keys.me (and_parts _ (bytes_eq (principal c p.role) n.keys.me) ic).1 ∙ me })
 
         by_program : (o : Option Program) → let a : Answer = option_map_or (λ (p : Program). started (session_id sha c) p.role (first_some (rows_of_start n p (session_id sha c) c))) o (NotStarted StartFault.UnknownGraph) in
-            ((t : List ℕ) → In (notes_of_start c a).hashed t → In (hashed s wf) t) → AllByRecursion (Known who) (node_after n (Start c) a).live
+            ((t : List ℕ) → In (notes_of_start c a).hashed t → Hashed t) → AllByRecursion (Known who) (node_after n (Start c) a).live
         by_program None hs = live
         by_program (Some p) hs = by_rows p (first_some (rows_of_start n p (session_id sha c) c)) refl hs
 
@@ -132,10 +159,10 @@ module _ (sha : Hash) (hash : IsHash sha) (programs : List Program) (s : Schedul
         now z h (Some i) = still_known who n.programs _ (more_known who z (Gave i (openings_for values confs)) h)
     act_known sid0 label values confs other = live
 
-    deliver_known : (bs : List ℕ) → ((t : List ℕ) → In (notes sha n (Deliver bs)).hashed t → In (hashed s wf) t) → AllByRecursion (Known who) (node_after n (Deliver bs) (answer sha n (Deliver bs))).live
+    deliver_known : (bs : List ℕ) → ((t : List ℕ) → In (notes sha n (Deliver bs)).hashed t → Hashed t) → AllByRecursion (Known who) (node_after n (Deliver bs) (answer sha n (Deliver bs))).live
     deliver_known bs hs = go (read bs) refl
       where
-        took_ : (f : Frame) → first_some (rows sha n f) ≡ None → ((t : List ℕ) → In (notes_of_read sha n (Ok f)).hashed t → In (hashed s wf) t) → (o : Option Cast) → f.join ≡ o → AllByRecursion (Known who) (option_map_or (λ c. joined n (extended (new_session f.sid c f.receiver) (Took f))) o (goes_on n (is_for f) (λ z. still n.programs (extended z (Took f))))).live
+        took_ : (f : Frame) → first_some (rows sha n f) ≡ None → ((t : List ℕ) → In (notes_of_read sha n (Ok f)).hashed t → Hashed t) → (o : Option Cast) → f.join ≡ o → AllByRecursion (Known who) (option_map_or (λ c. joined n (extended (new_session f.sid c f.receiver) (Took f))) o (goes_on n (is_for f) (λ z. still n.programs (extended z (Took f))))).live
         took_ f e hs None j = replace_all {P = Known who} (is_for f) (λ z. still n.programs (extended z (Took f))) n.live (λ z q h. still_known who n.programs (extended z (Took f)) (more_known who z (Took f) h)) live
         took_ f e hs (Some c) j = by_program (program_for n.programs c.graph f.receiver) refl
           where
@@ -157,189 +184,18 @@ module _ (sha : Hash) (hash : IsHash sha) (programs : List Program) (s : Schedul
             by_program (Some p) pc = done p (rows_join (Some p) pc)
 
         by_rows : (f : Frame) → read bs ≡ Ok f → (o : Option Refusal) → first_some (rows sha n f) ≡ o → AllByRecursion (Known who) (node_after n (Deliver bs) (decided (receipt f) o)).live
-        by_rows f e None q = subst (λ r. AllByRecursion (Known who) (takes_read n r).live) (sym e) (took_ f q (subst (λ r. (t : List ℕ) → In (notes_of_read sha n r).hashed t → In (hashed s wf) t) e hs) f.join refl)
+        by_rows f e None q = subst (λ r. AllByRecursion (Known who) (takes_read n r).live) (sym e) (took_ f q (subst (λ r. (t : List ℕ) → In (notes_of_read sha n r).hashed t → Hashed t) e hs) f.join refl)
         by_rows f e (Some r) q = live
 
         go : (r : Result Frame ℕ) → read bs ≡ r → AllByRecursion (Known who) (node_after n (Deliver bs) (answer sha n (Deliver bs))).live
         go (Err at) e = subst (λ r. AllByRecursion (Known who) (node_after n (Deliver bs) (verdict_on sha n r)).live) (sym e) live
         go (Ok f) e = subst (λ r. AllByRecursion (Known who) (node_after n (Deliver bs) (verdict_on sha n r)).live) (sym e) (by_rows f e (first_some (rows sha n f)) refl)
 
-    pub call_known : (c : Call) → ((t : List ℕ) → In (notes sha n c).hashed t → In (hashed s wf) t) → AllByRecursion (Known who) (node_after n c (answer sha n c)).live
+    pub call_known : (c : Call) → ((t : List ℕ) → In (notes sha n c).hashed t → Hashed t) → AllByRecursion (Known who) (node_after n c (answer sha n c)).live
     call_known (Start c) hs = start_known c hs
     call_known (Act sid0 label values confs) hs = act_known sid0 label values confs (answer sha n (Act sid0 label values confs))
     call_known (Abandon sid0) hs = abandon_known sid0 (answer sha n (Abandon sid0))
     call_known (Deliver bs) hs = deliver_known bs hs
-
-  takes_keys : (n : Node) (f : Frame) (o : Option Cast) → (option_map_or (λ c. joined n (extended (new_session f.sid c f.receiver) (Took f))) o (goes_on n (is_for f) (λ z. still n.programs (extended z (Took f))))).keys ≡ n.keys
-  takes_keys n f None = refl
-  takes_keys n f (Some c) = refl
-
-  read_keys : (n : Node) (r : Result Frame ℕ) → (takes_read n r).keys ≡ n.keys
-  read_keys n (Err at) = refl
-  read_keys n (Ok f) = takes_keys n f f.join
-
-  pub keys_after : (n : Node) (c : Call) (a : Answer) → (node_after n c a).keys ≡ n.keys
-  keys_after n (Start c) (Happened (Started sid r)) = refl
-  keys_after n (Act sid label values confounders) (Sends e to f) = refl
-  keys_after n (Abandon sid) Abandoned = refl
-  keys_after n (Deliver bs) (Happened (Received sid r label time values joins)) = read_keys n (read bs)
-  keys_after n c other = refl
-
-  -- where an entry of the log comes from
-  pub record Origin (l : Logged) (c : Call) : Type 0 where
-    pub who : Name
-    pub n : Node
-    pub is_who : l.who ≡ Some who
-    pub is_outcome : l.outcome ≡ Answered (answer sha n c)
-    pub is_frame : l.frame ≡ frame_in (answer sha n c)
-    pub is_notes : l.notes ≡ notes sha n c
-    pub its_keys : n.keys ≡ keyring_of s.keys who
-    pub hon : is_honest s who ≡ true
-    pub live_fit : AllByRecursion FitSession n.live
-    pub known_ : AllByRecursion (Known who) n.live
-    pub spelled : (e : Event) (to : Name) (f : Frame) → answer sha n c ≡ Sends e to f → HasSpelling f
-    pub bytes : (bs : List ℕ) → c ≡ Deliver bs → IsBytes bs
-    pub starts : (d : Cast) → c ≡ Start d → CastFits d
-
-  abbrev Fit_ : World → Type 0
-  Fit_ w = Fit sha hash programs s compiled sched w
-
-  pub record LogsOk (w : World) : Type 0 where
-    pub logs : (l : Logged) (c : Call) → In w.log l → l.call ≡ Some c → Origin l c
-    pub quiet : (l : Logged) (nt : Note) → In w.log l → l.call ≡ None → In l.notes.made nt → ⊥
-    pub silent : (l : Logged) (e : Event) → In w.log l → l.call ≡ None → In (events_of_outcome l.outcome) e → ⊥
-    pub nodes : (who : Name) (p : Past) → past_of w who ≡ Some p → ((node_of p).keys ≡ keyring_of s.keys who) × (is_honest s who ≡ true) × AllByRecursion (Known who) (node_of p).live
-    pub fit : Fit_ w
-
-  idle_logs : (w : World) (k : ℕ) (x : Step) → Fit_ (world_after sha s w k x) → (who : Option Name) (o : Outcome) (fr : Option (List ℕ)) → events_of_outcome o ≡ [] → world_after sha s w k x ≡ uncalled w k who o fr → LogsOk w → LogsOk (world_after sha s w k x)
-  idle_logs w k x fit' who o fr none_ e q = subst LogsOk (sym e) record {
-    logs = λ l c i j. elim (in_parts w.log _ l i) [ inl a ↦ q.logs l c a j | inr a ↦ elim a [ inl b ↦ (let h : None ≡ Some c = ap (λ (z : Logged). z.call) (sym b) ∙ j in absurd (cc)) | inr b ↦ absurd b ] ];
-    quiet = λ l nt i j k'. elim (in_parts w.log _ l i) [ inl a ↦ q.quiet l nt a j k' | inr a ↦ elim a [ inl b ↦ absurd (subst (λ (z : Logged). In z.notes.made nt) b k') | inr b ↦ absurd b ] ];
-    silent = λ l ev i j k'. elim (in_parts w.log _ l i) [ inl a ↦ q.silent l ev a j k' | inr a ↦ elim a [ inl b ↦ absurd (subst (λ xs. In xs ev) none_ (subst (λ (z : Logged). In (events_of_outcome z.outcome) ev) b k')) | inr b ↦ absurd b ] ];
-    nodes = q.nodes;
-    fit = subst Fit_ e fit';
-  }
-
-  pub me_is : (who : Name) (n : Node) → n.keys ≡ keyring_of s.keys who → n.keys.me ≡ who
-  me_is who n e = ap (λ (z : Keyring). z.me) e
-
-  call_bytes : (w : World) → Fit_ w → (k : ℕ) (x : Step) → IsStep sha s x → (c : Call) → call_of sha s w k x ≡ Some c → (bs : List ℕ) → c ≡ Deliver bs → IsBytes bs
-  call_bytes w fit k (DeliverStep who what) good c e bs e2 = go (bytes_of w what) refl e
-    where
-      go : (o : Option (List ℕ)) → bytes_of w what ≡ o → option_map Deliver o ≡ Some c → IsBytes bs
-      go None q e = absurd (cc)
-      go (Some zs) q e = (let r : Deliver zs ≡ Deliver bs = (let a : Deliver zs ≡ c = cc in a ∙ e2) in let r' : zs ≡ bs = cc in fit_bytes sha hash programs s compiled sched w fit who what bs good (q ∙ ap (λ z. Some z) r'))
-  call_bytes w fit k (StartStep who n') good c e bs e2 = go (cast_of s n') e
-    where
-      go : (o : Option Cast) → option_map Start o ≡ Some c → IsBytes bs
-      go None e = absurd (cc)
-      go (Some d) e = (let a : Start d ≡ c = cc in let b : Start d ≡ Deliver bs = a ∙ e2 in absurd (cc))
-  call_bytes w fit k (ActStep who n' label values) good c e bs e2 = absurd (let a : Act (sid_at sha s n') label values (map (λ (v : ℕ × Value). confounder k v.0) values) ≡ c = cc in let b : Act (sid_at sha s n') label values (map (λ (v : ℕ × Value). confounder k v.0) values) ≡ Deliver bs = a ∙ e2 in cc)
-  call_bytes w fit k (AbandonStep who n') good c e bs e2 = absurd (let a : Abandon (sid_at sha s n') ≡ c = cc in let b : Abandon (sid_at sha s n') ≡ Deliver bs = a ∙ e2 in cc)
-  call_bytes w fit k (CraftStep cr) good c e bs e2 = absurd (cc)
-
-  call_casts : (w : World) (k : ℕ) (x : Step) (c : Call) → call_of sha s w k x ≡ Some c → (d : Cast) → c ≡ Start d → CastFits d
-  call_casts w k (StartStep who n') c e d e2 = go (cast_of s n') refl e
-    where
-      go : (o : Option Cast) → cast_of s n' ≡ o → option_map Start o ≡ Some c → CastFits d
-      go None q e = absurd (cc)
-      go (Some y) q e = (let r : Start y ≡ Start d = (let a : Start y ≡ c = cc in a ∙ e2) in let r' : y ≡ d = cc in casts_fit sha hash programs s compiled sched n' d (q ∙ ap (λ z. Some z) r'))
-  call_casts w k (DeliverStep who what) c e d e2 = go (bytes_of w what) e
-    where
-      go : (o : Option (List ℕ)) → option_map Deliver o ≡ Some c → CastFits d
-      go None e = absurd (cc)
-      go (Some zs) e = (let a : Deliver zs ≡ c = cc in let b : Deliver zs ≡ Start d = a ∙ e2 in absurd (cc))
-  call_casts w k (ActStep who n' label values) c e d e2 = absurd (let a : Act (sid_at sha s n') label values (map (λ (v : ℕ × Value). confounder k v.0) values) ≡ c = cc in let b : Act (sid_at sha s n') label values (map (λ (v : ℕ × Value). confounder k v.0) values) ≡ Start d = a ∙ e2 in cc)
-  call_casts w k (AbandonStep who n') c e d e2 = absurd (let a : Abandon (sid_at sha s n') ≡ c = cc in let b : Abandon (sid_at sha s n') ≡ Start d = a ∙ e2 in cc)
-  call_casts w k (CraftStep cr) c e d e2 = absurd (cc)
-
-  called_logs : (w : World) (k : ℕ) (x : Step) → IsStep sha s x → LogsOk w → (who : Name) (past : Past) → past_of w who ≡ Some past → (c : Call) → call_of sha s w k x ≡ Some c → Fit_ (called sha w k who c past) → Suffix (k + 1) (called sha w k who c past).log wf.log → LogsOk (called sha w k who c past)
-  called_logs w k x good q who past its_past c e fit' after = record {
-    logs = λ l d i j. elim (in_parts w.log _ l i) [
-      | inl a ↦ q.logs l d a j
-      | inr a ↦ elim a [ inl b ↦ (let h : Some c ≡ Some d = ap (λ (z : Logged). z.call) (sym b) ∙ j in let h' : c ≡ d = cc in subst (λ z. Origin z d) (sym b) (subst (Origin entry_) h' origin)) | inr b ↦ absurd b ]
-    ];
-    quiet = λ l nt i j k'. elim (in_parts w.log _ l i) [ inl a ↦ q.quiet l nt a j k' | inr a ↦ elim a [ inl b ↦ (let h : Some c ≡ None = ap (λ (z : Logged). z.call) (sym b) ∙ j in absurd (cc)) | inr b ↦ absurd b ] ];
-    silent = λ l ev i j k'. elim (in_parts w.log _ l i) [ inl a ↦ q.silent l ev a j k' | inr a ↦ elim a [ inl b ↦ (let h : Some c ≡ None = ap (λ (z : Logged). z.call) (sym b) ∙ j in absurd (cc)) | inr b ↦ absurd b ] ];
-    nodes = λ me p' e'. nodes_ me p' (past_of w me) refl (sym (past_called sha w k who c past me) ∙ e');
-    fit = fit';
-  }
-    where
-      entry_ : Logged
-      entry_ = record { number = k; who = Some who; call = Some c; outcome = Answered (answer sha (node_of past) c); frame = frame_in (answer sha (node_of past) c); notes = notes sha (node_of past) c }
-
-      hs : (t : List ℕ) → In (notes sha (node_of past) c).hashed t → In (hashed s wf) t
-      hs t i = in_right (map graph_text_of s.graphs) (flat_map (λ (l : Logged). l.notes.hashed) wf.log) t (in_flat (λ (l : Logged). l.notes.hashed) wf.log (record { number = k; who = Some who; call = Some c; outcome = Answered (answer sha (node_of past) c); frame = frame_in (answer sha (node_of past) c); notes = notes sha (node_of past) c }) t
-          (in_after (k + 1) (called sha w k who c past).log wf.log after (record { number = k; who = Some who; call = Some c; outcome = Answered (answer sha (node_of past) c); frame = frame_in (answer sha (node_of past) c); notes = notes sha (node_of past) c }) (C.in_last w.log (record { number = k; who = Some who; call = Some c; outcome = Answered (answer sha (node_of past) c); frame = frame_in (answer sha (node_of past) c); notes = notes sha (node_of past) c }))) i)
-
-      origin : Origin (record { number = k; who = Some who; call = Some c; outcome = Answered (answer sha (node_of past) c); frame = frame_in (answer sha (node_of past) c); notes = notes sha (node_of past) c }) c
-      origin = record {
-        who = who;
-        n = node_of past;
-        is_who = refl;
-        is_outcome = refl;
-        is_frame = refl;
-        is_notes = refl;
-        its_keys = (q.nodes who past its_past).0;
-        hon = (q.nodes who past its_past).1;
-        live_fit = (q.fit.nodes who past its_past).1;
-        known_ = (q.nodes who past its_past).2;
-        spelled = λ ev to f a. fit_sends sha hash programs s compiled sched w q.fit k x who past c ev to f good its_past e a;
-        bytes = call_bytes w q.fit k x good c e;
-        starts = call_casts w k x c e;
-      }
-
-      nodes_ : (me : Name) (p' : Past) (o : Option Past) → past_of w me ≡ o → option_map (next_past sha who c) o ≡ Some p' → ((node_of p').keys ≡ keyring_of s.keys me) × (is_honest s me ≡ true) × AllByRecursion (Known me) (node_of p').live
-      nodes_ me p' None q' e' = absurd (cc)
-      nodes_ me p' (Some y) q' e' =
-          let r : next_past sha who c y ≡ p' = cc in
-          let is_me : y.keys.me ≡ me = same_bytes y.keys.me me (find_passes (λ (z : Past). bytes_eq z.keys.me me) w.pasts y q') in
-          elim (cases_Bool (bytes_eq y.keys.me who)) [
-            | inl h ↦
-                let same : me ≡ who = sym is_me ∙ same_bytes y.keys.me who h in
-                let two : Some y ≡ Some past = sym q' ∙ ap (past_of w) same ∙ its_past in
-                let y_past : y ≡ past = cc in
-                let after_ : past_after sha past c ≡ p' = ap (λ z. past_after sha z c) (sym y_past) ∙ (rw h at r) in
-                let node_is : node_of p' ≡ node_after (node_of past) c (answer sha (node_of past) c) = ap node_of (sym after_) ∙ node_more (new_node past.keys past.programs past.first) past.calls (record { call = c; answer = answer sha (node_of past) c }) in
-                let old = q.nodes who past its_past in (
-                  ap (λ (m : Node). m.keys) node_is ∙ keys_after (node_of past) c (answer sha (node_of past) c) ∙ old.0 ∙ ap (keyring_of s.keys) (sym same),
-                  ap (is_honest s) same ∙ old.1,
-                  subst (λ z. AllByRecursion (Known z) (node_of p').live) (sym same) (subst (λ (m : Node). AllByRecursion (Known who) m.live) (sym node_is) (call_known who (node_of past) (me_is who (node_of past) old.0) old.2 c hs)),
-                )
-            | inr h ↦ (let r' : y ≡ p' = rw h at r in subst (λ z. ((node_of z).keys ≡ keyring_of s.keys me) × (is_honest s me ≡ true) × AllByRecursion (Known me) (node_of z).live) r' (q.nodes me y q'))
-          ]
-
-  past_logs : (w : World) (k : ℕ) (x : Step) → IsStep sha s x → LogsOk w → (who : Name) (o : Option Past) → past_of w who ≡ o → (c : Option Call) → call_of sha s w k x ≡ c → Fit_ (option_map_or (called_if sha w k who c) o w) → Suffix (k + 1) (option_map_or (called_if sha w k who c) o w).log wf.log → LogsOk (option_map_or (called_if sha w k who c) o w)
-  past_logs w k x good q who None e c e2 fit' after = q
-  past_logs w k x good q who (Some past) e None e2 fit' after = record {
-    logs = λ l d i j. elim (in_parts w.log _ l i) [ inl a ↦ q.logs l d a j | inr a ↦ elim a [ inl b ↦ (let h : None ≡ Some d = ap (λ (z : Logged). z.call) (sym b) ∙ j in absurd (cc)) | inr b ↦ absurd b ] ];
-    quiet = λ l nt i j k'. elim (in_parts w.log _ l i) [ inl a ↦ q.quiet l nt a j k' | inr a ↦ elim a [ inl b ↦ absurd (subst (λ (z : Logged). In z.notes.made nt) b k') | inr b ↦ absurd b ] ];
-    silent = λ l ev i j k'. elim (in_parts w.log _ l i) [ inl a ↦ q.silent l ev a j k' | inr a ↦ elim a [ inl b ↦ absurd (subst (λ (z : Logged). In (events_of_outcome z.outcome) ev) b k') | inr b ↦ absurd b ] ];
-    nodes = q.nodes;
-    fit = fit';
-  }
-  past_logs w k x good q who (Some past) e (Some c) e2 fit' after = called_logs w k x good q who past e c e2 fit' after
-
-  pub step_logs : (w : World) (k : ℕ) (x : Step) → IsStep sha s x → LogsOk w → Fit_ (world_after sha s w k x) → Suffix (k + 1) (world_after sha s w k x).log wf.log → LogsOk (world_after sha s w k x)
-  step_logs w k (CraftStep c) good q fit' after = idle_logs w k (CraftStep c) fit' None Crafted (option_map spelling (crafted sha s w c)) refl refl q
-  step_logs w k (StartStep who n') good q fit' after = past_logs w k (StartStep who n') good q who (past_of w who) refl (call_of sha s w k (StartStep who n')) refl fit' after
-  step_logs w k (ActStep who n' label values) good q fit' after = past_logs w k (ActStep who n' label values) good q who (past_of w who) refl (call_of sha s w k (ActStep who n' label values)) refl fit' after
-  step_logs w k (AbandonStep who n') good q fit' after = past_logs w k (AbandonStep who n') good q who (past_of w who) refl (call_of sha s w k (AbandonStep who n')) refl fit' after
-  step_logs w k (DeliverStep who what) good q fit' after = past_logs w k (DeliverStep who what) good q who (past_of w who) refl (call_of sha s w k (DeliverStep who what)) refl fit' after
-
-  pub all_logs : (w : World) (k : ℕ) (xs : List Step) → AllByRecursion (IsStep sha s) xs → LogsOk w → world_after_all sha s w k xs ≡ wf → LogsOk wf
-  all_logs w k [] good q e = subst LogsOk e q
-  all_logs w k (x ∷ xs) good q e =
-      all_logs (world_after sha s w k x) (k + 1) xs good.1 (step_logs w k x good.0 q (fit_next sha hash programs s compiled sched w k x q.fit good.0) (subst (λ (z : World). Suffix (k + 1) (world_after sha s w k x).log z.log) e (suffix_all sha s (world_after sha s w k x) (k + 1) xs))) e
-
-  pub new_logs : LogsOk (new_world programs s)
-  new_logs = record {
-    logs = λ l c i j. absurd i;
-    quiet = λ l nt i j k. absurd i;
-    silent = λ l ev i j k. absurd i;
-    nodes = λ who p e. let r = first_past s.keys programs s.honest who p e in subst (λ (z : Past). ((node_of z).keys ≡ keyring_of s.keys who) × (is_honest s who ≡ true) × AllByRecursion (Known who) (node_of z).live) (sym r.0) (refl, r.1, tt);
-    fit = fit_new sha hash programs s compiled sched;
-  }
 
   -- ---- what a receipt checked
 
@@ -347,7 +203,7 @@ module _ (sha : Hash) (hash : IsHash sha) (programs : List Program) (s : Schedul
     pub cast : Cast
     pub fits : CastFits cast
     pub id : session_id sha cast ≡ f.sid
-    pub is_hashed : In (hashed s wf) (session_text_of cast)
+    pub is_hashed : Hashed (session_text_of cast)
     pub me : principal cast f.receiver ≡ who
     pub version : cast.version ≡ f.version
     pub found : In nts.found (note_of n.keys.me (principal cast f.sender) (text_of f))
@@ -360,7 +216,7 @@ module _ (sha : Hash) (hash : IsHash sha) (programs : List Program) (s : Schedul
       same_bytes (tag_for sha keys x.cast f.sender (text_of f)) f.tag (and_parts (nat_lt f.sender (length x.cast.names)) (bytes_eq (tag_for sha keys x.cast f.sender (text_of f)) f.tag) (not-false (has_frame_tag sha keys x f) (row_none _ _ one.0))).1
 
   module _ (who : Name) (n : Node) (me : n.keys.me ≡ who) (live : AllByRecursion (Known who) n.live) (fit : AllByRecursion FitSession n.live) (f : Frame) (spelled : HasSpelling f) (none : first_some (rows sha n f) ≡ None)
-      (hs : (t : List ℕ) → In (notes_of_read sha n (Ok f)).hashed t → In (hashed s wf) t) where
+      (hs : (t : List ℕ) → In (notes_of_read sha n (Ok f)).hashed t → Hashed t) where
     abbrev nts_in : ℕ → Option (Program × Session) → Notes
     nts_in k o = option_map_or (λ (y : Program × Session). notes_in_session sha n.keys y.0 y.1 f k) o no_notes
 
@@ -424,23 +280,3 @@ module _ (sha : Hash) (hash : IsHash sha) (programs : List Program) (s : Schedul
         by_join : (o : Option Cast) → f.join ≡ o → Took_ who n f (notes_of_read sha n (Ok f))
         by_join None j = took_next j (session_for n.live f) refl (sym (ap (λ o. first_some (option_map_or (join_rows sha n f) o (next_rows sha n f))) j) ∙ none)
         by_join (Some c) j = took_join c j (program_for n.programs c.graph f.receiver) refl (sym (ap (λ o. first_some (option_map_or (join_rows sha n f) o (next_rows sha n f))) j) ∙ none)
-
-  -- ---- where a note was made
-
-  pub act_event : (n : Node) (sid0 : List ℕ) (label : ℕ) (values : Map Value) (confs : List (List ℕ)) (e : Event) (to : Name) (f : Frame) → answer sha n (Act sid0 label values confs) ≡ Sends e to f → (sid_of e ≡ f.sid) × (role_of e ≡ f.sender)
-  act_event n sid0 label values confs e to f a = by_session (session_with n.live sid0) a
-    where
-      by_rows : (x : Session) (p : Program) (o : Option ActFault) → acted (sent sha n.keys p x label values confs) o ≡ Sends e to f → (sid_of e ≡ f.sid) × (role_of e ≡ f.sender)
-      by_rows x p (Some fault) a = absurd (cc)
-      by_rows x p None a =
-          let q : Sent x.sid x.role label (time x + 1) values ≡ e = cc in
-          let r : frame_sent sha n.keys p x label (openings_for values confs) ≡ f = cc in
-          (ap sid_of (sym q) ∙ ap (λ (z : Frame). z.sid) r, ap role_of (sym q) ∙ ap (λ (z : Frame). z.sender) r)
-
-      by_session : (o : Option Session) → option_map_or (λ x. option_map_or (λ p. acted (sent sha n.keys p x label values confs) (first_some (rows_of_act p x label values))) (program_for n.programs x.cast.graph x.role) (NotActed ActFault.UnknownSession)) o (NotActed ActFault.UnknownSession) ≡ Sends e to f → (sid_of e ≡ f.sid) × (role_of e ≡ f.sender)
-      by_session None a = absurd (cc)
-      by_session (Some x) a = by_program (program_for n.programs x.cast.graph x.role) a
-        where
-          by_program : (o : Option Program) → option_map_or (λ p. acted (sent sha n.keys p x label values confs) (first_some (rows_of_act p x label values))) o (NotActed ActFault.UnknownSession) ≡ Sends e to f → (sid_of e ≡ f.sid) × (role_of e ≡ f.sender)
-          by_program None a = absurd (cc)
-          by_program (Some p) a = by_rows x p (first_some (rows_of_act p x label values)) a
