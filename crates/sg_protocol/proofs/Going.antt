@@ -128,10 +128,6 @@ module _ {sha : Hash} {s : Schedule} {sid : List ℕ} {cast : Cast} {g : Graph} 
     used = p.used;
   }
 
-  pub idle_moves : (w : World) (k : ℕ) (who : Option Name) (o : Outcome) (fr : Option (List ℕ)) (e : events_of_outcome o ≡ []) (p : Progress w) → (idle w k who o fr e p).moves ≡ p.moves
-  unfolding idle
-  idle_moves w k who o fr e p = refl
-
   module _ (w : World) (k : ℕ) (p : Progress w) (who : Name) (past : Past) (its_past : past_of w who ≡ Some past) where
     abbrev pub st : State
     st = moved_all commit (V.at_first (shape g)) p.moves

@@ -31,9 +31,6 @@ module _ (sha : Hash) (hash : IsHash sha) (s : Schedule) (ps : List Past) (cours
   abbrev wf : World
   wf = run_of sha ps course
 
-  abbrev Known_ : Name → Node → Type 0
-  Known_ who n = KnownNode sha hash s wf who n
-
   -- the node that answered the call of an entry
   pub record Origin (l : Logged) : Type 0 where
     pub who : Name

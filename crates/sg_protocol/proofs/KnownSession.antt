@@ -1,4 +1,4 @@
--- What is known of a session: of its cast and graph, and of a run in which it stands.
+-- What is known of a session: of its cast and graph.
 use Rattle.std.specs.Prelude.{◌≡◌, ℕ, List, true, length, Some}
 use Rattle.sg_model.specs.Lists.{all_differ}
 use Rattle.sg_protocol.specs.Graph.{Graph, IsGraph}

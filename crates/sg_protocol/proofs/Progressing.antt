@@ -1,4 +1,4 @@
--- What a run is to the law.
+-- Pasts, logs and moves of a session, as they grow.
 use Rattle.std.specs.Prelude.{◌≡◌, ℕ, ◌+◌, ◌<◌, ◌≤◌, if◌then◌else◌, ◌⊎◌, Bool, true, false, List, [], ◌∷◌, ◌++◌, map, filter, flat_map, length, find, bytes_eq, refl, Option, Some, None, option_map}
 use Rattle.std.specs.List.{AllByRecursion}
 use Rattle.std.specs.Option.{option_map_or}
@@ -11,7 +11,6 @@ use Rattle.sg_protocol.specs.Graph.{Graph}
 use Rattle.sg_protocol.specs.Frame.{IsValue}
 use Rattle.sg_protocol.specs.Spelling.{u64}
 use Rattle.sg_protocol.specs.Texts.{Hash}
-use Rattle.sg_protocol.specs.TextLaws.{OpeningFits, ValueFits}
 use Rattle.sg_protocol.specs.Notes.{Note}
 use Rattle.sg_protocol.specs.Schedule.{Schedule, Step, StartStep, ActStep, AbandonStep, DeliverStep, CraftStep, confounder}
 use Rattle.sg_law.specs.Values as V
@@ -21,7 +20,7 @@ use Rattle.sg_law.proofs.Take.{contains_from_in}
 use Rattle.sg_protocol.proofs.Paths.{flat_map-append}
 use Rattle.sg_protocol.proofs.Moves.{NoteOk}
 use Rattle.sg_model.specs.Lists.{keys_of}
-use Rattle.sg_protocol.specs.Acting.{openings_for, answer}
+use Rattle.sg_protocol.specs.Acting.{answer}
 use Rattle.sg_protocol.specs.Node.{Node}
 use Rattle.sg_protocol.specs.Calls.{Call, sid_of}
 use Rattle.sg_protocol.specs.NodeAfter.{node_after}
@@ -30,7 +29,6 @@ use Rattle.sg_law.specs.Values.{AllMay, moved_all, all_openings}
 use Rattle.std.proofs.lemmas.List.{length-append}
 use Rattle.std.proofs.lemmas.Bool.{cases_Bool}
 use Rattle.std.proofs.lemmas.List.Elements.{filter-append}
-use Rattle.sg_model.specs.Values.{IntValue, TextValue}
 use Rattle.sg_model.proofs.Small.{all-append, all_weaker}
 use Rattle.sg_law.proofs.Members.{in_left, in_parts}
 use Rattle.sg_protocol.specs.Past.{Past, AnsweredCall, node_after_all, past_after}
@@ -148,14 +146,6 @@ u64_length n = refl
 
 pub confounder_length : (k x : ℕ) → length (confounder k x) ≡ 16
 confounder_length k x = (let a = u64_length k in let b = u64_length x in let c : length (u64 k ++ u64 x) ≡ length (u64 k) + length (u64 x) = length-append (u64 k) (u64 x) in omega (arith, a, b, c))
-
-value_fits : (v : Value) → IsValue v → ValueFits v
-value_fits (IntValue z) h = h
-value_fits (TextValue t) h = (let l = h.1 in omega (arith, l))
-
-openings_fit : (k : ℕ) (values : Map Value) → AllByRecursion (λ (w : ℕ × Value). (w.0 < 256) × IsValue w.1) values → AllByRecursion OpeningFits (openings_for values (map (λ (v : ℕ × Value). confounder k v.0) values))
-openings_fit k [] h = tt
-openings_fit k (v ∷ vs) h = (record { confounder = confounder_length k v.0; value = value_fits v.1 h.0.1 }, openings_fit k vs h.1)
 
 pub small_values : (values : Map Value) → AllByRecursion (λ (w : ℕ × Value). (w.0 < 256) × IsValue w.1) values → AllByRecursion (λ k. k < 256) (keys_of values)
 small_values [] h = tt
