@@ -80,24 +80,61 @@ run_first sha programs s n = all_same sha s n (new_world programs s) 1 (take n s
 
 -- ---- the logs
 
-take_few : (n : ℕ) (xs : List Step) → length (take n xs) ≤ n
+pub take_few : {A : Type 0} (n : ℕ) (xs : List A) → length (take n xs) ≤ n
 take_few zero xs = omega arith
 take_few (suc n) [] = omega arith
 take_few (suc n) (x ∷ xs) = (let h = take_few n xs in omega (arith, h))
 
-module _ (sha : Hash) (s : Schedule) where
+-- one entry is added at most, with this number
+abbrev pub OneMore : ℕ → List Logged → List Logged → Type 0
+OneMore k log log' = (log' ≡ log) ⊎ ((l : Logged) × (log' ≡ log ++ l ∷ []) × (l.number ≡ k))
+
+-- worlds to which one thing after another adds one entry at most
+module _ {A : Type 0} (next : World → ℕ → A → World) (all : World → ℕ → List A → World) (none : (w : World) (k : ℕ) → all w k [] ≡ w) (more : (w : World) (k : ℕ) (x : A) (xs : List A) → all w k (x ∷ xs) ≡ all (next w k x) (k + 1) xs)
+    (one_more_ : (w : World) (k : ℕ) (x : A) → OneMore k w.log (next w k x).log) (suffix : (w : World) (k : ℕ) (xs : List A) → Suffix k w.log (all w k xs).log) where
   suffix_at : (j k : ℕ) (a b : List Logged) → j ≡ k → Suffix j a b → Suffix k a b
   suffix_at j k a b e h = subst (λ z. Suffix z a b) e h
 
-  pub begins : (n : ℕ) (xs : List Step) (w : World) (k : ℕ) → Suffix (k + n) (world_after_all sha s w k (take n xs)).log (world_after_all sha s w k xs).log
-  begins zero xs w k = suffix_at k (k + 0) w.log (world_after_all sha s w k xs).log (omega arith) (suffix_all sha s w k xs)
-  begins (suc n) [] w k = suffix_refl (k + suc n) w.log
-  begins (suc n) (x ∷ xs) w k = suffix_at (k + 1 + n) (k + suc n) (world_after_all sha s w k (take (suc n) (x ∷ xs))).log (world_after_all sha s w k (x ∷ xs)).log (omega arith) (begins n xs (world_after sha s w k x) (k + 1))
+  -- what the first ones add is the beginning of what all add
+  pub begins_so : (n : ℕ) (xs : List A) (w : World) (k : ℕ) → Suffix (k + n) (all w k (take n xs)).log (all w k xs).log
+  begins_so zero xs w k = subst (λ (z : World). Suffix (k + 0) z.log (all w k xs).log) (sym (none w k)) (suffix_at k (k + 0) w.log (all w k xs).log (omega arith) (suffix w k xs))
+  begins_so (suc n) [] w k = suffix_refl (k + suc n) (all w k []).log
+  begins_so (suc n) (x ∷ xs) w k =
+      subst (λ (z : World). Suffix (k + suc n) z.log (all w k (x ∷ xs)).log) (sym (more w k x (take n xs)))
+      (subst (λ (z : World). Suffix (k + suc n) (all (next w k x) (k + 1) (take n xs)).log z.log) (sym (more w k x xs))
+      (suffix_at (k + 1 + n) (k + suc n) (all (next w k x) (k + 1) (take n xs)).log (all (next w k x) (k + 1) xs).log (omega arith) (begins_so n xs (next w k x) (k + 1))))
 
-  -- a step adds one entry at most, with its number
-  abbrev pub OneMore : ℕ → List Logged → List Logged → Type 0
-  OneMore k log log' = (log' ≡ log) ⊎ ((l : Logged) × (log' ≡ log ++ l ∷ []) × (l.number ≡ k))
+  -- numbers are below the next one
+  pub numbers_below : (xs : List A) (w : World) (k : ℕ) → ((l : Logged) → In w.log l → l.number < k) → (l : Logged) → In (all w k xs).log l → l.number < k + length xs
+  numbers_below [] w k a l i = (let h = a l (subst (λ (z : World). In z.log l) (none w k) i) in omega (arith, h))
+  numbers_below (x ∷ xs) w k a l i = (let h = numbers_below xs (next w k x) (k + 1) (now (one_more_ w k x)) l (subst (λ (z : World). In z.log l) (more w k x xs) i) in omega (arith, h))
+    where
+      now : OneMore k w.log (next w k x).log → (l : Logged) → In (next w k x).log l → l.number < k + 1
+      now (inl e) l i = (let h = a l (subst (λ z. In z l) e i) in omega (arith, h))
+      now (inr m) l i = elim (in_parts w.log (m.0 ∷ []) l (subst (λ z. In z l) m.1 i)) [
+        | inl j ↦ (let h = a l j in omega (arith, h))
+        | inr j ↦ elim j [ inl q ↦ (let h = ap (λ (z : Logged). z.number) q ∙ m.2 in omega (arith, h)) | inr q ↦ absurd q ]
+      ]
 
+  -- an entry that was added is the last one when it was
+  pub last_so : (xs : List A) (w : World) (k : ℕ) (l : Logged) → In (all w k xs).log l → In w.log l ⊎ ((i : ℕ) × (l.number ≡ k + i) × (last (all w k (take (suc i) xs)).log ≡ Some l))
+  last_so [] w k l i = inl (subst (λ (z : World). In z.log l) (none w k) i)
+  last_so (x ∷ xs) w k l i = elim (last_so xs (next w k x) (k + 1) l (subst (λ (z : World). In z.log l) (more w k x xs) i)) [
+    | inl j ↦ now (one_more_ w k x) j
+    | inr h ↦ inr (suc h.0, (let e = h.1 in omega (arith, e)), ap (λ (z : World). last z.log) (more w k x (take (suc h.0) xs)) ∙ h.2)
+  ]
+    where
+      now : OneMore k w.log (next w k x).log → In (next w k x).log l → In w.log l ⊎ ((i : ℕ) × (l.number ≡ k + i) × (last (all w k (take (suc i) (x ∷ xs))).log ≡ Some l))
+      now (inl e) j = inl (subst (λ z. In z l) e j)
+      now (inr m) j = elim (in_parts w.log (m.0 ∷ []) l (subst (λ z. In z l) m.1 j)) [
+        | inl a ↦ inl a
+        | inr a ↦ elim a [
+          | inl q ↦ inr (0, (let h = ap (λ (z : Logged). z.number) q ∙ m.2 in omega (arith, h)), ap (λ (z : World). last z.log) (more w k x [] ∙ none (next w k x) (k + 1)) ∙ ap last m.1 ∙ last-append w.log m.0 [] ∙ ap (λ (z : Logged). Some z) (sym q))
+          | inr q ↦ absurd q
+        ]
+      ]
+
+module _ (sha : Hash) (s : Schedule) where
   one_past : (w : World) (k : ℕ) (who : Name) (c : Option Call) (o : Option Past) → OneMore k w.log (option_map_or (called_if sha w k who c) o w).log
   one_past w k who c None = inl refl
   one_past w k who None (Some past) = inr (_, refl, refl)
@@ -110,36 +147,6 @@ module _ (sha : Hash) (s : Schedule) where
   one_more w k (AbandonStep who m) = one_past w k who (call_of sha s w k (AbandonStep who m)) (past_of w who)
   one_more w k (DeliverStep who what) = one_past w k who (call_of sha s w k (DeliverStep who what)) (past_of w who)
 
-  -- numbers are below that of the next step
-  pub numbered : (xs : List Step) (w : World) (k : ℕ) → ((l : Logged) → In w.log l → l.number < k) → (l : Logged) → In (world_after_all sha s w k xs).log l → l.number < k + length xs
-  numbered [] w k a l i = (let h = a l i in omega (arith, h))
-  numbered (x ∷ xs) w k a l i = (let h = numbered xs (world_after sha s w k x) (k + 1) (now (one_more w k x)) l i in omega (arith, h))
-    where
-      now : OneMore k w.log (world_after sha s w k x).log → (l : Logged) → In (world_after sha s w k x).log l → l.number < k + 1
-      now (inl e) l i = (let h = a l (subst (λ z. In z l) e i) in omega (arith, h))
-      now (inr more) l i = elim (in_parts w.log (more.0 ∷ []) l (subst (λ z. In z l) more.1 i)) [
-        | inl j ↦ (let h = a l j in omega (arith, h))
-        | inr j ↦ elim j [ inl q ↦ (let h = ap (λ (z : Logged). z.number) q ∙ more.2 in omega (arith, h)) | inr q ↦ absurd q ]
-      ]
-
-  -- an entry is the last one after its step
-  pub last_at : (xs : List Step) (w : World) (k : ℕ) (l : Logged) → In (world_after_all sha s w k xs).log l → In w.log l ⊎ ((i : ℕ) × (l.number ≡ k + i) × (last (world_after_all sha s w k (take (suc i) xs)).log ≡ Some l))
-  last_at [] w k l i = inl i
-  last_at (x ∷ xs) w k l i = elim (last_at xs (world_after sha s w k x) (k + 1) l i) [
-    | inl j ↦ now (one_more w k x) j
-    | inr h ↦ inr (suc h.0, (let e = h.1 in omega (arith, e)), h.2)
-  ]
-    where
-      now : OneMore k w.log (world_after sha s w k x).log → In (world_after sha s w k x).log l → In w.log l ⊎ ((i : ℕ) × (l.number ≡ k + i) × (last (world_after_all sha s w k (take (suc i) (x ∷ xs))).log ≡ Some l))
-      now (inl e) j = inl (subst (λ z. In z l) e j)
-      now (inr more) j = elim (in_parts w.log (more.0 ∷ []) l (subst (λ z. In z l) more.1 j)) [
-        | inl a ↦ inl a
-        | inr a ↦ elim a [
-          | inl q ↦ inr (0, (let h = ap (λ (z : Logged). z.number) q ∙ more.2 in omega (arith, h)), ap last more.1 ∙ last-append w.log more.0 [] ∙ ap (λ (z : Logged). Some z) (sym q))
-          | inr q ↦ absurd q
-        ]
-      ]
-
 module _ (sha : Hash) (programs : List Program) (s : Schedule) (n : ℕ) where
   abbrev wf : World
   wf = run sha programs s
@@ -148,11 +155,11 @@ module _ (sha : Hash) (programs : List Program) (s : Schedule) (n : ℕ) where
   wb = run sha programs (first_steps n s)
 
   pub goes_on : Suffix (1 + n) (run sha programs (first_steps n s)).log (run sha programs s).log
-  goes_on = subst (λ (z : World). Suffix (1 + n) z.log (run sha programs s).log) (sym (run_first sha programs s n)) (begins sha s n s.steps (new_world programs s) 1)
+  goes_on = subst (λ (z : World). Suffix (1 + n) z.log (run sha programs s).log) (sym (run_first sha programs s n)) (begins_so (world_after sha s) (world_after_all sha s) (λ w k. refl) (λ w k x xs. refl) (one_more sha s) (suffix_all sha s) n s.steps (new_world programs s) 1)
 
   pub up_to : (l : Logged) → In (run sha programs (first_steps n s)).log l → l.number ≤ n
   up_to l i =
-      let h = numbered sha s (take n s.steps) (new_world programs s) 1 (λ l i. absurd i) l (subst (λ (z : World). In z.log l) (run_first sha programs s n) i) in
+      let h = numbers_below (world_after sha s) (world_after_all sha s) (λ w k. refl) (λ w k x xs. refl) (one_more sha s) (suffix_all sha s) (take n s.steps) (new_world programs s) 1 (λ l i. absurd i) l (subst (λ (z : World). In z.log l) (run_first sha programs s n) i) in
       let k = take_few n s.steps in
       omega (arith, h, k)
 
@@ -179,7 +186,7 @@ module _ (sha : Hash) (programs : List Program) (s : Schedule) (n : ℕ) where
 
 -- a step that accepts is the last one of the run up to it
 pub is_last : (sha : Hash) (programs : List Program) (s : Schedule) (l : Logged) → In (run sha programs s).log l → last (run sha programs (first_steps l.number s)).log ≡ Some l
-is_last sha programs s l i = elim (last_at sha s s.steps (new_world programs s) 1 l i) [
+is_last sha programs s l i = elim (last_so (world_after sha s) (world_after_all sha s) (λ w k. refl) (λ w k x xs. refl) (one_more sha s) (suffix_all sha s) s.steps (new_world programs s) 1 l i) [
   | inl j ↦ absurd j
   | inr h ↦ (let n : l.number ≡ suc h.0 = (let e = h.1 in omega (arith, e)) in ap (λ (z : World). last z.log) (run_first sha programs s l.number) ∙ ap (λ k. last (world_after_all sha s (new_world programs s) 1 (take k s.steps)).log) n ∙ h.2)
 ]

@@ -171,7 +171,7 @@ module _ (sha : Hash) (s : Schedule) where
   step_below : (w : World) (k : ℕ) (x : Step) → Below k w → Below (k + 1) (world_after sha s w k x)
   step_below w k x a = now (one_more sha s w k x)
     where
-      now : OneMore sha s k w.log (world_after sha s w k x).log → Below (k + 1) (world_after sha s w k x)
+      now : OneMore k w.log (world_after sha s w k x).log → Below (k + 1) (world_after sha s w k x)
       now (inl e) l i = (let h = a l (subst (λ z. In z l) e i) in omega (arith, h))
       now (inr m) l i = elim (in_parts w.log (m.0 ∷ []) l (subst (λ z. In z l) m.1 i)) [
         | inl j ↦ (let h = a l j in omega (arith, h))
