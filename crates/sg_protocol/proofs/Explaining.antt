@@ -1,5 +1,5 @@
 -- Steps of a run that stand beside walks, one after another.
-use Rattle.std.specs.Prelude.{◌≡◌, ℕ, ◌+◌, Bool, List, [], ◌∷◌, ◌++◌, map, refl}
+use Rattle.std.specs.Prelude.{◌≡◌, ℕ, Bool, List, [], ◌∷◌, ◌++◌, map, refl}
 use Rattle.std.proofs.Common.{sym, subst, append_assoc, append-nil}
 use Rattle.sg_protocol.specs.Graph.{Graph}
 use Rattle.sg_protocol.specs.Walk.{StoredStep}

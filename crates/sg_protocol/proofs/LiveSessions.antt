@@ -32,7 +32,6 @@ use Rattle.sg_protocol.specs.Node.{Node, is_for, is_cast, stranger, session_with
 use Rattle.sg_protocol.specs.NodeAfter.{node_after, joined, goes_on, replace, still, is_over, takes_read}
 use Rattle.sg_protocol.specs.World.{Logged, keyring_of}
 use Rattle.sg_protocol.specs.Run.{events_of, events_of_outcome}
-use Rattle.sg_protocol.specs.Premises.{hashed}
 use Rattle.sg_protocol.proofs.Finding.{find_passes, find_all}
 use Rattle.sg_protocol.proofs.TextLaws as TL
 use Rattle.sg_protocol.proofs.Sent.{FitSession}

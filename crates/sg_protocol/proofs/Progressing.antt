@@ -20,7 +20,6 @@ use Rattle.sg_law.proofs.Take.{contains_from_in}
 use Rattle.sg_protocol.proofs.Paths.{flat_map-append}
 use Rattle.sg_protocol.proofs.Moves.{NoteOk}
 use Rattle.sg_model.specs.Lists.{keys_of}
-use Rattle.sg_protocol.specs.Acting.{answer}
 use Rattle.sg_protocol.specs.Node.{Node}
 use Rattle.sg_protocol.specs.Calls.{Call, sid_of}
 use Rattle.sg_protocol.specs.NodeAfter.{node_after}

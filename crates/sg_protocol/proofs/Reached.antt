@@ -9,7 +9,7 @@ use Rattle.sg_model.specs.Shape.{role_at}
 use Rattle.sg_model.specs.Values.{Value, Opening}
 use Rattle.sg_model.proofs.Small.{clash}
 use Rattle.sg_protocol.specs.Graph.{shape}
-use Rattle.sg_protocol.specs.Frame.{Cast, Item, Frame}
+use Rattle.sg_protocol.specs.Frame.{Item, Frame}
 use Rattle.sg_protocol.specs.Spelling.{HasSpelling}
 use Rattle.sg_protocol.specs.Texts.{Hash, IsHash, session_id}
 use Rattle.sg_protocol.specs.Keyring.{Keyring, Program}

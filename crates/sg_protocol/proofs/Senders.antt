@@ -1,5 +1,5 @@
 -- A receipt from an honest sender has its sending.
-use Rattle.std.specs.Prelude.{◌≡◌, ◌≢◌, ℕ, ◌+◌, true, List, [], ◌∷◌, ◌++◌, map, flat_map, bytes_eq, refl, Option, Some, None, option_and_then, unwrap_or, Result, Ok, Err, ◌⊎◌}
+use Rattle.std.specs.Prelude.{◌≡◌, ◌≢◌, ℕ, true, List, [], ◌∷◌, ◌++◌, map, flat_map, bytes_eq, refl, Option, Some, None, option_and_then, unwrap_or, Result, Ok, Err, ◌⊎◌}
 use Rattle.std.specs.Option.{option_map_or}
 use Rattle.std.proofs.Common.{sym, ◌∙◌, ap, subst, inl, inr}
 use Rattle.sg_model.specs.Last.{last}

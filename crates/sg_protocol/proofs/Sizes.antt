@@ -7,7 +7,7 @@ use Rattle.std.proofs.lemmas.Bool.{cases_Bool, and_parts}
 use Rattle.std.proofs.lemmas.Bool.Decides.{nat_tests}
 use Rattle.std.proofs.lemmas.List.Sums.{sum_by-append}
 use Rattle.sg_model.specs.Last.{Map, last, last_or, has, up_to_last}
-use Rattle.sg_model.specs.Lists.{below, range_from, rises_from, value_at, same_text, first_some, all_differ}
+use Rattle.sg_model.specs.Lists.{below, rises_from, value_at, same_text, first_some, all_differ}
 use Rattle.sg_model.specs.Names.{Name, is_name, is_name_byte, is_letter}
 use Rattle.sg_model.specs.Values.{Value, Opening}
 use Rattle.sg_model.specs.Bytes.{IsBytes, AreBytes}
