@@ -1,5 +1,5 @@
 -- The run of a schedule is a course of happenings at its honest principals.
-use Rattle.std.specs.Prelude.{◌≡◌, ◌≢◌, ℕ, ◌+◌, true, All, List, [], ◌∷◌, ◌++◌, refl, Option, Some, None, option_map, option_and_then}
+use Rattle.std.specs.Prelude.{◌≡◌, ◌≢◌, ℕ, ◌+◌, true, All, List, [], ◌∷◌, ◌++◌, length, refl, take, Option, Some, None, option_map, option_and_then}
 use Rattle.std.specs.List.{AllByRecursion}
 use Rattle.std.specs.Option.{option_map_or}
 use Rattle.std.proofs.Common.{sym, ◌∙◌, ap, subst, inl, inr}
@@ -61,10 +61,14 @@ module _ (sha : Hash) (s : Schedule) where
   all_same w k [] = refl
   all_same w k (x ∷ xs) = ap (λ z. all_happen sha z (k + 1) (course_from (world_after sha s w k x) (k + 1) xs)) (step_same w k x) ∙ all_same (world_after sha s w k x) (k + 1) xs
 
-  -- the course of the first steps is its beginning
-  pub course_split : (w : World) (k : ℕ) (xs ys : List Step) → (rest : List Happening) × (course_from w k (xs ++ ys) ≡ course_from w k xs ++ rest)
-  course_split w k [] ys = (course_from w k ys, refl)
-  course_split w k (x ∷ xs) ys = let r = course_split (world_after sha s w k x) (k + 1) xs ys in (r.0, ap (λ l. happening w k x ∷ l) r.1)
+  -- what happens first in a course is what the first steps come to
+  pub course_first : (w : World) (k : ℕ) (xs : List Step) (hs gs : List Happening) → course_from w k xs ≡ hs ++ gs → course_from w k (take (length hs) xs) ≡ hs
+  course_first w k xs [] gs e = refl
+  course_first w k [] (h ∷ hs) gs e = absurd (cc)
+  course_first w k (x ∷ xs) (h ∷ hs) gs e =
+      let one : happening w k x ≡ h = cc in
+      let others : course_from (world_after sha s w k x) (k + 1) xs ≡ hs ++ gs = cc in
+      ap (λ z. z ∷ course_from (world_after sha s w k x) (k + 1) (take (length hs) xs)) one ∙ ap (λ z. h ∷ z) (course_first (world_after sha s w k x) (k + 1) xs hs gs others)
 
 -- ---- the course of a schedule
 

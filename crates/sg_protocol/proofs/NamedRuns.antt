@@ -1,16 +1,11 @@
 -- The entries of a run have their names in the graphs of their calls.
-use Rattle.std.specs.Prelude.{◌≡◌, ℕ, suc, ◌+◌, ◌-◌, ◌⊎◌, true, List, [], ◌∷◌, ◌++◌, map, flat_map, take, length, bytes_eq, refl, Option, Some, None, option_map, option_and_then, Result, Ok, Err, Contains}
+use Rattle.std.specs.Prelude.{◌≡◌, ℕ, ◌+◌, ◌-◌, ◌⊎◌, true, List, ◌∷◌, ◌++◌, map, flat_map, take, length, bytes_eq, refl, Some, None, option_and_then, Result, Ok, Err, Contains}
 use Rattle.std.specs.List.{AllByRecursion}
-use Rattle.std.specs.Option.{option_map_or}
 use Rattle.std.specs.Result.{result_ok}
 use Rattle.std.proofs.Common.{sym, ◌∙◌, ap, subst, inl, inr, arith}
-use Rattle.std.proofs.lemmas.List.Elements.{recursion_from_All}
 use Rattle.std.proofs.lemmas.Slice.Eq.{bytes_eq-Decides}
-use Rattle.std.proofs.Math.Seq.{take-append_seam}
-use Rattle.sg_model.specs.Names.{Name}
-use Rattle.sg_model.specs.Values.{Value}
-use Rattle.sg_model.proofs.Small.{same_bytes, bytes_same}
-use Rattle.sg_law.proofs.Members.{in_left, in_right, in_flat, in_map, in_parts, rec_in, all_in}
+use Rattle.sg_model.proofs.Small.{same_bytes, bytes_same, all-right}
+use Rattle.sg_law.proofs.Members.{in_left, in_right, in_flat, in_map, rec_in, all_in}
 use Rattle.sg_law.proofs.Take.{contains_from_in}
 use Rattle.sg_law.proofs.Upto.{In, in_from_Contains}
 use Rattle.sg_protocol.specs.Graph.{Graph, IsGraph}
@@ -25,12 +20,12 @@ use Rattle.sg_protocol.specs.Node.{Node}
 use Rattle.sg_protocol.specs.Acting.{answer}
 use Rattle.sg_protocol.specs.Notes.{notes}
 use Rattle.sg_protocol.specs.Past.{Past, node_of}
-use Rattle.sg_protocol.specs.Schedule.{Schedule, Step, StartStep, ActStep, AbandonStep, DeliverStep, CraftStep, graph_with, cast_of, sid_at, confounder}
-use Rattle.sg_protocol.specs.World.{World, Logged, past_of, call_of, bytes_of, new_world, Answered}
-use Rattle.sg_protocol.specs.Run.{called_if, world_after, world_after_all, run, events_of_outcome, cast_in, cast_of_session}
+use Rattle.sg_protocol.specs.Schedule.{Schedule, graph_with}
+use Rattle.sg_protocol.specs.World.{World, Logged, past_of, new_world, Answered}
+use Rattle.sg_protocol.specs.Run.{world_after_all, run, events_of_outcome, cast_in, cast_of_session}
 use Rattle.sg_protocol.specs.Premises.{hashed, CollisionFree}
 use Rattle.sg_protocol.specs.Beginnings.{first_steps}
-use Rattle.sg_protocol.specs.IsSchedule.{IsProgram, AreCompiled, IsSchedule, IsStep}
+use Rattle.sg_protocol.specs.IsSchedule.{IsProgram, AreCompiled, IsSchedule}
 use Rattle.sg_protocol.specs.Headline.{IsOfCast}
 use Rattle.sg_protocol.specs.Named.{IsNamed, GivesVariables, IsAnswered, EntriesAreAnswered, EntriesAreNamed, EntriesHaveOneGraph, IsOfOneGraph, StepsAreNamed, names_numbers}
 use Rattle.sg_protocol.proofs.TextLaws as TL
@@ -38,193 +33,103 @@ use Rattle.sg_protocol.proofs.Progressing.{small_values}
 use Rattle.sg_protocol.proofs.Finding.{find_passes}
 use Rattle.sg_protocol.proofs.OneWalk.{FirstCast, first_cast, first_of_live}
 use Rattle.sg_protocol.proofs.FirstSteps.{run_first}
-use Rattle.sg_protocol.proofs.Courses.{all_same, course, course_from, course_split, is_course, same_run}
-use Rattle.sg_protocol.proofs.Happenings.{Happening, IsGiven, are_programs, cast_given, run_of}
+use Rattle.sg_protocol.proofs.Answered.{WasAsked, was_asked}
+use Rattle.sg_protocol.proofs.Courses.{all_same, course, course_first, course_from, is_course, same_run}
+use Rattle.sg_protocol.proofs.Happenings.{Asked, IsGiven, IsRight, all_happen, are_programs, cast_given, run_of}
 use Rattle.sg_protocol.proofs.Ranges.{joined_in_range}
 use Rattle.sg_protocol.proofs.ReadBack.{read-SpellsFrame}
 use Rattle.sg_protocol.proofs.Roles.{sessions_have_one_cast}
-use Rattle.sg_protocol.proofs.KnownLogs.{At, known_before, logs_known}
+use Rattle.sg_protocol.proofs.KnownLogs.{At, known_before}
 use Rattle.sg_protocol.proofs.LiveSessions.{Known, no_entry}
 use Rattle.sg_protocol.specs.Bounds.{IsSession}
 use Rattle.sg_protocol.proofs.Named.{NamesFrom, call_named, answers_are_named}
 use Rattle.sg_protocol.proofs.Whole.{find_some, found_in, same_name, same_named}
+use Rattle.sg_protocol.proofs.Splits.{in_split}
 
--- ---- the step of an entry
+-- ---- the entry of a call
 
-module _ (sha : Hash) (s : Schedule) (l : Logged) (c : Call) where
-  -- the entry is what step k of this world came to
-  record OneStep (w : World) (k : ℕ) (x : Step) : Type 0 where
-    who : Name
-    past : Past
-    is_past : past_of w who ≡ Some past
-    call : call_of sha s w k x ≡ Some c
-    number : l.number ≡ k
-    is_who : l.who ≡ Some who
-    outcome : l.outcome ≡ Answered (answer sha (node_of past) c)
-    is_notes : l.notes ≡ notes sha (node_of past) c
+-- after the first that happens in a schedule's run, a principal is asked the call, and the entry is of its answer
+abbrev pub AskedInRun : Hash → List Program → Schedule → List Logged → Logged → Call → Type 0
+AskedInRun sha programs s before l c = WasAsked sha (new_world programs s) 1 (course_from sha s (new_world programs s) 1 s.steps) before l c
 
-  record StepOf (w : World) (k : ℕ) (xs : List Step) : Type 0 where
-    before : List Step
-    step : Step
-    after : List Step
-    parts : xs ≡ before ++ step ∷ after
-    one : OneStep (world_after_all sha s w k before) (k + length before) step
+pub asked_in_run : (sha : Hash) (programs : List Program) (s : Schedule) (before : List Logged) (l : Logged) (after : List Logged) (c : Call) → (run sha programs s).log ≡ before ++ l ∷ after → l.call ≡ Some c → AskedInRun sha programs s before l c
+asked_in_run sha programs s before l after c e call =
+    was_asked sha (new_world programs s) 1 (course_from sha s (new_world programs s) 1 s.steps) before l after c (ap (λ (w : World). w.log) (all_same sha s (new_world programs s) 1 s.steps) ∙ e) call
 
-  module _ (e : l.call ≡ Some c) (w : World) (k : ℕ) (x : Step) where
-    by_call : (who : Name) (o : Option Call) → call_of sha s w k x ≡ o → (past : Past) → past_of w who ≡ Some past → In (called_if sha w k who o past).log l → In w.log l ⊎ OneStep w k x
-    by_call who None q past q2 i = elim (in_parts w.log _ l i) [
-      | inl a ↦ inl a
-      | inr a ↦ elim a [ inl b ↦ (let h : None ≡ Some c = ap (λ (z : Logged). z.call) (sym b) ∙ e in absurd (cc)) | inr b ↦ absurd b ]
-    ]
-    by_call who (Some d) q past q2 i = elim (in_parts w.log _ l i) [
-      | inl a ↦ inl a
-      | inr a ↦ elim a [
-        | inl b ↦ (let h : Some d ≡ Some c = ap (λ (z : Logged). z.call) (sym b) ∙ e in let same : d ≡ c = cc in inr record {
-          who = who;
-          past = past;
-          is_past = q2;
-          call = q ∙ h;
-          number = ap (λ (z : Logged). z.number) b;
-          is_who = ap (λ (z : Logged). z.who) b;
-          outcome = ap (λ (z : Logged). z.outcome) b ∙ ap (λ z. Answered (answer sha (node_of past) z)) same;
-          is_notes = ap (λ (z : Logged). z.notes) b ∙ ap (notes sha (node_of past)) same;
-        })
-        | inr b ↦ absurd b
-      ]
-    ]
+entry_asked : (sha : Hash) (programs : List Program) (s : Schedule) (l : Logged) (c : Call) → Contains (run sha programs s).log l → l.call ≡ Some c → (before : List Logged) × AskedInRun sha programs s before l c
+entry_asked sha programs s l c i e = let split = in_split (run sha programs s).log l (in_from_Contains (run sha programs s).log l i) in (split.0, asked_in_run sha programs s split.0 l split.1 c split.2 e)
 
-    by_past : (who : Name) (o : Option Past) → past_of w who ≡ o → In (option_map_or (called_if sha w k who (call_of sha s w k x)) o w).log l → In w.log l ⊎ OneStep w k x
-    by_past who None q i = inl i
-    by_past who (Some past) q i = by_call who (call_of sha s w k x) refl past q i
+module _ (sha : Hash) (programs : List Program) (s : Schedule) (before : List Logged) (l : Logged) (c : Call) (r : AskedInRun sha programs s before l c) where
+  answered_by : past_of (run sha programs (first_steps (l.number - 1) s)) r.who ≡ Some r.past
+  answered_by =
+      let n : l.number - 1 ≡ length r.first = (let h : l.number ≡ 1 + length r.first = ap (λ (z : Logged). z.number) r.is in omega (arith, h)) in
+      ap (λ w. past_of w r.who) (run_first sha programs s (l.number - 1)
+      ∙ ap (λ n. world_after_all sha s (new_world programs s) 1 (take n s.steps)) n
+      ∙ sym (all_same sha s (new_world programs s) 1 (take (length r.first) s.steps))
+      ∙ ap (all_happen sha (new_world programs s) 1) (course_first sha s (new_world programs s) 1 s.steps r.first (Asked r.who c ∷ r.rest) r.parts))
+      ∙ r.is_past
 
-  one_step : l.call ≡ Some c → (w : World) (k : ℕ) (x : Step) → In (world_after sha s w k x).log l → In w.log l ⊎ OneStep w k x
-  one_step e w k (CraftStep d) i = elim (in_parts w.log _ l i) [
-    | inl a ↦ inl a
-    | inr a ↦ elim a [ inl b ↦ (let h : None ≡ Some c = ap (λ (z : Logged). z.call) (sym b) ∙ e in absurd (cc)) | inr b ↦ absurd b ]
-  ]
-  one_step e w k (StartStep who n) i = by_past e w k (StartStep who n) who (past_of w who) refl i
-  one_step e w k (ActStep who n label values) i = by_past e w k (ActStep who n label values) who (past_of w who) refl i
-  one_step e w k (AbandonStep who n) i = by_past e w k (AbandonStep who n) who (past_of w who) refl i
-  one_step e w k (DeliverStep who what) i = by_past e w k (DeliverStep who what) who (past_of w who) refl i
+  its_outcome : l.outcome ≡ Answered (answer sha (node_of r.past) c)
+  its_outcome = ap (λ (z : Logged). z.outcome) r.is
 
-  step_of : l.call ≡ Some c → (w : World) (k : ℕ) (xs : List Step) → In (world_after_all sha s w k xs).log l → In w.log l ⊎ StepOf w k xs
-  step_of e w k [] i = inl i
-  step_of e w k (x ∷ xs) i = elim (step_of e (world_after sha s w k x) (k + 1) xs i) [
-    | inl a ↦ elim (one_step e w k x a) [
-      | inl b ↦ inl b
-      | inr b ↦ inr record { before = []; step = x; after = xs; parts = refl; one = subst (λ z. OneStep w z x) (let q : k ≡ k + 0 = omega arith in q) b }
-    ]
-    | inr r ↦ inr record {
-      before = x ∷ r.before;
-      step = r.step;
-      after = r.after;
-      parts = ap (λ l. x ∷ l) r.parts;
-      one = subst (λ z. OneStep (world_after_all sha s (world_after sha s w k x) (k + 1) r.before) z r.step) (let q : (k + 1) + length r.before ≡ k + suc (length r.before) = omega arith in q) r.one;
-    }
-  ]
+  is_answered : IsAnswered sha programs s l c
+  is_answered = record { who = r.who; past = r.past; is_who = ap (λ (z : Logged). z.who) r.is; is_past = answered_by; outcome = its_outcome }
 
-run_step : (sha : Hash) (programs : List Program) (s : Schedule) (l : Logged) (c : Call) → Contains (run sha programs s).log l → l.call ≡ Some c → StepOf sha s l c (new_world programs s) 1 s.steps
-run_step sha programs s l c i e = elim (step_of sha s l c e (new_world programs s) 1 s.steps (in_from_Contains (run sha programs s).log l i)) [ inl a ↦ absurd a | inr r ↦ r ]
-
-answered_by : (sha : Hash) (programs : List Program) (s : Schedule) (l : Logged) (c : Call) (r : StepOf sha s l c (new_world programs s) 1 s.steps) → past_of (run sha programs (first_steps (l.number - 1) s)) r.one.who ≡ Some r.one.past
-answered_by sha programs s l c r =
-    let n : l.number - 1 ≡ length r.before = (let h : l.number ≡ 1 + length r.before = r.one.number in omega (arith, h)) in
-    ap (λ w. past_of w r.one.who) (run_first sha programs s (l.number - 1)
-    ∙ ap (λ n. world_after_all sha s (new_world programs s) 1 (take n s.steps)) n
-    ∙ ap (λ xs. world_after_all sha s (new_world programs s) 1 (take (length r.before) xs)) r.parts
-    ∙ ap (world_after_all sha s (new_world programs s) 1) (take-append_seam r.before (r.step ∷ r.after)))
-    ∙ r.one.is_past
+  -- the past of an entry is the one of its principal then
+  pub same_past : (a : IsAnswered sha programs s l c) → r.past ≡ a.past
+  same_past a =
+      let two : Some r.who ≡ Some a.who = sym (ap (λ (z : Logged). z.who) r.is) ∙ a.is_who in
+      let who : r.who ≡ a.who = cc in
+      let pasts : Some r.past ≡ Some a.past = sym answered_by ∙ ap (past_of (run sha programs (first_steps (l.number - 1) s))) who ∙ a.is_past in
+      let same : r.past ≡ a.past = cc in
+      same
 
 pub entries_are_answered : (sha : Hash) → EntriesAreAnswered sha
-entries_are_answered sha programs s l c i e =
-    let r = run_step sha programs s l c i e in
-    record { who = r.one.who; past = r.one.past; is_who = r.one.is_who; is_past = answered_by sha programs s l c r; outcome = r.one.outcome }
+entries_are_answered sha programs s l c i e = let r = entry_asked sha programs s l c i e in is_answered sha programs s r.0 l c r.1
 
--- the past of an entry is the one of its step
-same_past : (sha : Hash) (programs : List Program) (s : Schedule) (l : Logged) (c : Call) (r : StepOf sha s l c (new_world programs s) 1 s.steps) (a : IsAnswered sha programs s l c) → r.one.past ≡ a.past
-same_past sha programs s l c r a =
-    let two : Some r.one.who ≡ Some a.who = sym r.one.is_who ∙ a.is_who in
-    let who : r.one.who ≡ a.who = cc in
-    let pasts : Some r.one.past ≡ Some a.past = sym (answered_by sha programs s l c r) ∙ ap (past_of (run sha programs (first_steps (l.number - 1) s))) who ∙ a.is_past in
-    let same : r.one.past ≡ a.past = cc in
-    same
+-- ---- what is known of the node before it
 
--- ---- what is known of the node before a step
+gives_variables : (c : Call) → IsGiven c → GivesVariables c
+gives_variables (Start c) h = tt
+gives_variables (Act sid label values confounders) h = small_values values h.each
+gives_variables (Abandon sid) h = tt
+gives_variables (Deliver bytes) h = tt
 
-all_prefix : (P : Step → Type 0) (xs ys : List Step) → AllByRecursion P (xs ++ ys) → AllByRecursion P xs
-all_prefix P [] ys a = tt
-all_prefix P (x ∷ xs) ys a = (a.0, all_prefix P xs ys a.1)
+module _ (sha : Hash) (hash : IsHash sha) (programs : List Program) (s : Schedule) (compiled : AreCompiled sha s.graphs programs) (sched : IsSchedule sha s) (before : List Logged) (l : Logged) (c : Call) (r : AskedInRun sha programs s before l c) where
+  abbrev n : Node
+  n = node_of r.past
 
-all_mid : (P : Step → Type 0) (xs : List Step) (y : Step) (ys : List Step) → AllByRecursion P (xs ++ y ∷ ys) → P y
-all_mid P [] y ys a = a.0
-all_mid P (x ∷ xs) y ys a = all_mid P xs y ys a.1
+  its_given : IsGiven c
+  its_given = (all-right IsRight r.first (Asked r.who c ∷ r.rest) (subst (AllByRecursion IsRight) r.parts (is_course sha hash programs s compiled sched).right)).0
 
-call_small : (sha : Hash) (s : Schedule) (w : World) (k : ℕ) (x : Step) (c : Call) → IsStep sha s x → call_of sha s w k x ≡ Some c → GivesVariables c
-call_small sha s w k (StartStep who n) c good e = go (cast_of s n) e
-  where
-    go : (o : Option Cast) → option_map Start o ≡ Some c → GivesVariables c
-    go None e = absurd (cc)
-    go (Some d) e = (let r : Start d ≡ c = cc in subst GivesVariables r tt)
-call_small sha s w k (ActStep who n label values) c good e = (let r : Act (sid_at sha s n) label values (map (λ (v : ℕ × Value). confounder k v.0) values) ≡ c = cc in subst GivesVariables r (small_values values good))
-call_small sha s w k (AbandonStep who n) c good e = (let r : Abandon (sid_at sha s n) ≡ c = cc in subst GivesVariables r tt)
-call_small sha s w k (DeliverStep who what) c good e = go (bytes_of w what) e
-  where
-    go : (o : Option (List ℕ)) → option_map Deliver o ≡ Some c → GivesVariables c
-    go None e = absurd (cc)
-    go (Some bs) e = (let r : Deliver bs ≡ c = cc in subst GivesVariables r tt)
-call_small sha s w k (CraftStep d) c good e = absurd (cc)
+  known_past : At sha hash s (new_world programs s).pasts (course sha hash programs s compiled sched) (is_course sha hash programs s compiled sched) r.who r.past
+  known_past = (known_before sha hash s (new_world programs s).pasts (course sha hash programs s compiled sched) (is_course sha hash programs s compiled sched) r.first (Asked r.who c ∷ r.rest) r.parts).nodes r.who r.past r.is_past
 
-module _ (sha : Hash) (hash : IsHash sha) (programs : List Program) (s : Schedule) (compiled : AreCompiled sha s.graphs programs) (sched : IsSchedule sha s) where
-  steps_are : AllByRecursion (IsStep sha s) s.steps
-  steps_are = recursion_from_All (IsStep sha s) s.steps sched.steps
+  programs_are : AllByRecursion (IsProgram sha) n.programs
+  programs_are = are_programs sha s n.programs (known_past.known).programs
 
-  module _ (l : Logged) (c : Call) (r : StepOf sha s l c (new_world programs s) 1 s.steps) where
-    abbrev at : World
-    at = world_after_all sha s (new_world programs s) 1 r.before
-
-    good_step : IsStep sha s r.step
-    good_step = all_mid (IsStep sha s) r.before r.step r.after (subst (AllByRecursion (IsStep sha s)) r.parts steps_are)
-
-    abbrev n : Node
-    n = node_of r.one.past
-
-    abbrev before : List Happening
-    before = course_from sha s (new_world programs s) 1 r.before
-
-    parts : (rest : List Happening) × (course sha hash programs s compiled sched ≡ course_from sha s (new_world programs s) 1 r.before ++ rest)
-    parts = let q = course_split sha s (new_world programs s) 1 r.before (r.step ∷ r.after) in (q.0, ap (course_from sha s (new_world programs s) 1) r.parts ∙ q.1)
-
-    its_past : past_of (run_of sha (new_world programs s).pasts before) r.one.who ≡ Some r.one.past
-    its_past = ap (λ (w : World). past_of w r.one.who) (all_same sha s (new_world programs s) 1 r.before) ∙ r.one.is_past
-
-    known_past : At sha hash s (new_world programs s).pasts (course sha hash programs s compiled sched) (is_course sha hash programs s compiled sched) r.one.who r.one.past
-    known_past = (known_before sha hash s (new_world programs s).pasts (course sha hash programs s compiled sched) (is_course sha hash programs s compiled sched) before parts.0 parts.1).nodes r.one.who r.one.past its_past
-
-    programs_are : AllByRecursion (IsProgram sha) n.programs
-    programs_are = are_programs sha s n.programs (known_past.known).programs
-
-    named : names_numbers (answer sha n c) ≡ true → NamesFrom sha n programs_are c (answer sha n c)
-    named h = call_named sha n programs_are c (call_small sha s at (1 + length r.before) r.step c good_step r.one.call) (answer sha n c) refl h
+  named : names_numbers (answer sha n c) ≡ true → NamesFrom sha n programs_are c (answer sha n c)
+  named h = call_named sha n programs_are c (gives_variables c its_given) (answer sha n c) refl h
 
 pub entries_are_named : (sha : Hash) → IsHash sha → EntriesAreNamed sha
 entries_are_named sha hash programs s compiled sched l c i e a h =
-    let r = run_step sha programs s l c i e in
-    let same = same_past sha programs s l c r a in
+    let r = entry_asked sha programs s l c i e in
+    let same = same_past sha programs s r.0 l c r.1 a in
     subst (λ p. IsNamed sha (node_of p) c (answer sha (node_of p) c)) same
-    (named sha hash programs s compiled sched l c r (subst (λ p. names_numbers (answer sha (node_of p) c) ≡ true) (sym same) h)).is_named
+    (named sha hash programs s compiled sched r.0 l c r.1 (subst (λ p. names_numbers (answer sha (node_of p) c) ≡ true) (sym same) h)).is_named
 
 -- ---- one cast and one graph
 
-module _ (sha : Hash) (hash : IsHash sha) (programs : List Program) (s : Schedule) (compiled : AreCompiled sha s.graphs programs) (sched : IsSchedule sha s) (l : Logged) (c : Call) (i : In (run sha programs s).log l) (e : l.call ≡ Some c)
-    (r : StepOf sha s l c (new_world programs s) 1 s.steps) (h : names_numbers (answer sha (node_of r.one.past) c) ≡ true) where
+module _ (sha : Hash) (hash : IsHash sha) (programs : List Program) (s : Schedule) (compiled : AreCompiled sha s.graphs programs) (sched : IsSchedule sha s) (before : List Logged) (l : Logged) (c : Call) (i : In (run sha programs s).log l)
+    (r : AskedInRun sha programs s before l c) (h : names_numbers (answer sha (node_of r.past) c) ≡ true) where
   abbrev w : World
   w = run sha programs s
 
   abbrev n' : Node
-  n' = node_of r.one.past
+  n' = node_of r.past
 
-  abbrev t : NamesFrom sha n' (programs_are sha hash programs s compiled sched l c r) c (answer sha n' c)
-  t = named sha hash programs s compiled sched l c r h
+  abbrev t : NamesFrom sha n' (programs_are sha hash programs s compiled sched before l c r) c (answer sha n' c)
+  t = named sha hash programs s compiled sched before l c r h
 
   -- the session's cast is one whose text was hashed
   record IsNoted (x : Session) : Type 0 where
@@ -244,22 +149,16 @@ module _ (sha : Hash) (hash : IsHash sha) (programs : List Program) (s : Schedul
   cast_in_run : (sid : List ℕ) → cast_of_session sid w'.log ≡ cast_of_session sid w.log
   cast_in_run sid = ap (λ (z : World). cast_of_session sid z.log) one_run
 
-  its_given : IsGiven c
-  its_given = elim ((logs_known sha hash s (new_world programs s).pasts (course sha hash programs s compiled sched) (is_course sha hash programs s compiled sched)).logs l (subst (λ (z : World). In z.log l) (sym one_run) i)) [
-    | inl q ↦ absurd (let z : None ≡ Some c = sym q.call ∙ e in cc)
-    | inr o ↦ (let z : Some o.c ≡ Some c = sym o.is_call ∙ e in let its : o.c ≡ c = cc in subst IsGiven its o.in_range)
-  ]
-
   noted : (x : Session) → In n'.live x ⊎ ((cast_in c ≡ Some x.cast) × (session_id sha x.cast ≡ x.sid) × In (notes sha n' c).hashed (session_text_of x.cast)) → IsNoted x
   noted x (inl j) =
-      let q = (known_past sha hash programs s compiled sched l c r).known in
-      let k : Known sha (λ t. In (hashed s w') t) r.one.who x = rec_in (Known sha (λ t. In (hashed s w') t) r.one.who) n'.live x q.known j in
+      let q = (known_past sha hash programs s compiled sched before l c r).known in
+      let k : Known sha (λ t. In (hashed s w') t) r.who x = rec_in (Known sha (λ t. In (hashed s w') t) r.who) n'.live x q.known j in
       let f : IsSession x = rec_in IsSession n'.live x q.fits j in
       record { fits = TL.cast_fits x.cast f.version f.cast; id = k.id; is_hashed = hashed_in (session_text_of x.cast) k.is_hashed }
   noted x (inr b) = record {
-    fits = by_call c its_given b.0;
+    fits = by_call c (its_given sha hash programs s compiled sched before l c r) b.0;
     id = b.1;
-    is_hashed = in_right (map graph_text_of s.graphs) (flat_map (λ (z : Logged). z.notes.hashed) w.log) (session_text_of x.cast) (in_flat (λ (z : Logged). z.notes.hashed) w.log l (session_text_of x.cast) i (subst (λ z. In z.hashed (session_text_of x.cast)) (sym r.one.is_notes) b.2));
+    is_hashed = in_right (map graph_text_of s.graphs) (flat_map (λ (z : Logged). z.notes.hashed) w.log) (session_text_of x.cast) (in_flat (λ (z : Logged). z.notes.hashed) w.log l (session_text_of x.cast) i (subst (λ z. In z.hashed (session_text_of x.cast)) (sym (ap (λ (z : Logged). z.notes) r.is)) b.2));
   }
     where
       by_call : (d : Call) → IsGiven d → cast_in d ≡ Some x.cast → CastFits x.cast
@@ -305,20 +204,20 @@ module _ (sha : Hash) (hash : IsHash sha) (programs : List Program) (s : Schedul
       let pair : (t.is_named.program, t.is_named.session) ≡ (u.program, u.session) = cc in
       let xs : t.is_named.session ≡ u.session = ap (λ (z : Program × Session). z.1) pair in
       let ps : t.is_named.program ≡ u.program = ap (λ (z : Program × Session). z.0) pair in
-      let its : IsProgram sha u.program × In s.graphs u.program.graph = subst (λ (z : Program). IsProgram sha z × In s.graphs z.graph) ps (rec_in (λ (z : Program). IsProgram sha z × In s.graphs z.graph) n'.programs t.is_named.program ((known_past sha hash programs s compiled sched l c r).known).programs t.there) in
+      let its : IsProgram sha u.program × In s.graphs u.program.graph = subst (λ (z : Program). IsProgram sha z × In s.graphs z.graph) ps (rec_in (λ (z : Program). IsProgram sha z × In s.graphs z.graph) n'.programs t.is_named.program ((known_past sha hash programs s compiled sched before l c r).known).programs t.there) in
       let same : (cast : Cast) → cast_of_session u.session.sid w.log ≡ Some cast → u.session.cast ≡ cast = same_cast free u.session (subst IsNoted xs (noted t.is_named.session t.is_from)) in
       record { graph = graph_found free u.program its.0 its.1 u.session.cast.graph u.is_graph; cast = same; event = had same; live = λ j. is_live same (in_from_Contains n'.live u.session j) }
     where
       is_live : ((cast : Cast) → cast_of_session u.session.sid w.log ≡ Some cast → u.session.cast ≡ cast) → In n'.live u.session → cast_of_session u.session.sid w.log ≡ Some u.session.cast
       is_live same j =
           let f : First u.session.sid = first_of_live sha hash s (new_world programs s).pasts (course sha hash programs s compiled sched) (is_course sha hash programs s compiled sched) u.session.sid
-          (before sha hash programs s compiled sched l c r) (parts sha hash programs s compiled sched l c r).0 (parts sha hash programs s compiled sched l c r).1 r.one.who r.one.past (its_past sha hash programs s compiled sched l c r) u.session j (bytes_same u.session.sid u.session.sid refl) in
+          r.first (Asked r.who c ∷ r.rest) r.parts r.who r.past r.is_past u.session j (bytes_same u.session.sid u.session.sid refl) in
           let is : cast_of_session u.session.sid w.log ≡ Some f.cast = sym (cast_in_run u.session.sid) ∙ f.is_cast in
           is ∙ ap (λ z. Some z) (sym (same f.cast is))
 
       had : ((cast : Cast) → cast_of_session u.session.sid w.log ≡ Some cast → u.session.cast ≡ cast) → (v : Event) → Contains (events_of_answer (answer sha n' c)) v → cast_of_session u.session.sid w.log ≡ Some u.session.cast
       had same v j =
-          let o : IsOfCast sha s w l r.one.who v = sessions_have_one_cast sha hash programs s compiled sched free l r.one.who v (contains_from_in w.log l i, r.one.is_who, subst (λ z. Contains (events_of_outcome z) v) (sym r.one.outcome) j) in
+          let o : IsOfCast sha s w l r.who v = sessions_have_one_cast sha hash programs s compiled sched free l r.who v (contains_from_in w.log l i, ap (λ (z : Logged). z.who) r.is, subst (λ z. Contains (events_of_outcome z) v) (sym (ap (λ (z : Logged). z.outcome) r.is)) j) in
           let its : cast_of_session u.session.sid w.log ≡ Some o.cast = ap (λ z. cast_of_session z w.log) (sym (u.event v j).0) ∙ o.is_cast in
           its ∙ ap (λ z. Some z) (sym (same o.cast its))
 
@@ -328,8 +227,8 @@ HasOneGraph sha programs s c p = names_numbers (answer sha (node_of p) c) ≡ tr
 
 pub entries_have_one_graph : (sha : Hash) → IsHash sha → EntriesHaveOneGraph sha
 entries_have_one_graph sha hash programs s compiled sched free l c i e a =
-    let r = run_step sha programs s l c i e in
-    subst (HasOneGraph sha programs s c) (same_past sha programs s l c r a) (λ h u. one_graph sha hash programs s compiled sched l c (in_from_Contains (run sha programs s).log l i) e r h free u)
+    let r = entry_asked sha programs s l c i e in
+    subst (HasOneGraph sha programs s c) (same_past sha programs s r.0 l c r.1 a) (λ h u. one_graph sha hash programs s compiled sched r.0 l c (in_from_Contains (run sha programs s).log l i) r.1 h free u)
 
 pub steps_are_named : (sha : Hash) → IsHash sha → StepsAreNamed sha
 steps_are_named sha hash = record { at_nodes = answers_are_named sha; answered = entries_are_answered sha; entries = entries_are_named sha hash; one_graph = entries_have_one_graph sha hash }
