@@ -17,10 +17,9 @@ use Rattle.sg_protocol.specs.Spelling.{HasSpelling, body}
 use Rattle.sg_protocol.specs.Texts.{Hash, IsHash, commitment, commitment_text_of}
 use Rattle.sg_protocol.specs.TextLaws.{IsVersion, OpeningFits}
 use Rattle.sg_protocol.specs.Keyring.{Program, targets_of}
-use Rattle.sg_protocol.specs.Session.{Session, Gave, principal, transcript, own_part, time, place, at_turn, commitments, extended}
+use Rattle.sg_protocol.specs.Session.{Session, Gave, principal, transcript, time, place, at_turn, commitments, extended}
 use Rattle.sg_protocol.specs.Sending.{text_of, text_to, frame_sent, own_item}
 use Rattle.sg_protocol.specs.Calls.{ActFault, Event, Sent, Act, Answer, Sends, NotActed}
-use Rattle.sg_protocol.specs.Verdict.{rows}
 use Rattle.sg_protocol.specs.Notes.{Note, note_of, notes_of_sent, Notes, notes, notes_of_act, no_notes}
 use Rattle.sg_protocol.specs.Walk.{is_typed_or_hidden, shown}
 use Rattle.sg_protocol.specs.Schedule.{Schedule, is_honest, honest_role}
@@ -223,6 +222,7 @@ module _ {sha : Hash} {programs : List Program} {sid : List ℕ} {cast : Cast} {
             sent = rw (act_sent gv.gi gv.its_last m.same_sid) (ap (λ z. st.machine.sent ++ V.step_of z ∷ []) (sym gv.made), (transcript_step known s LeftBy st (moved commit st (Writes x.role label os)) who x (Gave gv.gi os) m gv.matches).1);
             took = λ f t. (let e = t.is_call in absurd (cc));
             views = λ f t. (let e = t.is_call in absurd (cc));
+            origins = λ f q y t s. (let e = t.is_call in absurd (cc));
             life = inr (inr (inr (inr record {
               x = x;
               same_sid = m.same_sid;

@@ -13,7 +13,7 @@ use Rattle.sg_protocol.specs.Graph.{Graph, shape}
 use Rattle.sg_protocol.specs.Frame.{Cast, Item}
 use Rattle.sg_protocol.specs.Texts.{Hash, commitment}
 use Rattle.sg_protocol.specs.Keyring.{Keyring, Program}
-use Rattle.sg_protocol.specs.Session.{Session, Exchange, principal, items_of, transcript, own_part, extended, new_session}
+use Rattle.sg_protocol.specs.Session.{Session, Exchange, principal, items_of, transcript, extended, new_session}
 use Rattle.sg_protocol.specs.Calls.{Event, Call, Answer, events_of_answer, sid_of}
 use Rattle.sg_protocol.specs.Notes.{Note, Notes}
 use Rattle.sg_protocol.specs.Walk.{acts_of_event}
@@ -186,6 +186,7 @@ module _ {sha : Hash} {programs : List Program} {sid : List ℕ} {cast : Cast} {
     sent = rw (quiet_items sid a q) (sym (append-nil st.machine.sent), tt);
     took = λ f t. absurd (quiet_took sid c a f q t);
     views = λ f t. absurd (quiet_took sid c a f q t);
+    origins = λ f p x t e. absurd (quiet_took sid c a f q t);
     life = elim lf [ inl e ↦ inl record { quiet = q; same = e; fewer = fj } | inr w ↦ inr (inl w) ];
     more_joins = mj;
   }

@@ -15,11 +15,11 @@ use Rattle.sg_protocol.specs.Spelling.{HasSpelling}
 use Rattle.sg_protocol.specs.Texts.{Hash, commitment, commitment_text_of}
 use Rattle.sg_protocol.specs.TextLaws.{OpeningFits}
 use Rattle.sg_protocol.specs.Keyring.{Program}
-use Rattle.sg_protocol.specs.Session.{Session, Took, Gave, principal, items_of, time, at_turn, extended, new_session}
+use Rattle.sg_protocol.specs.Session.{Session, Took, Gave, principal, items_of, time, at_turn, extended, new_session, origin}
 use Rattle.sg_protocol.specs.Sending.{frame_sent, own_item}
 use Rattle.sg_protocol.specs.Calls.{Event, Started, Sent, Call, Deliver, Answer, Happened, Sends, events_of_answer, sid_of}
 use Rattle.sg_protocol.specs.Verdict.{seen, receipt}
-use Rattle.sg_protocol.specs.Notes.{Note, Notes}
+use Rattle.sg_protocol.specs.Notes.{Note, Notes, session_of_frame}
 use Rattle.sg_protocol.specs.Walk.{acts_of_event}
 use Rattle.sg_protocol.specs.Schedule.{Schedule, honest_role}
 use Rattle.sg_protocol.specs.World.{Answered}
@@ -229,5 +229,6 @@ module _ {sha : Hash} {programs : List Program} {sid : List ℕ} {cast : Cast} {
     pub sent : ((moved_all commit st moves).machine.sent ≡ st.machine.sent ++ map step (sent_in sid a)) × Roles (shape g) (sent_in sid a)
     pub took : (f : Frame) → TookFrame sid c a f → TakesFrame who moves f
     pub views : (f : Frame) → TookFrame sid c a f → IsView g f.receiver (record { origin = option_map (λ (t : TimedLabel). t.label) (st.machine.at f.receiver).own; items = map seen f.items })
+    pub origins : (f : Frame) (p : Program) (x : Session) → TookFrame sid c a f → session_of_frame n f ≡ Some (p, x) → origin x ≡ option_map (λ (t : TimedLabel). t.label) (st.machine.at f.receiver).own
     pub life : Life who n (node_after n c a) c a
     pub more_joins : (r : ℕ) → has_joined n.joins sid r ≡ true → has_joined (node_after n c a).joins sid r ≡ true

@@ -18,7 +18,7 @@ use Rattle.sg_protocol.specs.Spelling.{HasSpelling}
 use Rattle.sg_protocol.specs.Texts.{Hash, commitment, commitment_text_of, session_id, session_text_of}
 use Rattle.sg_protocol.specs.TextLaws.{IsVersion, CastFits, OpeningFits}
 use Rattle.sg_protocol.specs.Keyring.{Program}
-use Rattle.sg_protocol.specs.Session.{Session, Took, principal, items_of, own_part, origin, place, at_turn, last_label, extended, new_session}
+use Rattle.sg_protocol.specs.Session.{Session, Took, principal, items_of, origin, place, at_turn, last_label, extended, new_session}
 use Rattle.sg_protocol.specs.Calls.{Refusal, Deliver, Happened, NotDelivered, UnknownGraph, UnknownSession, NotWaiting, BadCast, BadSession, UnknownPeer, Joined, CacheFull, SessionsFull, Malformed}
 use Rattle.sg_protocol.specs.Verdict.{row, rows_of_session, is_right, seen, decided, receipt, verdict_on, rows_of_join, rows_of_next, join_rows, next_rows, rows}
 use Rattle.sg_protocol.specs.Notes.{Note, notes_in_session, Notes, notes, no_notes, notes_of_read, session_of_frame, hashed_of_join, hashed_openings, row_number}
@@ -100,6 +100,7 @@ module _ {sha : Hash} {programs : List Program} {sid : List ℕ} {cast : Cast} {
       no_own : has (λ (i : Item). i.role) x.role f.items ≡ false
       view : IsView z x.role (record { origin = option_map (λ (t : TimedLabel). t.label) (st.machine.at x.role).own; items = map seen f.items })
       typed : list_all (is_typed_or_hidden z) (V.values_of f.openings) ≡ true
+      its_origin : origin x ≡ option_map (λ (t : TimedLabel). t.label) (st.machine.at x.role).own
 
     taken_at : (x : Session) (p : Program) → p.graph ≡ g → IsViewTable p.graph x.role p.views → Matches g sid cast st who x → at_turn g x ≡ false → f.sid ≡ sid → f.receiver ≡ x.role → T.Rows sha n.keys p x f
         → ((nt : Note) → In (notes_in_session sha n.keys p x f 16).found nt → is_honest s nt.one ≡ true → is_honest s nt.two ≡ true → NoteOk g sid st.log nt) → TakenAt g x
@@ -117,6 +118,7 @@ module _ {sha : Hash} {programs : List Program} {sid : List ℕ} {cast : Cast} {
           no_own = T.no_own sha s sid cast n.keys p x f st who is' m' ok.me hon views version long wait' spelled fs fr rs found';
           view = T.law_view sha s sid cast n.keys p x f st who is' m' ok.me hon views version long wait' spelled fs fr rs found';
           by_me = T.by_me sha s sid cast n.keys p x f st who is' m' ok.me hon views version long wait' spelled fs fr rs found';
+          its_origin = T.law_origin sha s sid cast n.keys p x f st who is' m' ok.me hon views version long wait' spelled fs fr rs found';
           typed = T.values_typed sha s sid cast n.keys p x f st who is' m' ok.me hon views version long wait' spelled fs fr rs found';
         }
 
@@ -143,13 +145,13 @@ module _ {sha : Hash} {programs : List Program} {sid : List ℕ} {cast : Cast} {
     fit_openings (o ∷ os) h = (opening_fits o h.0, fit_openings os h.1)
 
     -- the answer to a frame that session x takes
-    take_done : (bs : List ℕ) → read bs ≡ Ok f → (x : Session) (p : Program) (rs : T.Rows sha n.keys p x f) → Matches g sid cast st who x → x.sid ≡ sid → f.sid ≡ sid → f.receiver ≡ x.role → principal cast x.role ≡ who → (t : TakenAt g x)
+    take_done : (bs : List ℕ) → read bs ≡ Ok f → (x : Session) (p : Program) → session_of_frame n f ≡ Some (p, x) → (rs : T.Rows sha n.keys p x f) → Matches g sid cast st who x → x.sid ≡ sid → f.sid ≡ sid → f.receiver ≡ x.role → principal cast x.role ≡ who → (t : TakenAt g x)
         → NodeOk known s LeftBy (moved commit st (Takes x.role t.node (entries f.items) f.openings)) who (node_after n (Deliver bs) (Happened (receipt f)))
         → at_turn g x ≡ false → p.graph ≡ g
         → ((filter (of_sid sid) n.live ≡ x ∷ []) × (f.join ≡ None)) ⊎ ((filter (of_sid sid) n.live ≡ []) × (has_joined n.joins sid x.role ≡ false) × (x ≡ new_session sid cast x.role))
         → filter (of_sid sid) (node_after n (Deliver bs) (Happened (receipt f))).live ≡ still programs (extended x (Took f)) → has_joined (node_after n (Deliver bs) (Happened (receipt f))).joins sid x.role ≡ true
         → ((r : ℕ) → has_joined n.joins sid r ≡ true → has_joined (node_after n (Deliver bs) (Happened (receipt f))).joins sid r ≡ true) → Out known s LeftBy st who n (Deliver bs) (Happened (receipt f)) (nts_of 16 (Some (p, x)))
-    take_done bs is_read x p rs m xs fs fr is_who t node' wait pg before now_ joined_ more_ = record {
+    take_done bs is_read x p sess rs m xs fs fr is_who t node' wait pg before now_ joined_ more_ = record {
       moves = Takes x.role t.node (entries f.items) f.openings ∷ [];
       may = (t.may, tt);
       node = node';
@@ -186,6 +188,15 @@ module _ {sha : Hash} {programs : List Program} {sid : List ℕ} {cast : Cast} {
           let ff : f ≡ f' = ok_same (read bs) f f' is_read (ap read same' ∙ q.is_read) in
           subst (λ (f : Frame). IsView g f.receiver (record { origin = option_map (λ (t : TimedLabel). t.label) (st.machine.at f.receiver).own; items = map seen f.items })) ff
           (subst (λ r. IsView g r (record { origin = option_map (λ (t : TimedLabel). t.label) (st.machine.at r).own; items = map seen f.items })) (sym fr) t.view)
+          );
+      origins = λ f' p' x' q e. (
+          let same : Deliver bs ≡ Deliver q.bs = q.is_call in
+          let same' : bs ≡ q.bs = cc in
+          let ff : f ≡ f' = ok_same (read bs) f f' is_read (ap read same' ∙ q.is_read) in
+          let two : Some (p, x) ≡ Some (p', x') = sym sess ∙ ap (session_of_frame n) ff ∙ e in
+          let pair : (p, x) ≡ (p', x') = cc in
+          subst (λ (z : Session). origin z ≡ option_map (λ (t : TimedLabel). t.label) (st.machine.at f'.receiver).own) (ap (λ (z : Program × Session). z.1) pair)
+          (t.its_origin ∙ ap (λ r. option_map (λ (t : TimedLabel). t.label) (st.machine.at r).own) (sym fr ∙ ap (λ (z : Frame). z.receiver) ff))
           );
       life = inr (inr (inr (inl record {
         f = f;
@@ -294,7 +305,7 @@ module _ {sha : Hash} {programs : List Program} {sid : List ℕ} {cast : Cast} {
           let wait : at_turn g x ≡ false = no_turn p x pr.0 pr.1 rs refl in
           let t : TakenAt g x = taken_at x p pr.0 pr.1 m wait fs refl rs (λ nt i. founds nt (subst (λ (z : Notes). In z.found nt) (sym nts) i)) in
           subst (Out known s LeftBy st who n (Deliver bs) (Happened (receipt f))) (sym nts)
-          (take_done bs is_read x p rs m fs fs refl is_who t
+          (take_done bs is_read x p sess rs m fs fs refl is_who t
           (subst (NodeOk known s LeftBy (moved commit st (Takes f.receiver t.node (entries f.items) f.openings)) who) (sym (ap (takes_read n) is_read ∙ ap nexts jc))
           (joined_ok known s LeftBy st who n ok (extended x (Took f)) (moved commit st (Takes f.receiver t.node (entries f.items) f.openings)) spelled.fields.sid.0 (join_status known s LeftBy (moved commit st (Takes f.receiver t.node (entries f.items) f.openings)) who n (extended x (Took f)) ok.has_programs fresh.alone t.matches)))
           wait pr.0 (inr (fresh.alone, free, ap (λ z. new_session z c f.receiver) fs ∙ ap (λ z. new_session sid z f.receiver) its))
@@ -325,7 +336,7 @@ module _ {sha : Hash} {programs : List Program} {sid : List ℕ} {cast : Cast} {
           let nts : notes_of_read sha n (Ok f) ≡ nts_of 16 (Some (p, x)) = notes_are e (p, x) sess in
           let t : TakenAt g x = taken_at x p pr.0 pr.1 m wait fs role rs (λ nt i. founds nt (subst (λ (z : Notes). In z.found nt) (sym nts) i)) in
           subst (Out known s LeftBy st who n (Deliver bs) (Happened (receipt f))) (sym nts)
-          (take_done bs is_read x p rs m m.same_sid fs role m.is_who t
+          (take_done bs is_read x p sess rs m m.same_sid fs role m.is_who t
           (subst (NodeOk known s LeftBy (moved commit st (Takes x.role t.node (entries f.items) f.openings)) who) (sym (ap (takes_read n) is_read ∙ ap nexts jn)) record {
             me = ok.me;
             has_programs = ok.has_programs;

@@ -1,7 +1,7 @@
 -- The walk of a session of a run, made event by event.
-use Rattle.std.specs.Prelude.{◌≡◌, ◌≢◌, ℕ, Bool, List, [], ◌∷◌, ◌++◌, map, flat_map, refl, Ok, Some, None, option_and_then}
+use Rattle.std.specs.Prelude.{◌≡◌, ◌≢◌, ℕ, Bool, List, [], ◌∷◌, ◌++◌, map, flat_map, refl, Ok, Some, None, option_and_then, ◌+◌, length, filter_map}
 use Rattle.std.specs.List.{AllByRecursion}
-use Rattle.std.proofs.Common.{sym, ◌∙◌, ap, subst}
+use Rattle.std.proofs.Common.{sym, ◌∙◌, ap, subst, inl}
 use Rattle.sg_model.specs.Values.{Opening}
 use Rattle.sg_law.specs.Explaining.{IsFollowedAsMade, moves_of}
 use Rattle.sg_law.specs.Values as V
@@ -13,25 +13,36 @@ use Rattle.sg_protocol.specs.Graph.{Graph, shape}
 use Rattle.sg_protocol.specs.Evidence.{IsView}
 use Rattle.sg_protocol.specs.Frame.{Cast, Frame}
 use Rattle.sg_protocol.specs.Reading.{read}
-use Rattle.sg_protocol.specs.Calls.{Deliver, Happened}
+use Rattle.sg_protocol.specs.Calls.{Deliver, Happened, events_of_answer}
 use Rattle.sg_protocol.specs.Verdict.{receipt}
 use Rattle.sg_protocol.specs.Texts.{Hash, IsHash, commitment, commitment_text_of}
 use Rattle.sg_protocol.specs.TextLaws.{OpeningFits}
-use Rattle.sg_protocol.specs.Past.{Past}
+use Rattle.sg_protocol.specs.Past.{Past, node_of}
 use Rattle.sg_protocol.specs.Walk.{OnePath}
 use Rattle.sg_protocol.specs.Schedule.{Schedule, graph_with, honest_role}
-use Rattle.sg_protocol.specs.World.{Answered, Logged, World}
-use Rattle.sg_protocol.specs.Run.{cast_in, cast_of_session, events_of}
+use Rattle.sg_protocol.specs.World.{Answered, Logged, World, past_of}
+use Rattle.sg_protocol.specs.Run.{cast_in, cast_of_session, events_of, called}
 use Rattle.sg_protocol.specs.Premises.{Premises, hashed}
 use Rattle.sg_protocol.specs.IsSchedule.{IsProgram}
-use Rattle.sg_protocol.specs.Explaining.{AllShown, view_in, walk_after_steps}
+use Rattle.sg_protocol.specs.Explaining.{AllShown, view_in, walk_after_steps, label_sent}
 use Rattle.sg_protocol.proofs.Paths.{TypedDeed, acts_of, one_path, steps_of}
 use Rattle.sg_protocol.proofs.LiveSessions.{no_entry}
-use Rattle.sg_protocol.proofs.Going.{Progress, SessionInRun}
+use Rattle.sg_protocol.proofs.Going.{Progress, SessionInRun, moves_before, out_of}
 use Rattle.sg_protocol.proofs.OneWalk.{FirstCast, begins, first_moves, binding, first_cast, graph_is, known, the_program}
 use Rattle.sg_protocol.proofs.Agreeing.{with_all}
-use Rattle.sg_protocol.proofs.MadeWalks.{Explains, Made, Shown, explains_called, explains_idle, shown_called, shown_idle}
-use Rattle.sg_protocol.proofs.Happenings.{Happening, IsCourse, Own, run_of}
+use Rattle.sg_protocol.proofs.MadeWalks.{Explains, Made, Shown, explains_called, explains_idle, shown_called, shown_idle, origin_took}
+use Rattle.sg_protocol.proofs.Happenings.{Happening, IsCourse, Own, run_of, Asked, IsRight, suffix_asked}
+use Rattle.sg_model.specs.Last.{last}
+use Rattle.sg_model.specs.Names.{Name}
+use Rattle.sg_model.proofs.Small.{all-parts}
+use Rattle.sg_protocol.specs.Keyring.{Program}
+use Rattle.sg_protocol.specs.Session.{Session, origin}
+use Rattle.sg_protocol.specs.Acting.{answer}
+use Rattle.sg_protocol.specs.Notes.{session_of_frame}
+use Rattle.sg_protocol.proofs.Acts.{in_last}
+use Rattle.sg_protocol.proofs.Answered.{entry_of}
+use Rattle.sg_protocol.proofs.OneCasts.{has_events}
+use Rattle.sg_protocol.proofs.Progressing.{Suffix, in_after}
 
 -- ---- under the graph of the session's first event
 
@@ -94,6 +105,17 @@ module _ (sha : Hash) (hash : IsHash sha) (s : Schedule) (ps : List Past) (cours
       nothing_before [] l after e = cc
       nothing_before (b ∷ before) l after e = cc
 
+  -- the origin of the session in which a frame is taken is the last label that its receiver sent before
+  origin_before : (hs gs : List Happening) (who : Name) (bs : List ℕ) (past : Past) (f : Frame) (q : Program) (x : Session) → course ≡ hs ++ Asked who (Deliver bs) ∷ gs → past_of (run_of sha ps hs) who ≡ Some past → read bs ≡ Ok f → answer sha (node_of past) (Deliver bs) ≡ Happened (receipt f) → f.sid ≡ sid
+      → session_of_frame (node_of past) f ≡ Some (q, x) → origin x ≡ last (filter_map (label_sent f.receiver) (events_of sid (run_of sha ps hs).log))
+  origin_before hs gs who bs past f q x e its_past reads ans is_sid is =
+      let w : World = run_of sha ps hs in
+      let k : ℕ = 1 + length hs in
+      let right = all-parts IsRight hs (Asked who (Deliver bs) ∷ gs) (subst (AllByRecursion IsRight) e is_course.right) in
+      let p : Progress session w = moves_before session w0 1 begun hs (Asked who (Deliver bs) ∷ gs) right.0 (ap (run_of sha ps) (sym e)) in
+      let after : Suffix (k + 1) (called sha w k who (Deliver bs) past).log wf.log = suffix_asked sha ps course hs gs who (Deliver bs) past e its_past in
+      origin_took session its.is_graph its.accepted bound w k p who past its_past (Deliver bs) right.1.0 after (out_of session w k p who past its_past (Deliver bs) right.1.0 after) f (record { bs = bs; is_call = refl; is_read = reads; is_answer = ans; is_sid = is_sid }) q x is
+
 -- ---- under the graph of its cast
 
 module _ (sha : Hash) (hash : IsHash sha) (s : Schedule) (ps : List Past) (course : List Happening) (is_course : IsCourse sha s ps course) (sid : List ℕ) (premises : Premises sha s (run_of sha ps course)) (cast : Cast) (y : Graph)
@@ -120,3 +142,14 @@ module _ (sha : Hash) (hash : IsHash sha) (s : Schedule) (ps : List Past) (cours
 
   pub frames_shown : (before : List Logged) (l : Logged) (after : List Logged) (bs : List ℕ) (f : Frame) → (run_of sha ps course).log ≡ before ++ l ∷ after → l.call ≡ Some (Deliver bs) → read bs ≡ Ok f → l.outcome ≡ Answered (Happened (receipt f)) → f.sid ≡ sid → IsView y f.receiver (view_in (events_of sid before) f)
   frames_shown before l after bs f e q r o i = subst (λ z. IsView z f.receiver (view_in (events_of sid before) f)) same_graph (all_shown sha hash s ps course is_course sid premises its_first before l after bs f e q r o i)
+
+-- the origin of the session in which a principal that is asked takes a frame is the last label that the frame's receiver sent in the session before
+pub origin_is_last : (sha : Hash) (hash : IsHash sha) (s : Schedule) (ps : List Past) (course : List Happening) (is_course : IsCourse sha s ps course) → Premises sha s (run_of sha ps course)
+    → (hs gs : List Happening) (who : Name) (bs : List ℕ) (past : Past) (f : Frame) (q : Program) (x : Session) → course ≡ hs ++ Asked who (Deliver bs) ∷ gs → past_of (run_of sha ps hs) who ≡ Some past → read bs ≡ Ok f → answer sha (node_of past) (Deliver bs) ≡ Happened (receipt f)
+    → session_of_frame (node_of past) f ≡ Some (q, x) → origin x ≡ last (filter_map (label_sent f.receiver) (events_of f.sid (run_of sha ps hs).log))
+origin_is_last sha hash s ps course is_course premises hs gs who bs past f q x e its_past reads ans is =
+    let k : ℕ = 1 + length hs in
+    let entry : Logged = entry_of sha k who past (Deliver bs) in
+    let there : In (run_of sha ps course).log entry = in_after (k + 1) (called sha (run_of sha ps hs) k who (Deliver bs) past).log (run_of sha ps course).log (suffix_asked sha ps course hs gs who (Deliver bs) past e its_past) entry (in_last (run_of sha ps hs).log entry) in
+    let some : events_of f.sid (run_of sha ps course).log ≢ [] = has_events (run_of sha ps course).log entry (receipt f) there (subst (λ a. In (events_of_answer a) (receipt f)) (sym ans) (inl refl)) in
+    origin_before sha hash s ps course is_course f.sid premises (first_cast sha hash s ps course is_course f.sid some) hs gs who bs past f q x e its_past reads ans refl is

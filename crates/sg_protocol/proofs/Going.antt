@@ -55,7 +55,7 @@ use Rattle.sg_protocol.proofs.Paths.{acts_of, TypedDeed, flat_map-append, writes
 use Rattle.sg_protocol.proofs.Ranges.{act_in_range}
 use Rattle.sg_protocol.proofs.StartCall.{start_out}
 use Rattle.sg_protocol.proofs.TextLaws.{opening_fits}
-use Rattle.sg_protocol.proofs.Happenings.{Happening, IsGiven, IsRight, all_happen, cast_given, given_in_range, keep_course, pasts_kept}
+use Rattle.sg_protocol.proofs.Happenings.{Happening, IsGiven, IsRight, all_happen, cast_given, given_in_range, keep_course, pasts_kept, keep_prefix}
 
 -- ---- confounders
 
@@ -258,6 +258,12 @@ module _ {sha : Hash} {s : Schedule} {sid : List ℕ} {cast : Cast} {g : Graph} 
     unfolding progress_called
     progress_moves c range after out = refl
 
-  -- all that happens
+  moves_called : (w : World) (k : ℕ) (p : Progress w) (who : Name) (past : Past) (its_past : past_of w who ≡ Some past) (c : Call) (range : IsGiven c) → Suffix (k + 1) (called sha w k who c past).log wf.log → Progress (called sha w k who c past)
+  moves_called w k p who past q c range after = progress_called w k p who past q c range after (out_of w k p who past q c range after)
+
+  -- all that happens, and what happens first
   pub all_moves : (w : World) (k : ℕ) → Progress w → (hs : List Happening) → AllByRecursion IsRight hs → all_happen sha w k hs ≡ wf → Progress wf
-  all_moves = keep_course sha wf Progress (λ w k p who o fr e. idle w k who o fr e p) (λ w k p who past q c right after. progress_called w k p who past q c right after (out_of w k p who past q c right after))
+  all_moves = keep_course sha wf Progress (λ w k p who o fr e. idle w k who o fr e p) moves_called
+
+  pub moves_before : (w : World) (k : ℕ) → Progress w → (hs gs : List Happening) → AllByRecursion IsRight hs → all_happen sha w k (hs ++ gs) ≡ wf → Progress (all_happen sha w k hs)
+  moves_before = keep_prefix sha wf Progress (λ w k p who o fr e. idle w k who o fr e p) moves_called

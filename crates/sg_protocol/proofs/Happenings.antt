@@ -1,5 +1,5 @@
 -- What happens in a run, one after another, whether a schedule says it or principals run apart.
-use Rattle.std.specs.Prelude.{◌≡◌, ℕ, ◌+◌, ◌==◌, nat_lt, ◌&&◌, IsTrue, true, List, [], ◌∷◌, ◌++◌, find, length, bytes_eq, refl, Option, Some, None, option_map, option_and_then, All, ⊤}
+use Rattle.std.specs.Prelude.{◌≡◌, ℕ, suc, ◌+◌, ◌==◌, nat_lt, ◌&&◌, IsTrue, true, List, [], ◌∷◌, ◌++◌, find, length, bytes_eq, refl, Option, Some, None, option_map, option_and_then, All, ⊤}
 use Rattle.std.specs.List.{AllByRecursion}
 use Rattle.std.specs.Option.{option_map_or}
 use Rattle.std.proofs.Common.{sym, ◌∙◌, ap, subst, inl, inr, arith, append-nil}
@@ -140,6 +140,18 @@ suffix_happens sha w k (Idle who o fr) = suffix_one k w.log _ refl
 pub suffix_course : (sha : Hash) (w : World) (k : ℕ) (hs : List Happening) → Suffix k w.log (all_happen sha w k hs).log
 suffix_course sha w k [] = suffix_refl k w.log
 suffix_course sha w k (h ∷ hs) = suffix_trans k (k + 1) w.log (happens sha w k h).log (all_happen sha (happens sha w k h) (k + 1) hs).log (omega arith) (suffix_happens sha w k h) (suffix_course sha (happens sha w k h) (k + 1) hs)
+
+-- the log after a call is where that of the whole course begins
+suffix_at : (sha : Hash) (w : World) (k : ℕ) (hs : List Happening) (h : Happening) (gs : List Happening) → Suffix (k + length hs + 1) (happens sha (all_happen sha w k hs) (k + length hs) h).log (all_happen sha w k (hs ++ h ∷ gs)).log
+suffix_at sha w k [] h gs = subst (λ n. Suffix (n + 1) (happens sha w n h).log (all_happen sha w k (h ∷ gs)).log) (let q : k ≡ k + 0 = omega arith in q) (suffix_course sha (happens sha w k h) (k + 1) gs)
+suffix_at sha w k (x ∷ hs) h gs =
+    subst (λ n. Suffix (n + 1) (happens sha (all_happen sha (happens sha w k x) (k + 1) hs) n h).log (all_happen sha w k (x ∷ hs ++ h ∷ gs)).log) (let q : k + 1 + length hs ≡ k + suc (length hs) = omega arith in q)
+    (suffix_at sha (happens sha w k x) (k + 1) hs h gs)
+
+pub suffix_asked : (sha : Hash) (ps : List Past) (course hs gs : List Happening) (who : Name) (c : Call) (past : Past) → course ≡ hs ++ Asked who c ∷ gs → past_of (run_of sha ps hs) who ≡ Some past → Suffix (1 + length hs + 1) (called sha (run_of sha ps hs) (1 + length hs) who c past).log (run_of sha ps course).log
+suffix_asked sha ps course hs gs who c past e its_past =
+    subst (λ (w : World). Suffix (1 + length hs + 1) w.log (run_of sha ps course).log) (ap (λ o. option_map_or (called sha (run_of sha ps hs) (1 + length hs) who c) o (run_of sha ps hs)) its_past)
+    (subst (λ z. Suffix (1 + length hs + 1) (happens sha (run_of sha ps hs) (1 + length hs) (Asked who c)).log (run_of sha ps z).log) (sym e) (suffix_at sha (record { pasts = ps; log = [] }) 1 hs (Asked who c) gs))
 
 -- ---- what is kept
 

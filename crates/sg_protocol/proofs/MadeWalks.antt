@@ -30,7 +30,8 @@ use Rattle.sg_protocol.specs.Reading.{read}
 use Rattle.sg_protocol.specs.Calls.{Deliver, Event, Started, Sent, Call, Answer, Happened, sid_of, events_of_answer}
 use Rattle.sg_protocol.specs.Acting.{answer}
 use Rattle.sg_protocol.specs.Verdict.{receipt, seen}
-use Rattle.sg_protocol.specs.Notes.{notes, no_notes}
+use Rattle.sg_protocol.specs.Notes.{notes, no_notes, session_of_frame}
+use Rattle.sg_protocol.specs.Session.{Session, origin}
 use Rattle.sg_protocol.specs.Past.{Past, node_of}
 use Rattle.sg_protocol.specs.Walk.{StoredStep, shown, acts_of_event}
 use Rattle.sg_protocol.specs.Schedule.{Schedule, honest_role}
@@ -235,14 +236,22 @@ module _ {sha : Hash} {s : Schedule} {sid : List ℕ} {cast : Cast} {g : Graph} 
         subst (λ ms. Made ms log) (sym (progress_moves known w k p who past its_past c range after out))
         (subst (Made (p.moves ++ out.moves)) (sym d.is) (made_now d.before d.walk d.are (h d.before d.are q.0) q.1))
 
+    module _ (f : Frame) (took : TookFrame sid c a f) where
+      own_sent : last (filter_map (label_sent f.receiver) (events_of sid w.log)) ≡ option_map (λ (t : TimedLabel). t.label) (st.machine.at f.receiver).own
+      own_sent = own_label w p f.receiver (subst (AllMay (shape g) honest commit st) (out.took f took).are out.may).0.is_honest
+
+      shown_took : IsView g f.receiver (view_in (events_of sid w.log) f)
+      shown_took = subst (λ o. IsView g f.receiver (record { origin = o; items = map seen f.items })) (sym own_sent) (out.views f took)
+
+      -- the origin of the session in which a frame is taken is the last label that its role sent
+      pub origin_took : (q : Program) (x : Session) → session_of_frame (node_of past) f ≡ Some (q, x) → origin x ≡ last (filter_map (label_sent f.receiver) (events_of sid w.log))
+      origin_took q x e = out.origins f q x took e ∙ sym own_sent
+
     pub shown_called : Shown w → Shown (called sha w k who c past)
     shown_called old before l' rest bs f e is_call is_read is_outcome is_sid = elim (split_at_end w.log l before l' rest e) [
       | inl r ↦ old before l' r.0 bs f r.2 is_call is_read is_outcome is_sid
       | inr r ↦
           let one : Some c ≡ Some (Deliver bs) = ap (λ (z : Logged). z.call) (sym r.0) ∙ is_call in
           let two : Answered a ≡ Answered (Happened (receipt f)) = ap (λ (z : Logged). z.outcome) (sym r.0) ∙ is_outcome in
-          let took : TookFrame sid c a f = record { bs = bs; is_call = cc; is_read = is_read; is_answer = cc; is_sid = is_sid } in
-          let honest_ : honest f.receiver ≡ true = (subst (AllMay (shape g) honest commit st) (out.took f took).are out.may).0.is_honest in
-          subst (λ z. IsView g f.receiver (view_in (events_of sid z) f)) (sym r.1)
-          (subst (λ o. IsView g f.receiver (record { origin = o; items = map seen f.items })) (sym (own_label w p f.receiver honest_)) (out.views f took))
+          subst (λ z. IsView g f.receiver (view_in (events_of sid z) f)) (sym r.1) (shown_took f (record { bs = bs; is_call = cc; is_read = is_read; is_answer = cc; is_sid = is_sid }))
     ]

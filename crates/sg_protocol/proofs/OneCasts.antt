@@ -38,7 +38,7 @@ filter_in q (y ∷ ys) x (inr i) h = elim (cases_Bool (q y)) [
 ]
 
 -- a session that has an event has events
-has_events : (log : List Logged) (l : Logged) (e : Event) → In log l → In (events_of_outcome l.outcome) e → events_of (sid_of e) log ≢ []
+pub has_events : (log : List Logged) (l : Logged) (e : Event) → In log l → In (events_of_outcome l.outcome) e → events_of (sid_of e) log ≢ []
 has_events log l e i j none = subst (λ es. In es e) none (filter_in (λ v. bytes_eq (sid_of v) (sid_of e)) (flat_map (λ (l : Logged). events_of_outcome l.outcome) log) e (in_flat (λ (l : Logged). events_of_outcome l.outcome) log l e i j) ((bytes_eq-Decides (sid_of e) (sid_of e)).1 refl))
 
 pub event_of_cast : (sha : Hash) (hash : IsHash sha) (s : Schedule) (ps : List Past) (course : List Happening) (is_course : IsCourse sha s ps course) → CollisionFree sha (hashed s (run_of sha ps course)) → (l : Logged) (who : Name) (e : Event) → HadEvent (run_of sha ps course) l who e → IsOfCast sha s (run_of sha ps course) l who e

@@ -76,6 +76,7 @@ module _ {sha : Hash} {programs : List Program} {sid : List ℕ} {cast : Cast} {
               sent = (sym (append-nil st.machine.sent), tt);
               took = λ f t. (let e = t.is_call in absurd (cc));
               views = λ f t. (let e = t.is_call in absurd (cc));
+              origins = λ f q y t s. (let e = t.is_call in absurd (cc));
               life = inr (inr (inl record {
                 role = p.role;
                 program = p;

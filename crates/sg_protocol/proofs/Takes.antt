@@ -144,9 +144,13 @@ module _ (sha : Hash) (s : Schedule) (sid : List ℕ) (cast : Cast) (keys : Keyr
   own_label None = refl
   own_label (Some i) = refl
 
+  -- its origin is the label of the law's own last step
+  pub law_origin : origin x ≡ option_map (λ (t : TimedLabel). t.label) (st.machine.at x.role).own
+  law_origin = own_label (last (own_part x)) ∙ ap (option_map (λ (t : TimedLabel). t.label)) (sym m.is_own)
+
   -- what it is shown, from the law's own last step on
   pub law_view : IsView g x.role (record { origin = option_map (λ (t : TimedLabel). t.label) (st.machine.at x.role).own; items = map seen f.items })
-  law_view = subst (λ o. IsView g x.role (record { origin = o; items = map seen f.items })) (own_label (last (own_part x)) ∙ ap (option_map (λ (t : TimedLabel). t.label)) (sym m.is_own)) viewed
+  law_view = subst (λ o. IsView g x.role (record { origin = o; items = map seen f.items })) law_origin viewed
 
   own_times : (o : Option Item) → unwrap_or (option_map (λ (i : Item). i.time) o) 0 ≡ R.time_of_own (option_map step o)
   own_times None = refl

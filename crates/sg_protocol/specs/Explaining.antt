@@ -21,6 +21,10 @@ use Rattle.sg_protocol.specs.World.{Logged, Answered}
 use Rattle.sg_protocol.specs.Run.{run, events_of, cast_of_session}
 use Rattle.sg_protocol.specs.Premises.{Premises}
 use Rattle.sg_protocol.specs.IsSchedule.{AreCompiled, IsSchedule}
+use Rattle.sg_protocol.specs.Named.{IsAnswered}
+use Rattle.sg_protocol.specs.Notes.{session_of_frame}
+use Rattle.sg_protocol.specs.Past.{node_of}
+use Rattle.sg_protocol.specs.Session.{Session, origin}
 
 -- ---- the walk
 
@@ -94,3 +98,10 @@ FramesShowViews sha = (programs : List Program) (s : Schedule) (sid : List ℕ) 
     Premises sha s w → cast_of_session sid w.log ≡ Some cast → graph_with sha s.graphs cast.graph ≡ Some g →
     w.log ≡ before ++ l ∷ after → l.call ≡ Some (Deliver bs) → read bs ≡ Ok f → l.outcome ≡ Answered (Happened (receipt f)) → f.sid ≡ sid →
     IsView g f.receiver (view_in (events_of sid before) f)
+
+-- If the assumptions hold, the origin of the session in which a node took a frame is the last label that the frame's receiver sent in the session's events before
+abbrev pub OriginsAreLastLabels : Hash → Type 0
+OriginsAreLastLabels sha = (programs : List Program) (s : Schedule) (before : List Logged) (l : Logged) (after : List Logged) (bs : List ℕ) (f : Frame) (p : Program) (x : Session) → AreCompiled sha s.graphs programs → IsSchedule sha s →
+    let w = run sha programs s in
+    Premises sha s w → w.log ≡ before ++ l ∷ after → l.call ≡ Some (Deliver bs) → read bs ≡ Ok f → l.outcome ≡ Answered (Happened (receipt f)) →
+    (a : IsAnswered sha programs s l (Deliver bs)) → session_of_frame (node_of a.past) f ≡ Some (p, x) → origin x ≡ last (filter_map (label_sent f.receiver) (events_of f.sid before))

@@ -30,7 +30,7 @@ ghost use Rattle.sg_protocol.specs.Returns.{TablesShowReturns};
 ghost use Rattle.sg_protocol.specs.Following.{KeptFollowsWalks};
 ghost use Rattle.sg_protocol.specs.Representation.{StatesRepresent};
 ghost use Rattle.sg_protocol.specs.Headline.{Headline, SessionsFollowWalks, NoneJoinsTwice, NodesJoinOnce, SessionsHaveOneCast, NoneTakesTwoRoles};
-ghost use Rattle.sg_protocol.specs.Explaining.{WalksExplain, FramesShowViews};
+ghost use Rattle.sg_protocol.specs.Explaining.{WalksExplain, FramesShowViews, OriginsAreLastLabels};
 ghost use Rattle.sg_protocol.specs.Isolation.{SessionsAreIsolated, AnswersAreOfSessions, CallsKeepAlike, CallsLeaveOthers};
 ghost use Rattle.sg_protocol.specs.Receipts.{ReceiptsHaveSends};
 ghost use Rattle.sg_protocol.specs.Beginnings.{RunsGoOn, PremisesHoldBefore};
@@ -212,10 +212,13 @@ pub fn sessions_follow()
 /// frame's labels and variables: of this walk's steps since the receiver's own last one, those after the last one of an honest
 /// sender are added, hidden, and each value received is filled in at the last step that writes its variable. Whichever such
 /// walks are given, if the assumptions hold, what is made so is one path of the session's events: for each schedule, for the
-/// programs compiled from its graphs, and for each session with an event, under the graph of its first event's cast.
+/// programs compiled from its graphs, and for each session with an event, under the graph of its first event's cast. The
+/// receiver's own last label, the last that it sent in the session's events before, is the origin of the session in which its node
+/// took the frame.
 pub fn walks_explain()
     ensures explained { (sha : List ℕ → List ℕ) → IsHash sha → WalksExplain sha }
     ensures shown { (sha : List ℕ → List ℕ) → IsHash sha → FramesShowViews sha }
+    ensures origins { (sha : List ℕ → List ℕ) → IsHash sha → OriginsAreLastLabels sha }
 {}
 
 /// Whatever the schedule: if the assumptions hold, each session follows one walk, and, whatever holds, no honest principal
