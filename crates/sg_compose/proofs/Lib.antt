@@ -1,4 +1,5 @@
 pub mod Ends
+pub mod FirstUse
 pub mod Joining
 pub mod Keeps
 pub mod Renaming

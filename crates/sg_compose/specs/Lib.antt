@@ -1,3 +1,4 @@
+pub mod Early
 pub mod Expansion
 pub mod FaultText
 pub mod Laws
