@@ -14,6 +14,8 @@ mod reach;
 #[cfg(test)]
 mod report;
 #[cfg(test)]
+mod role;
+#[cfg(test)]
 mod vis;
 #[cfg(test)]
 mod world;
