@@ -12,12 +12,12 @@ use Rattle.sg_ledger.specs.Format.{Join}
 use Rattle.sg_play.specs.declared.fault.PlayFault.TheVariants as PlayFaults
 use Rattle.sg_ending.specs.Output.{Output}
 use Rattle.sg_setup.specs.Setup.{Setup}
-use Rattle.sg_principal.specs.Ledgers.{Disked, EndsOver, counts, play_over}
-use Rattle.sg_principal.specs.Runs.{Linked, Outside}
+use Rattle.sg_principal.specs.Ledgers.{EndsOver, counts, play_over}
+use Rattle.sg_principal.specs.Outside.{Disked, Linked, Stage}
 use Rattle.sg_principal.proofs.Playing.{none_left}
 
 -- a play from when the ledger was opened ended as one from before
-pub after_ledger : (opened : List Join) (s : Setup) (most : ℕ) (old new : Outside) (disk disk1 disk2 : Disked) (r : Result (Unit {0}) KeepFault) → disk.faults ≤ disk1.faults
+pub after_ledger : (opened : List Join) (s : Setup) (most : ℕ) (old new : Stage) (disk disk1 disk2 : Disked) (r : Result (Unit {0}) KeepFault) → disk.faults ≤ disk1.faults
     → EndsOver opened s most old new disk1 disk2 r → EndsOver opened s most old new disk disk2 r
 after_ledger opened s most old new disk disk1 disk2 r l h = record {
   plays = h.plays;
@@ -28,14 +28,14 @@ after_ledger opened s most old new disk disk1 disk2 r l h = record {
 
 module _ (opened : List Join) (s : Setup) (most : ℕ) (out : Output) (random : Option (List (List ℕ))) (link link1 : Linked) (kept : link1.deliveries ≡ link.deliveries) (kept_sent : link1.sent ≡ link.sent) (falls : link.faults ≤ link1.faults) where
   -- before the link was opened, and when it was
-  abbrev pub before : Outside
+  abbrev pub before : Stage
   before = record { out = out; link = link; random = random }
 
-  abbrev pub opened_link : Outside
+  abbrev pub opened_link : Stage
   opened_link = record { out = out; link = link1; random = random }
 
   -- a play from when the link was opened ended as one from before
-  pub after_link : (new : Outside) (disk disk' : Disked) (r : Result (Unit {0}) KeepFault) → EndsOver opened s most opened_link new disk disk' r → EndsOver opened s most before new disk disk' r
+  pub after_link : (new : Stage) (disk disk' : Disked) (r : Result (Unit {0}) KeepFault) → EndsOver opened s most opened_link new disk disk' r → EndsOver opened s most before new disk disk' r
   after_link new disk disk' r h = record {
     plays = λ ds ws d w. subst
         (λ (x : Option (List (Addr × List ℕ))). HasKept (record { written = out.bytes; sent = x }) (record { written = (new.out).bytes; sent = (new.link).sent }) disk'.may_leave (play_over opened s most ds ws) r) kept_sent

@@ -1,15 +1,20 @@
 -- Runs that play nothing, and plays over a link that was opened.
-use Rattle.std.proofs.Common.{◌≡◌, ◌⊎◌, inl, inr, ℕ, List, [], Option, Some, Result, refl, sym, ap, ◌∙◌, subst, arith}
+use Rattle.std.proofs.Common.{◌≡◌, ◌⊎◌, inl, inr, ℕ, ◌≤◌, List, [], Option, Some, Result, Err, refl, sym, ap, ◌∙◌, subst, arith}
 use Rattle.std.proofs.lemmas.List.{append-nil}
-use Rattle.sg_base.specs.Outside.{Appends}
+use Rattle.std.proofs.lemmas.Result.{on_ok_weaker}
+use Rattle.sg_base.specs.Outside.{HasRisen, Appends}
+use Rattle.sg_base.specs.declared.address.Addr.{Addr}
 use Rattle.sg_play.specs.Ends.{Outside as KnownOutside, WholePrefix, Ended}
 use Rattle.sg_play.specs.Steps.{Step}
 use Rattle.sg_play.specs.declared.fault.PlayFault.{PlayFault}
-use Rattle.sg_base.specs.declared.address.Addr.{Addr}
+use Rattle.sg_play.specs.declared.fault.PlayFault.TheVariants as Play
 use Rattle.sg_protocol.specs.Keyring.{Keyring}
 use Rattle.sg_ending.specs.Ending.{Ending, LinkFailed}
+use Rattle.sg_ending.specs.Output.{Output}
+use Rattle.sg_ending.proofs.Files.{rises}
 use Rattle.sg_setup.specs.Setup.{Setup, waits_at}
-use Rattle.sg_principal.specs.Runs.{LacksLink, Outside, Plays, TakesAtMost, WaitsAt, steps_played}
+use Rattle.sg_principal.specs.Outside.{Linked, Stage}
+use Rattle.sg_principal.specs.Runs.{EndsPlaying, LacksLink, TakesAtMost, WaitsAt, steps_played}
 
 -- nothing was added
 appends_none : {A : Type 0} (x y : Option (List A)) → y ≡ x → Appends x y []
@@ -28,30 +33,62 @@ none_taken old new steps w s = record {
 pub none_left : (most : ℕ) (old new : Option (List (List ℕ))) → new ≡ old → TakesAtMost most old new
 none_left most old new same deliveries h = (0, omega arith, same ∙ h)
 
--- a play from when the link was opened is one from before
-pub opened : (s : Setup) (most : ℕ) (start old new : Outside) (r : Result (Unit {0}) PlayFault) → old.out ≡ start.out → (old.link).deliveries ≡ (start.link).deliveries
-    → (old.link).sent ≡ (start.link).sent → old.random ≡ start.random → Plays s most old new r → Plays s most start new r
-opened s most start old new r out deliveries sent random h ds ws d w =
-    subst (λ x. Ended (record { written = (start.out).bytes; sent = x }) (record { written = (new.out).bytes; sent = (new.link).sent }) (steps_played s most ds ws) r) sent
-    (subst (λ o. Ended (record { written = o.bytes; sent = (old.link).sent }) (record { written = (new.out).bytes; sent = (new.link).sent }) (steps_played s most ds ws) r) out
-    (h ds ws (deliveries ∙ d) (random ∙ w)))
+-- nothing was played, since memory ran out before
+pub not_begun : (s : Setup) (most : ℕ) (old : Stage) → EndsPlaying s most old old (Err Play.OutOfMemory)
+not_begun s most old = record {
+  plays = λ ds ws d w. none_taken (record { written = (old.out).bytes; sent = (old.link).sent }) (record { written = (old.out).bytes; sent = (old.link).sent }) (steps_played s most ds ws) refl refl;
+  left = tt;
+  at_most = none_left most (old.link).deliveries (old.link).deliveries refl;
+  link_falls = omega arith;
+  link_failed = λ e. absurd cc;
+  write_failed = λ e. absurd cc;
+}
 
--- nothing was played
-pub unplayed : (s : Setup) (most : ℕ) (old new : Outside) (r : Result (Unit {0}) PlayFault) → (new.out).bytes ≡ (old.out).bytes → (new.link).sent ≡ (old.link).sent
-    → ((o n : KnownOutside) (steps : List Step) → WholePrefix o n steps → Ended o n steps r) → Plays s most old new r
-unplayed s most old new r out sent ends ds ws d w =
-    ends (record { written = (old.out).bytes; sent = (old.link).sent }) (record { written = (new.out).bytes; sent = (new.link).sent }) (steps_played s most ds ws)
-    (none_taken (record { written = (old.out).bytes; sent = (old.link).sent }) (record { written = (new.out).bytes; sent = (new.link).sent }) (steps_played s most ds ws) out sent)
+module _ (out : Output) (random : Option (List (List ℕ))) (link link1 : Linked) (kept : link1.deliveries ≡ link.deliveries) (kept_sent : link1.sent ≡ link.sent) where
+  -- before the link was opened, and when it was
+  abbrev pub before : Stage
+  before = record { out = out; link = link; random = random }
 
--- a play that ended as this did
-pub ended_as : (s : Setup) (most : ℕ) (old new : Outside) (r q : Result (Unit {0}) PlayFault) → r ≡ q → Plays s most old new r → Plays s most old new q
-ended_as s most old new r q same h = subst (Plays s most old new) same h
+  abbrev pub opened_link : Stage
+  opened_link = record { out = out; link = link1; random = random }
+
+  -- the link was not opened
+  pub unopened : link1.bound ≡ link.bound → HasRisen link.faults link1.faults → LacksLink before opened_link
+  unopened kept_bound risen = record {
+    risen = risen;
+    untouched = λ i. record { out = out; link = record { bound = kept_bound i; deliveries = kept i; sent = kept_sent i; faults = link1.faults }; random = random };
+  }
+
+  module _ (s : Setup) (most : ℕ) (falls : link.faults ≤ link1.faults) where
+    -- a play from when the link was opened ended as one from before
+    pub after_link : (new : Stage) (r : Result (Unit {0}) PlayFault) → EndsPlaying s most opened_link new r → EndsPlaying s most before new r
+    after_link new r h = record {
+      plays = λ ds ws d w. subst
+          (λ (x : Option (List (Addr × List ℕ))). Ended (record { written = out.bytes; sent = x }) (record { written = (new.out).bytes; sent = (new.link).sent }) (steps_played s most ds ws) r) kept_sent
+          (h.plays ds ws (kept ∙ d) w);
+      left = on_ok_weaker r (λ t ds d. t ds (kept ∙ d)) h.left;
+      at_most = λ ds d. h.at_most ds (kept ∙ d);
+      link_falls = (let l : link1.faults ≤ (new.link).faults = h.link_falls in omega (arith, l));
+      link_failed = λ e. rises link.faults link1.faults (new.link).faults falls h.link_falls (h.link_failed e);
+      write_failed = h.write_failed;
+    }
+
+    -- nothing was played, since the link was not opened
+    pub without_link : HasRisen link.faults link1.faults → EndsPlaying s most before opened_link (Err Play.LinkFailed)
+    without_link risen = record {
+      plays = λ ds ws d w. none_taken (record { written = out.bytes; sent = link.sent }) (record { written = out.bytes; sent = link1.sent }) (steps_played s most ds ws) refl kept_sent;
+      left = tt;
+      at_most = none_left most link.deliveries link1.deliveries kept;
+      link_falls = omega (arith, falls);
+      link_failed = λ e. risen;
+      write_failed = λ e. absurd cc;
+    }
 
 -- the address at which the keys wait is theirs
 pub at_address : (a : Addr) (keys : Keyring) → a.ip ≡ keys.ip → a.port ≡ keys.port → a ≡ waits_at keys
 at_address a keys ip port = λ i. record { ip = ip i; port = port i }
 
 -- where a play leaves the link that ends so
-pub waits : {P : Type 0} (keys : Keyring) (old new : Outside) (e : Ending) → (P → e ≡ LinkFailed) → ((new.link).bound ≡ Some (waits_at keys)) ⊎ (P × LacksLink old new) → WaitsAt keys old new e
+pub waits : {P : Type 0} (keys : Keyring) (old new : Stage) (e : Ending) → (P → e ≡ LinkFailed) → ((new.link).bound ≡ Some (waits_at keys)) ⊎ (P × LacksLink old new) → WaitsAt keys old new e
 waits keys old new e h (inl bound) = inl bound
 waits keys old new e h (inr lacks) = inr (h lacks.0, lacks.1)

@@ -1,12 +1,32 @@
--- Runs for an application, from before a ledger was opened.
-use Rattle.std.proofs.Common.{◌≡◌, ◌≤◌, ◌⊎◌, Bool, List, Result, inl, inr, ◌∙◌, arith}
+-- Runs for an application, from before a ledger and a link were opened.
+use Rattle.std.proofs.Common.{◌≡◌, ℕ, ◌≤◌, ◌⊎◌, Bool, List, Option, Some, Result, inl, inr, ◌∙◌, arith}
+use Rattle.sg_base.specs.Outside.{HasRisen}
+use Rattle.sg_base.specs.declared.address.Addr.{Addr}
 use Rattle.sg_ledger.specs.Format.{Join}
 use Rattle.sg_serve.specs.declared.fault.ServeFault.{ServeFault}
 use Rattle.sg_ending.specs.Ending.{Ending}
-use Rattle.sg_setup.specs.Setup.{Principal}
-use Rattle.sg_principal.specs.Ledgers.{Disked, IsLeft}
-use Rattle.sg_principal.specs.Serves.{Application, EndsServing, ServesOver}
+use Rattle.sg_ending.specs.Output.{Output}
 use Rattle.sg_ending.proofs.Files.{rises}
+use Rattle.sg_setup.specs.Setup.{Principal}
+use Rattle.sg_principal.specs.Ledgers.{IsLeft}
+use Rattle.sg_principal.specs.Outside.{Application, Disked, Entered, Waited}
+use Rattle.sg_principal.specs.Serves.{EndsServing, IsOpened, LacksLink, ServesOver}
+
+module _ (link link1 : Waited) (kept : link1.coming ≡ link.coming) (kept_sent : link1.sent ≡ link.sent) where
+  -- the link was opened
+  pub opened : (at : Addr) → link1.bound ≡ Some at → link.faults ≤ link1.faults → IsOpened at link link1
+  opened at bound falls = record {
+    untouched = λ i. record { bound = bound i; coming = kept i; sent = kept_sent i; faults = link1.faults };
+    falls = falls;
+  }
+
+  -- it was not
+  pub unopened : (out : Output) (random : Option (List (List ℕ))) (input : Entered) → link1.bound ≡ link.bound → HasRisen link.faults link1.faults
+      → LacksLink (record { out = out; link = link; random = random; input = input }) (record { out = out; link = link1; random = random; input = input })
+  unopened out random input kept_bound risen = record {
+    risen = risen;
+    untouched = λ i. record { out = out; link = record { bound = kept_bound i; coming = kept i; sent = kept_sent i; faults = link1.faults }; random = random; input = input };
+  }
 
 module _ (kept : Bool) (opened : List Join) (p : Principal) (old new : Application) (disk disk1 disk2 : Disked) (falls : disk.faults ≤ disk1.faults) where
   -- what was served from when the ledger was opened was served from before

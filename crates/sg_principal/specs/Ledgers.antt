@@ -10,17 +10,10 @@ use Rattle.sg_ledger.specs.Format.{Join, IsLedger, IsFirstBadSlot, Represents}
 use Rattle.sg_play.specs.Played.{Play, played}
 use Rattle.sg_play.specs.declared.fault.PlayFault.TheVariants as PlayFaults
 use Rattle.sg_ending.specs.Ending.{Ending, Written, NoLedger, BadSlot, LedgerNotEmpty, WriteFailed, LinkFailed, DiskFailed, NoMemory}
-use Rattle.sg_ending.specs.Files.{KnownFiles}
 use Rattle.sg_ending.specs.Output.{Output, Writes}
 use Rattle.sg_setup.specs.Setup.{RunFiles, Setup, HasSetup, LacksSetup}
-use Rattle.sg_principal.specs.Runs.{Outside, IsUntouched, Takes, TakesAtMost, WaitsAt, CanHavePlayed}
-
--- a disk: the name of the file that it is bound to, if it is bound to one, the bytes of this file, if they are known, the images, which are what a crash may leave of it, and its count of faults
-pub record Disked : Type 1 where
-  pub bound : Option (List ℕ)
-  pub seen : Option (List ℕ)
-  pub may_leave : List ℕ → Type 0
-  pub faults : ℕ
+use Rattle.sg_principal.specs.Outside.{Disked, Filed, Stage}
+use Rattle.sg_principal.specs.Runs.{Takes, TakesAtMost, WaitsAt, CanHavePlayed}
 
 -- the file is as it was, and a crash leaves nothing other than before
 abbrev pub IsLeft : (disk disk' : Disked) → Type 0
@@ -70,40 +63,40 @@ abbrev pub play_over : (opened : List Join) → Setup → (most : ℕ) → (deli
 play_over opened s most deliveries random = played s.keys s.programs opened s.script (take most deliveries) random
 
 -- if the deliveries and the random bytes are known: what was written and sent is what this play writes and sends, up to where it ended, and what a crash leaves of the disk is the ledger with the joins of the play up to there, among them the session and the sender of each frame that was sent
-abbrev pub PlaysOver : (opened : List Join) → Setup → (most : ℕ) → (old new : Outside) → (disk' : Disked) → Result (Unit {0}) KeepFault → Type 0
+abbrev pub PlaysOver : (opened : List Join) → Setup → (most : ℕ) → (old new : Stage) → (disk' : Disked) → Result (Unit {0}) KeepFault → Type 0
 PlaysOver opened s most old new disk' result = (deliveries random : List (List ℕ)) → (old.link).deliveries ≡ Some deliveries → old.random ≡ Some random
     → HasKept (record { written = (old.out).bytes; sent = (old.link).sent }) (record { written = (new.out).bytes; sent = (new.link).sent }) disk'.may_leave (play_over opened s most deliveries random) result
 
 -- how the program ends after a play over a ledger
-abbrev pub ending_of_play : Result (Unit {0}) KeepFault → Ending
-ending_of_play (Ok u) = Written
-ending_of_play (Err (KeepFaults.Played PlayFaults.LinkFailed)) = LinkFailed
-ending_of_play (Err (KeepFaults.Played PlayFaults.WriteFailed)) = WriteFailed
-ending_of_play (Err (KeepFaults.Played PlayFaults.OutOfMemory)) = NoMemory
-ending_of_play (Err KeepFaults.DiskFailed) = DiskFailed
+abbrev pub ending_of_keep : Result (Unit {0}) KeepFault → Ending
+ending_of_keep (Ok u) = Written
+ending_of_keep (Err (KeepFaults.Played PlayFaults.LinkFailed)) = LinkFailed
+ending_of_keep (Err (KeepFaults.Played PlayFaults.WriteFailed)) = WriteFailed
+ending_of_keep (Err (KeepFaults.Played PlayFaults.OutOfMemory)) = NoMemory
+ending_of_keep (Err KeepFaults.DiskFailed) = DiskFailed
 
 -- how often the link, standard output and the disk failed
-abbrev pub counts : Outside → Disked → Counts
+abbrev pub counts : Stage → Disked → Counts
 counts o disk = record { link = (o.link).faults; out = (o.out).faults; disk = disk.faults }
 
 -- the play of a setup over the joins of an opened ledger ended so, of which a fault is reported only if its count rose
-pub record EndsOver (opened : List Join) (s : Setup) (most : ℕ) (old new : Outside) (disk disk' : Disked) (result : Result (Unit {0}) KeepFault) : Type 0 where
+pub record EndsOver (opened : List Join) (s : Setup) (most : ℕ) (old new : Stage) (disk disk' : Disked) (result : Result (Unit {0}) KeepFault) : Type 0 where
   pub plays : PlaysOver opened s most old new disk' result
   pub faults : CountsFaults (counts old disk) (counts new disk') result
   pub left : OnOk result (Takes most (old.link).deliveries (new.link).deliveries)
   pub at_most : TakesAtMost most (old.link).deliveries (new.link).deliveries
 
 -- a setup is played over the ledger that the file of this name is, and over the link at the address of its keys; or the file is none, and nothing is touched
-abbrev pub KeepsSetup : (file : List ℕ) → Setup → (most : ℕ) → (old new : Outside) → (disk disk' : Disked) → Ending → Type 0
+abbrev pub KeepsSetup : (file : List ℕ) → Setup → (most : ℕ) → (old new : Stage) → (disk disk' : Disked) → Ending → Type 0
 KeepsSetup file s most old new disk disk' ending =
-    ((opened : List Join) × (result : Result (Unit {0}) KeepFault) × (disk'.bound ≡ Some file) × IfSeen disk.seen (λ bytes. Represents bytes opened) × WaitsAt s.keys old new ending × EndsOver opened s most old new disk disk' result × (ending ≡ ending_of_play result))
-    ⊎ (IsUntouched old new × IsLeft disk disk' × IsBound file disk disk' ending × LacksLedger disk disk' ending)
+    ((opened : List Join) × (result : Result (Unit {0}) KeepFault) × (disk'.bound ≡ Some file) × IfSeen disk.seen (λ bytes. Represents bytes opened) × WaitsAt s.keys old new ending × EndsOver opened s most old new disk disk' result × (ending ≡ ending_of_keep result))
+    ⊎ ((new ≡ old) × IsLeft disk disk' × IsBound file disk disk' ending × LacksLedger disk disk' ending)
 
 -- a run over the ledger of a file ends so: the files hold a setup, which is played over the ledger, if there is one; or they hold none, and nothing is touched, nor the disk asked
-abbrev pub KeepsRun : (file : List ℕ) → RunFiles → (most : ℕ) → KnownFiles → (faults faults' : ℕ) → (old new : Outside) → (disk disk' : Disked) → Ending → Type 0
-KeepsRun file named most known faults faults' old new disk disk' ending =
-    ((s : Setup) × HasSetup known named s × KeepsSetup file s most old new disk disk' ending)
-    ⊎ (IsUntouched old new × IsNotAsked disk disk' × LacksSetup known faults faults' named ending)
+abbrev pub KeepsRun : (file : List ℕ) → RunFiles → (most : ℕ) → (files files' : Filed) → (old new : Stage) → (disk disk' : Disked) → Ending → Type 0
+KeepsRun file named most files files' old new disk disk' ending =
+    ((s : Setup) × HasSetup files.held named s × KeepsSetup file s most old new disk disk' ending)
+    ⊎ ((new ≡ old) × IsNotAsked disk disk' × LacksSetup files.held files.faults files'.faults named ending)
 
 -- with these endings a run over a ledger may have played
 abbrev pub CanHaveKept : Ending → Type 0

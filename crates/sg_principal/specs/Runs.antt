@@ -1,7 +1,6 @@
 -- How the run of one principal ends, and what it leaves.
-use Rattle.std.specs.Prelude.{◌≡◌, ℕ, ◌≤◌, ◌⊎◌, List, [], take, drop, Option, Some, Result, Ok, Err, ⊤}
+use Rattle.std.specs.Prelude.{◌≡◌, ℕ, ◌≤◌, ◌⊎◌, List, [], take, drop, Option, Some, Result, Ok, Err, OnOk, ⊤}
 use Rattle.sg_base.specs.Outside.{HasRisen}
-use Rattle.sg_base.specs.declared.address.Addr.{Addr}
 use Rattle.sg_play.specs.Ends.{Ended}
 use Rattle.sg_play.specs.Played.{played}
 use Rattle.sg_play.specs.Steps.{Step}
@@ -9,29 +8,15 @@ use Rattle.sg_play.specs.declared.fault.PlayFault.{PlayFault}
 use Rattle.sg_play.specs.declared.fault.PlayFault.TheVariants as Play
 use Rattle.sg_protocol.specs.Keyring.{Keyring}
 use Rattle.sg_ending.specs.Ending.{Ending, Written, LinkFailed, WriteFailed, NoMemory}
-use Rattle.sg_ending.specs.Files.{KnownFiles}
-use Rattle.sg_ending.specs.Output.{Output}
 use Rattle.sg_setup.specs.Setup.{RunFiles, Setup, HasSetup, LacksSetup, waits_at}
-
--- a link: the address at which it waits, if it is open, the deliveries to come and the frames sent, if they are known, and its count of faults
-pub record Linked : Type 0 where
-  pub bound : Option Addr
-  pub deliveries : Option (List (List ℕ))
-  pub sent : Option (List (Addr × List ℕ))
-  pub faults : ℕ
-
--- what the program acts on: standard output, the link, and the random bytes to come, if they are known
-pub record Outside : Type 0 where
-  pub out : Output
-  pub link : Linked
-  pub random : Option (List (List ℕ))
+use Rattle.sg_principal.specs.Outside.{Filed, Stage}
 
 -- the steps of the play of a setup over the first deliveries, at most `most`, and with these random bytes
 abbrev pub steps_played : Setup → (most : ℕ) → (deliveries random : List (List ℕ)) → List Step
 steps_played s most deliveries random = (played s.keys s.programs [] s.script (take most deliveries) random).steps
 
 -- if the deliveries and the random bytes are known: what was written and sent is what these steps write and send, up to where the play ended
-abbrev pub Plays : Setup → (most : ℕ) → (old new : Outside) → Result (Unit {0}) PlayFault → Type 0
+abbrev pub Plays : Setup → (most : ℕ) → (old new : Stage) → Result (Unit {0}) PlayFault → Type 0
 Plays s most old new result = (deliveries random : List (List ℕ)) → (old.link).deliveries ≡ Some deliveries → old.random ≡ Some random
     → Ended (record { written = (old.out).bytes; sent = (old.link).sent }) (record { written = (new.out).bytes; sent = (new.link).sent }) (steps_played s most deliveries random) result
 
@@ -43,36 +28,36 @@ Takes n old new = (deliveries : List (List ℕ)) → old ≡ Some deliveries →
 abbrev pub TakesAtMost : ℕ → (old new : Option (List (List ℕ))) → Type 0
 TakesAtMost most old new = (deliveries : List (List ℕ)) → old ≡ Some deliveries → (n : ℕ) × (n ≤ most) × (new ≡ Some (drop n deliveries))
 
--- the play of a setup ends so: all was played; or the link failed or a line was not written whole, which the counts of faults show; or memory ran out
-abbrev pub PlayEnds : Setup → (most : ℕ) → (old new : Outside) → Ending → Type 0
-PlayEnds s most old new Written = Plays s most old new (Ok tt) × Takes most (old.link).deliveries (new.link).deliveries
-PlayEnds s most old new LinkFailed = Plays s most old new (Err Play.LinkFailed) × TakesAtMost most (old.link).deliveries (new.link).deliveries × HasRisen (old.link).faults (new.link).faults
-PlayEnds s most old new WriteFailed = Plays s most old new (Err Play.WriteFailed) × TakesAtMost most (old.link).deliveries (new.link).deliveries × HasRisen (old.out).faults (new.out).faults
-PlayEnds s most old new NoMemory = Plays s most old new (Err Play.OutOfMemory) × TakesAtMost most (old.link).deliveries (new.link).deliveries
-PlayEnds s most old new ending = ⊥
+-- the play of a setup ended so, of which a fault is reported only if its count rose
+pub record EndsPlaying (s : Setup) (most : ℕ) (old new : Stage) (result : Result (Unit {0}) PlayFault) : Type 0 where
+  pub plays : Plays s most old new result
+  pub left : OnOk result (Takes most (old.link).deliveries (new.link).deliveries)
+  pub at_most : TakesAtMost most (old.link).deliveries (new.link).deliveries
+  pub link_falls : (old.link).faults ≤ (new.link).faults
+  pub link_failed : result ≡ Err Play.LinkFailed → HasRisen (old.link).faults (new.link).faults
+  pub write_failed : result ≡ Err Play.WriteFailed → HasRisen (old.out).faults (new.out).faults
 
--- nothing was written or sent, nor was it tried, and no delivery and no random bytes were taken
-abbrev pub IsUntouched : (old new : Outside) → Type 0
-IsUntouched old new = (new.out ≡ old.out) × (new.link ≡ old.link) × (new.random ≡ old.random)
+-- how the program ends after it
+abbrev pub ending_of_play : Result (Unit {0}) PlayFault → Ending
+ending_of_play (Ok u) = Written
+ending_of_play (Err Play.LinkFailed) = LinkFailed
+ending_of_play (Err Play.WriteFailed) = WriteFailed
+ending_of_play (Err Play.OutOfMemory) = NoMemory
 
--- the link isn't opened, which its count of faults shows, and nothing else is touched: it waits where it did before
-pub record LacksLink (old new : Outside) : Type 0 where
+-- the link isn't opened, which its count of faults shows, and nothing but this count is other than before
+pub record LacksLink (old new : Stage) : Type 0 where
   pub risen : HasRisen (old.link).faults (new.link).faults
-  pub bound : (new.link).bound ≡ (old.link).bound
-  pub deliveries : (new.link).deliveries ≡ (old.link).deliveries
-  pub sent : (new.link).sent ≡ (old.link).sent
-  pub out : new.out ≡ old.out
-  pub random : new.random ≡ old.random
+  pub untouched : new ≡ record old { link = record (old.link) { faults = (new.link).faults } }
 
 -- the link waits at the address of the keys; or it can't be opened there, and nothing is played
-abbrev pub WaitsAt : Keyring → (old new : Outside) → Ending → Type 0
+abbrev pub WaitsAt : Keyring → (old new : Stage) → Ending → Type 0
 WaitsAt keys old new ending = ((new.link).bound ≡ Some (waits_at keys)) ⊎ ((ending ≡ LinkFailed) × LacksLink old new)
 
 -- a run ends so: the files hold a setup, which is played over the link at the address of its keys; or they hold none, and nothing is touched
-abbrev pub Runs : RunFiles → (most : ℕ) → KnownFiles → (faults faults' : ℕ) → (old new : Outside) → Ending → Type 0
-Runs named most known faults faults' old new ending =
-    ((s : Setup) × HasSetup known named s × WaitsAt s.keys old new ending × PlayEnds s most old new ending)
-    ⊎ (IsUntouched old new × LacksSetup known faults faults' named ending)
+abbrev pub Runs : RunFiles → (most : ℕ) → (files files' : Filed) → (old new : Stage) → Ending → Type 0
+Runs named most files files' old new ending =
+    ((s : Setup) × (result : Result (Unit {0}) PlayFault) × HasSetup files.held named s × WaitsAt s.keys old new ending × EndsPlaying s most old new result × (ending ≡ ending_of_play result))
+    ⊎ ((new ≡ old) × LacksSetup files.held files.faults files'.faults named ending)
 
 -- with these endings a run may have played
 abbrev pub CanHavePlayed : Ending → Type 0

@@ -11,55 +11,24 @@ use Rattle.sg_serve.specs.declared.fault.ServeFault.{ServeFault}
 use Rattle.sg_serve.specs.declared.fault.ServeFault.TheVariants as ServeFaults
 use Rattle.sg_wait.specs.declared.coming.Coming.{Coming}
 use Rattle.sg_ending.specs.Ending.{Ending, Written, InputFailed, WriteFailed, LinkFailed, DiskFailed, NoMemory}
-use Rattle.sg_ending.specs.Files.{KnownFiles}
-use Rattle.sg_ending.specs.Output.{Output}
 use Rattle.sg_setup.specs.Setup.{HasPrincipal, LacksPrincipal, Principal, waits_at}
-use Rattle.sg_principal.specs.Ledgers.{Disked, IsBound, IsLeft, IsNotAsked, LacksLedger}
+use Rattle.sg_principal.specs.Ledgers.{IsBound, IsLeft, IsNotAsked, LacksLedger}
+use Rattle.sg_principal.specs.Outside.{Application, Disked, Filed, Waited}
 
--- a link that can wait: the address at which it waits, if it is open, what is to come and the frames sent, if they are known, and its count of faults
-pub record Waited : Type 0 where
-  pub bound : Option Addr
-  pub coming : Option (List Coming)
-  pub sent : Option (List (Addr × List ℕ))
-  pub faults : ℕ
-
--- an input: the bytes to come, if they are known, and its count of faults
-pub record Entered : Type 0 where
-  pub bytes : Option (List ℕ)
-  pub faults : ℕ
-
--- what a run for an application acts on: standard output, its link, the random bytes to come, if they are known, and standard input
-pub record Application : Type 0 where
-  pub out : Output
-  pub link : Waited
-  pub random : Option (List (List ℕ))
-  pub input : Entered
-
--- the files that it names
+-- the files that a run for an application names
 pub record NamedFiles : Type 0 where
   pub keys : List ℕ
   pub programs : List (List ℕ)
   pub ledger : Option (List ℕ)
 
--- nothing was written or sent, nor was it tried, and nothing that is to come was taken
-abbrev pub IsUnasked : (old new : Application) → Type 0
-IsUnasked old new = (new.out ≡ old.out) × (new.link ≡ old.link) × (new.random ≡ old.random) × (new.input ≡ old.input)
-
--- the link isn't opened, which its count of faults shows, and nothing else is touched: it waits where it did before
+-- the link isn't opened, which its count of faults shows, and nothing but this count is other than before
 pub record LacksLink (old new : Application) : Type 0 where
-  pub bound : (new.link).bound ≡ (old.link).bound
   pub risen : HasRisen (old.link).faults (new.link).faults
-  pub out : new.out ≡ old.out
-  pub coming : (new.link).coming ≡ (old.link).coming
-  pub sent : (new.link).sent ≡ (old.link).sent
-  pub random : new.random ≡ old.random
-  pub input : new.input ≡ old.input
+  pub untouched : new ≡ record old { link = record (old.link) { faults = (new.link).faults } }
 
--- the link was opened at this address: what is to come and what was sent are as before
+-- the link was opened at this address: nothing but this and its count of faults is other than before
 pub record IsOpened (at : Addr) (old new : Waited) : Type 0 where
-  pub bound : new.bound ≡ Some at
-  pub coming : new.coming ≡ old.coming
-  pub sent : new.sent ≡ old.sent
+  pub untouched : new ≡ record old { bound = Some at; faults = new.faults }
   pub falls : old.faults ≤ new.faults
 
 -- what is known of the sink and the link
@@ -102,13 +71,13 @@ abbrev pub ServesPrincipal : (ledger : Option (List ℕ)) → Principal → (old
 ServesPrincipal None p old new disk disk' ending = ServesOver false [] p old new disk disk' ending × IsNotAsked disk disk'
 ServesPrincipal (Some file) p old new disk disk' ending =
     ((opened : List Join) × (disk'.bound ≡ Some file) × IfSeen disk.seen (λ bytes. Represents bytes opened) × ServesOver true opened p old new disk disk' ending)
-    ⊎ (IsUnasked old new × IsLeft disk disk' × IsBound file disk disk' ending × LacksLedger disk disk' ending)
+    ⊎ ((new ≡ old) × IsLeft disk disk' × IsBound file disk disk' ending × LacksLedger disk disk' ending)
 
 -- a run for an application ends so: the files hold a principal, which serves; or they hold none, and nothing is touched, nor the disk asked
-abbrev pub ServesRun : NamedFiles → KnownFiles → (faults faults' : ℕ) → (old new : Application) → (disk disk' : Disked) → Ending → Type 0
-ServesRun named known faults faults' old new disk disk' ending =
-    ((p : Principal) × HasPrincipal known named.keys named.programs p × ServesPrincipal named.ledger p old new disk disk' ending)
-    ⊎ (IsUnasked old new × IsNotAsked disk disk' × LacksPrincipal known faults faults' named.keys named.programs ending)
+abbrev pub ServesRun : NamedFiles → (files files' : Filed) → (old new : Application) → (disk disk' : Disked) → Ending → Type 0
+ServesRun named files files' old new disk disk' ending =
+    ((p : Principal) × HasPrincipal files.held named.keys named.programs p × ServesPrincipal named.ledger p old new disk disk' ending)
+    ⊎ ((new ≡ old) × IsNotAsked disk disk' × LacksPrincipal files.held files.faults files'.faults named.keys named.programs ending)
 
 -- with these endings a run for an application may have begun
 abbrev pub CanHaveServed : Ending → Type 0

@@ -5,6 +5,7 @@ ghost use Rattle.sg_ledger.specs.Disk.{IfSeen};
 ghost use Rattle.sg_ledger.specs.Format.{Represents};
 ghost use Rattle.sg_ending.specs.Model.{ending_held};
 ghost use Rattle.sg_principal.specs.Ledgers.{IsBound, IsLeft, LacksLedger};
+ghost use Rattle.sg_principal.specs.Outside.{disk_of};
 
 use sg_ending::Ending;
 use sg_ledger::{Disk, Ledger, OpenFault};
@@ -20,9 +21,9 @@ pub fn open_ledger<D: Disk>(
     ensures opened { IfOk result (λ ledger. IfSeen (D.seen disk.old) (λ bytes. Represents bytes ledger.joins)) }
     ensures represents { IfOk result (λ ledger. AllRepresent (D.may_leave disk.new) ledger.joins) }
     ensures bound { OnOk result (D.bound disk.new ≡ Some file.now) }
-    ensures tried { IfErr result (λ ending. IsBound file.now (record { bound = D.bound disk.old; seen = D.seen disk.old; may_leave = D.may_leave disk.old; faults = D.faults disk.old }) (record { bound = D.bound disk.new; seen = D.seen disk.new; may_leave = D.may_leave disk.new; faults = D.faults disk.new }) (ending_held ending)) }
-    ensures lacks { IfErr result (λ ending. LacksLedger (record { bound = D.bound disk.old; seen = D.seen disk.old; may_leave = D.may_leave disk.old; faults = D.faults disk.old }) (record { bound = D.bound disk.new; seen = D.seen disk.new; may_leave = D.may_leave disk.new; faults = D.faults disk.new }) (ending_held ending)) }
-    ensures left { IsLeft (record { bound = D.bound disk.old; seen = D.seen disk.old; may_leave = D.may_leave disk.old; faults = D.faults disk.old }) (record { bound = D.bound disk.new; seen = D.seen disk.new; may_leave = D.may_leave disk.new; faults = D.faults disk.new }) }
+    ensures tried { IfErr result (λ ending. IsBound file.now (disk_of D.Disk disk.old) (disk_of D.Disk disk.new) (ending_held ending)) }
+    ensures lacks { IfErr result (λ ending. LacksLedger (disk_of D.Disk disk.old) (disk_of D.Disk disk.new) (ending_held ending)) }
+    ensures left { IsLeft (disk_of D.Disk disk.old) (disk_of D.Disk disk.new) }
     ensures falls { D.faults disk.old ≤ D.faults disk.new }
 {
     match disk.open(file) {

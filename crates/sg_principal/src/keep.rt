@@ -1,13 +1,17 @@
 //! The command `keep`: a run over a ledger. It reads keys, programs and a script, opens the ledger and then the link, and plays the script as
 //! one principal whose joins are kept (`sg_keep`).
-ghost use Rattle.std.specs.Prelude.{◌≡◌, ◌⊎◌, Err, Some, false, map};
+ghost use Rattle.std.specs.Prelude.{◌≡◌, ◌⊎◌, Err, Some, false};
 ghost use Rattle.sg_keep.specs.KeptRuns.{AllRepresent};
 ghost use Rattle.sg_ending.specs.Model.{ending_held};
 ghost use Rattle.sg_setup.specs.Setup.{waits_at};
-ghost use Rattle.sg_principal.specs.Ledgers.{CanHaveKept, EndsOver, KeepsRun, KeepsSetup, ending_of_play};
+ghost use Rattle.sg_principal.specs.Ledgers.{CanHaveKept, EndsOver, KeepsRun, KeepsSetup, ending_of_keep};
+ghost use Rattle.sg_principal.specs.Model.{run_files_held, setup_held};
+ghost use Rattle.sg_principal.specs.Outside.{IsKept, disk_of, files_of, stage_at_call, stage_at_return, stage_of};
 ghost use Rattle.sg_principal.specs.Runs.{LacksLink};
 
 use crate::joins::open_ledger;
+use crate::named::RunFiles;
+use crate::stage::Stage;
 use sg_base::{Files, Fresh, Link, Sink};
 use sg_ending::Ending;
 use sg_keep::KeepFault;
@@ -21,26 +25,22 @@ use std::alloc::Global;
 pub fn keep<'w, F: Files, O: Sink, L: Link, R: Fresh, D: Disk>(
     alloc: Global,
     file: &'w str,
-    keys: &'w str,
-    script: &'w str,
+    named: RunFiles<'w>,
     most: u32,
-    programs: &'w [&'w str],
     files: &mut F,
-    out: &mut O,
-    link: &mut L,
-    fresh: &mut R,
+    stage: Stage<'_, O, L, R>,
     disk: &mut D,
 ) -> Ending<'w>
-    ensures kept { F.held files.new ≡ F.held files.old }
-    ensures keeps { KeepsRun file.now (record { keys = keys.now; programs = map (λ p. p.now) programs.now; script = script.now }) most (F.held files.old) (F.faults files.old) (F.faults files.new)
-        (record { out = record { bytes = O.written out.old; faults = O.faults out.old }; link = record { bound = L.bound link.old; deliveries = L.deliveries link.old; sent = L.sent link.old; faults = L.faults link.old }; random = R.random fresh.old })
-        (record { out = record { bytes = O.written out.new; faults = O.faults out.new }; link = record { bound = L.bound link.new; deliveries = L.deliveries link.new; sent = L.sent link.new; faults = L.faults link.new }; random = R.random fresh.new })
-        (record { bound = D.bound disk.old; seen = D.seen disk.old; may_leave = D.may_leave disk.old; faults = D.faults disk.old }) (record { bound = D.bound disk.new; seen = D.seen disk.new; may_leave = D.may_leave disk.new; faults = D.faults disk.new })
+    ensures kept { IsKept (files_of F.Files files.old) (files_of F.Files files.new) }
+    ensures keeps { KeepsRun file.now (run_files_held named.entry) most (files_of F.Files files.old) (files_of F.Files files.new)
+        (stage_of O.Sink L.Link R.Fresh (stage_at_call stage.entry))
+        (stage_of O.Sink L.Link R.Fresh (stage_at_return stage.exit))
+        (disk_of D.Disk disk.old) (disk_of D.Disk disk.new)
         (ending_held result) }
-    ensures as_before { CanHaveKept (ending_held result) ⊎ ((link.new ≡ link.old) × (fresh.new ≡ fresh.old)) }
+    ensures as_before { CanHaveKept (ending_held result) ⊎ (stage_at_return stage.exit ≡ stage_at_call stage.entry) }
 {
-    match read_setup(alloc, keys, script, programs, files) {
-        Ok(setup) => keep_setup(alloc, file, setup, most, out, link, fresh, disk),
+    match read_setup(alloc, named.keys, named.script, named.programs, files) {
+        Ok(setup) => keep_setup(alloc, file, setup, most, stage, disk),
         Err(ending) => ending,
     }
 }
@@ -51,21 +51,19 @@ fn keep_setup<O: Sink, L: Link, R: Fresh, D: Disk>(
     file: &str,
     setup: Setup,
     most: u32,
-    out: &mut O,
-    link: &mut L,
-    fresh: &mut R,
+    stage: Stage<'_, O, L, R>,
     disk: &mut D,
 ) -> Ending<'static>
     requires { setup.keys_of_node ≡ setup.keys }
-    ensures keeps { KeepsSetup file.now (record { keys = setup.keys; programs = setup.programs; script = setup.script }) most
-        (record { out = record { bytes = O.written out.old; faults = O.faults out.old }; link = record { bound = L.bound link.old; deliveries = L.deliveries link.old; sent = L.sent link.old; faults = L.faults link.old }; random = R.random fresh.old })
-        (record { out = record { bytes = O.written out.new; faults = O.faults out.new }; link = record { bound = L.bound link.new; deliveries = L.deliveries link.new; sent = L.sent link.new; faults = L.faults link.new }; random = R.random fresh.new })
-        (record { bound = D.bound disk.old; seen = D.seen disk.old; may_leave = D.may_leave disk.old; faults = D.faults disk.old }) (record { bound = D.bound disk.new; seen = D.seen disk.new; may_leave = D.may_leave disk.new; faults = D.faults disk.new })
+    ensures keeps { KeepsSetup file.now (setup_held setup) most
+        (stage_of O.Sink L.Link R.Fresh (stage_at_call stage.entry))
+        (stage_of O.Sink L.Link R.Fresh (stage_at_return stage.exit))
+        (disk_of D.Disk disk.old) (disk_of D.Disk disk.new)
         (ending_held result) }
-    ensures as_before { CanHaveKept (ending_held result) ⊎ ((link.new ≡ link.old) × (fresh.new ≡ fresh.old)) }
+    ensures as_before { CanHaveKept (ending_held result) ⊎ (stage_at_return stage.exit ≡ stage_at_call stage.entry) }
 {
     match open_ledger(alloc, file, disk) {
-        Ok(ledger) => ended(play_over(alloc, setup, ledger, most, out, link, fresh, disk)),
+        Ok(ledger) => ended(play_over(alloc, setup, ledger, most, stage, disk)),
         Err(ending) => ending,
     }
 }
@@ -76,24 +74,23 @@ fn play_over<O: Sink, L: Link, R: Fresh, D: Disk>(
     setup: Setup,
     ledger: Ledger,
     most: u32,
-    out: &mut O,
-    link: &mut L,
-    fresh: &mut R,
+    stage: Stage<'_, O, L, R>,
     disk: &mut D,
 ) -> Result<(), KeepFault>
     requires keys { setup.keys_of_node ≡ setup.keys }
     requires working { ledger.failed ≡ false }
     requires represents { AllRepresent (D.may_leave disk.old) ledger.joins }
     ensures bound { D.bound disk.new ≡ D.bound disk.old }
-    ensures waits { (L.bound link.new ≡ Some (waits_at setup.keys)) ⊎ ((result ≡ Err (KeepFault.Played PlayFault.LinkFailed)) × LacksLink
-        (record { out = record { bytes = O.written out.old; faults = O.faults out.old }; link = record { bound = L.bound link.old; deliveries = L.deliveries link.old; sent = L.sent link.old; faults = L.faults link.old }; random = R.random fresh.old })
-        (record { out = record { bytes = O.written out.new; faults = O.faults out.new }; link = record { bound = L.bound link.new; deliveries = L.deliveries link.new; sent = L.sent link.new; faults = L.faults link.new }; random = R.random fresh.new })) }
-    ensures ends { EndsOver ledger.joins (record { keys = setup.keys; programs = setup.programs; script = setup.script }) most
-        (record { out = record { bytes = O.written out.old; faults = O.faults out.old }; link = record { bound = L.bound link.old; deliveries = L.deliveries link.old; sent = L.sent link.old; faults = L.faults link.old }; random = R.random fresh.old })
-        (record { out = record { bytes = O.written out.new; faults = O.faults out.new }; link = record { bound = L.bound link.new; deliveries = L.deliveries link.new; sent = L.sent link.new; faults = L.faults link.new }; random = R.random fresh.new })
-        (record { bound = D.bound disk.old; seen = D.seen disk.old; may_leave = D.may_leave disk.old; faults = D.faults disk.old }) (record { bound = D.bound disk.new; seen = D.seen disk.new; may_leave = D.may_leave disk.new; faults = D.faults disk.new })
+    ensures waits { (L.bound (stage_at_return stage.exit).link ≡ Some (waits_at setup.keys)) ⊎ ((result ≡ Err (KeepFault.Played PlayFault.LinkFailed)) × LacksLink
+        (stage_of O.Sink L.Link R.Fresh (stage_at_call stage.entry))
+        (stage_of O.Sink L.Link R.Fresh (stage_at_return stage.exit))) }
+    ensures ends { EndsOver ledger.joins (setup_held setup) most
+        (stage_of O.Sink L.Link R.Fresh (stage_at_call stage.entry))
+        (stage_of O.Sink L.Link R.Fresh (stage_at_return stage.exit))
+        (disk_of D.Disk disk.old) (disk_of D.Disk disk.new)
         result }
 {
+    let Stage { out, link, fresh } = stage;
     match link.open(setup.keys.listen()) {
         Ok(()) => {}
         Err(_) => return Err(KeepFault::Played(PlayFault::LinkFailed)),
@@ -121,7 +118,7 @@ fn play_over<O: Sink, L: Link, R: Fresh, D: Disk>(
 
 // How the program ends after a play.
 fn ended(came: Result<(), KeepFault>) -> Ending<'static>
-    ensures ending { ending_held result ≡ ending_of_play came }
+    ensures ending { ending_held result ≡ ending_of_keep came }
     ensures played { CanHaveKept (ending_held result) }
 {
     match came {

@@ -2,6 +2,7 @@
 ghost use Rattle.std.specs.Prelude.{◌≡◌, Some, IfErr, OnOk};
 ghost use Rattle.sg_ending.specs.Model.{ending_held};
 ghost use Rattle.sg_principal.specs.Ledgers.{IsBound, IsMade, LacksRoom, Makes};
+ghost use Rattle.sg_principal.specs.Outside.{disk_of, output_of};
 
 use sg_base::{Sink, write_all};
 use sg_ending::Ending;
@@ -15,8 +16,8 @@ pub fn ledger<O: Sink, D: Disk>(
     out: &mut O,
     disk: &mut D,
 ) -> Ending<'static>
-    ensures { Makes file.now (record { bytes = O.written out.old; faults = O.faults out.old }) (record { bytes = O.written out.new; faults = O.faults out.new })
-        (record { bound = D.bound disk.old; seen = D.seen disk.old; may_leave = D.may_leave disk.old; faults = D.faults disk.old }) (record { bound = D.bound disk.new; seen = D.seen disk.new; may_leave = D.may_leave disk.new; faults = D.faults disk.new })
+    ensures { Makes file.now (output_of O.Sink out.old) (output_of O.Sink out.new)
+        (disk_of D.Disk disk.old) (disk_of D.Disk disk.new)
         (ending_held result) }
 {
     match create(alloc, file, disk) {
@@ -31,9 +32,9 @@ pub fn ledger<O: Sink, D: Disk>(
 // Makes a ledger of a file.
 fn create<D: Disk>(alloc: Global, file: &str, disk: &mut D) -> Result<(), Ending<'static>>
     ensures bound { OnOk result (D.bound disk.new ≡ Some file.now) }
-    ensures tried { IfErr result (λ ending. IsBound file.now (record { bound = D.bound disk.old; seen = D.seen disk.old; may_leave = D.may_leave disk.old; faults = D.faults disk.old }) (record { bound = D.bound disk.new; seen = D.seen disk.new; may_leave = D.may_leave disk.new; faults = D.faults disk.new }) (ending_held ending)) }
-    ensures made { OnOk result (IsMade (record { bound = D.bound disk.old; seen = D.seen disk.old; may_leave = D.may_leave disk.old; faults = D.faults disk.old }) (record { bound = D.bound disk.new; seen = D.seen disk.new; may_leave = D.may_leave disk.new; faults = D.faults disk.new })) }
-    ensures not_made { IfErr result (λ ending. LacksRoom (record { bound = D.bound disk.old; seen = D.seen disk.old; may_leave = D.may_leave disk.old; faults = D.faults disk.old }) (record { bound = D.bound disk.new; seen = D.seen disk.new; may_leave = D.may_leave disk.new; faults = D.faults disk.new }) (ending_held ending)) }
+    ensures tried { IfErr result (λ ending. IsBound file.now (disk_of D.Disk disk.old) (disk_of D.Disk disk.new) (ending_held ending)) }
+    ensures made { OnOk result (IsMade (disk_of D.Disk disk.old) (disk_of D.Disk disk.new)) }
+    ensures not_made { IfErr result (λ ending. LacksRoom (disk_of D.Disk disk.old) (disk_of D.Disk disk.new) (ending_held ending)) }
 {
     match disk.open(file) {
         Ok(()) => {}

@@ -14,5 +14,10 @@
 mod joins;
 pub mod keep;
 pub mod ledger;
+mod named;
 pub mod run;
 pub mod serve;
+mod stage;
+
+pub use named::{NamedFiles, RunFiles};
+pub use stage::Stage;

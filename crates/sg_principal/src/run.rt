@@ -2,12 +2,15 @@
 //!
 //! What is played is a function of the keys, the programs, the script, the first deliveries of the link and the random bytes
 //! (`sg_play`): each call that it makes is a step of a node, so what holds of every run holds of it.
-ghost use Rattle.std.specs.Prelude.{◌≡◌, ◌≤◌, ◌⊎◌, Err, OnOk, Some, map};
-ghost use Rattle.sg_base.specs.Outside.{HasRisen};
+ghost use Rattle.std.specs.Prelude.{◌≡◌, ◌⊎◌, Err, Some};
 ghost use Rattle.sg_ending.specs.Model.{ending_held};
 ghost use Rattle.sg_setup.specs.Setup.{waits_at};
-ghost use Rattle.sg_principal.specs.Runs.{CanHavePlayed, LacksLink, Plays, Runs, Takes, TakesAtMost};
+ghost use Rattle.sg_principal.specs.Model.{run_files_held, setup_held};
+ghost use Rattle.sg_principal.specs.Outside.{IsKept, files_of, stage_at_call, stage_at_return, stage_of};
+ghost use Rattle.sg_principal.specs.Runs.{CanHavePlayed, EndsPlaying, LacksLink, Runs, ending_of_play};
 
+use crate::named::RunFiles;
+use crate::stage::Stage;
 use sg_base::{Files, Fresh, Link, Sink};
 use sg_ending::Ending;
 use sg_node::Node;
@@ -19,81 +22,53 @@ use std::alloc::Global;
 /// deliveries as it may take; or says why not.
 pub fn run<'w, F: Files, O: Sink, L: Link, R: Fresh>(
     alloc: Global,
-    keys: &'w str,
-    script: &'w str,
+    named: RunFiles<'w>,
     most: u32,
-    programs: &'w [&'w str],
     files: &mut F,
-    out: &mut O,
-    link: &mut L,
-    fresh: &mut R,
+    stage: Stage<'_, O, L, R>,
 ) -> Ending<'w>
-    ensures kept { F.held files.new ≡ F.held files.old }
-    ensures runs { Runs (record { keys = keys.now; programs = map (λ p. p.now) programs.now; script = script.now }) most (F.held files.old) (F.faults files.old) (F.faults files.new)
-        (record { out = record { bytes = O.written out.old; faults = O.faults out.old }; link = record { bound = L.bound link.old; deliveries = L.deliveries link.old; sent = L.sent link.old; faults = L.faults link.old }; random = R.random fresh.old })
-        (record { out = record { bytes = O.written out.new; faults = O.faults out.new }; link = record { bound = L.bound link.new; deliveries = L.deliveries link.new; sent = L.sent link.new; faults = L.faults link.new }; random = R.random fresh.new })
+    ensures kept { IsKept (files_of F.Files files.old) (files_of F.Files files.new) }
+    ensures runs { Runs (run_files_held named.entry) most (files_of F.Files files.old) (files_of F.Files files.new)
+        (stage_of O.Sink L.Link R.Fresh (stage_at_call stage.entry))
+        (stage_of O.Sink L.Link R.Fresh (stage_at_return stage.exit))
         (ending_held result) }
-    ensures as_before { CanHavePlayed (ending_held result) ⊎ ((link.new ≡ link.old) × (fresh.new ≡ fresh.old)) }
+    ensures as_before { CanHavePlayed (ending_held result) ⊎ (stage_at_return stage.exit ≡ stage_at_call stage.entry) }
 {
-    match read_setup(alloc, keys, script, programs, files) {
-        Ok(setup) => match play_setup(alloc, setup, most, link, fresh, out) {
-            Ok(()) => Ending::Written,
-            Err(PlayFault::LinkFailed) => Ending::LinkFailed,
-            Err(PlayFault::WriteFailed) => Ending::WriteFailed,
-            Err(PlayFault::OutOfMemory) => Ending::NoMemory,
-        },
+    match read_setup(alloc, named.keys, named.script, named.programs, files) {
+        Ok(setup) => ended(play_setup(alloc, setup, most, stage)),
         Err(ending) => ending,
     }
 }
 
 // Opens the link at the address of the keys, and plays.
-fn play_setup<L: Link, R: Fresh, O: Sink>(
+fn play_setup<O: Sink, L: Link, R: Fresh>(
     alloc: Global,
     setup: Setup,
     most: u32,
-    link: &mut L,
-    fresh: &mut R,
-    out: &mut O,
+    stage: Stage<'_, O, L, R>,
 ) -> Result<(), PlayFault>
     requires { setup.keys_of_node ≡ setup.keys }
-    ensures waits { (L.bound link.new ≡ Some (waits_at setup.keys)) ⊎ ((result ≡ Err PlayFault.LinkFailed) × LacksLink
-        (record { out = record { bytes = O.written out.old; faults = O.faults out.old }; link = record { bound = L.bound link.old; deliveries = L.deliveries link.old; sent = L.sent link.old; faults = L.faults link.old }; random = R.random fresh.old })
-        (record { out = record { bytes = O.written out.new; faults = O.faults out.new }; link = record { bound = L.bound link.new; deliveries = L.deliveries link.new; sent = L.sent link.new; faults = L.faults link.new }; random = R.random fresh.new })) }
-    ensures plays { Plays (record { keys = setup.keys; programs = setup.programs; script = setup.script }) most
-        (record { out = record { bytes = O.written out.old; faults = O.faults out.old }; link = record { bound = L.bound link.old; deliveries = L.deliveries link.old; sent = L.sent link.old; faults = L.faults link.old }; random = R.random fresh.old })
-        (record { out = record { bytes = O.written out.new; faults = O.faults out.new }; link = record { bound = L.bound link.new; deliveries = L.deliveries link.new; sent = L.sent link.new; faults = L.faults link.new }; random = R.random fresh.new })
-        result }
-    ensures left { OnOk result (Takes most (L.deliveries link.old) (L.deliveries link.new)) }
-    ensures at_most { TakesAtMost most (L.deliveries link.old) (L.deliveries link.new) }
-    ensures link_failed { result ≡ Err PlayFault.LinkFailed → HasRisen (L.faults link.old) (L.faults link.new) }
-    ensures write_failed { result ≡ Err PlayFault.WriteFailed → HasRisen (O.faults out.old) (O.faults out.new) }
+    ensures waits { (L.bound (stage_at_return stage.exit).link ≡ Some (waits_at setup.keys)) ⊎ ((result ≡ Err PlayFault.LinkFailed) × LacksLink
+        (stage_of O.Sink L.Link R.Fresh (stage_at_call stage.entry))
+        (stage_of O.Sink L.Link R.Fresh (stage_at_return stage.exit))) }
+    ensures ends { EndsPlaying (setup_held setup) most (stage_of O.Sink L.Link R.Fresh (stage_at_call stage.entry)) (stage_of O.Sink L.Link R.Fresh (stage_at_return stage.exit)) result }
 {
-    match link.open(setup.keys.listen()) {
-        Ok(()) => play_on(alloc, setup, most, link, fresh, out),
+    match stage.link.open(setup.keys.listen()) {
+        Ok(()) => play_on(alloc, setup, most, stage),
         Err(_) => Err(PlayFault::LinkFailed),
     }
 }
 
 // Plays over a link that is open.
-fn play_on<L: Link, R: Fresh, O: Sink>(
+fn play_on<O: Sink, L: Link, R: Fresh>(
     alloc: Global,
     setup: Setup,
     most: u32,
-    link: &mut L,
-    fresh: &mut R,
-    out: &mut O,
+    stage: Stage<'_, O, L, R>,
 ) -> Result<(), PlayFault>
     requires { setup.keys_of_node ≡ setup.keys }
-    ensures bound { L.bound link.new ≡ L.bound link.old }
-    ensures plays { Plays (record { keys = setup.keys; programs = setup.programs; script = setup.script }) most
-        (record { out = record { bytes = O.written out.old; faults = O.faults out.old }; link = record { bound = L.bound link.old; deliveries = L.deliveries link.old; sent = L.sent link.old; faults = L.faults link.old }; random = R.random fresh.old })
-        (record { out = record { bytes = O.written out.new; faults = O.faults out.new }; link = record { bound = L.bound link.new; deliveries = L.deliveries link.new; sent = L.sent link.new; faults = L.faults link.new }; random = R.random fresh.new })
-        result }
-    ensures left { OnOk result (Takes most (L.deliveries link.old) (L.deliveries link.new)) }
-    ensures at_most { TakesAtMost most (L.deliveries link.old) (L.deliveries link.new) }
-    ensures link_falls { L.faults link.old ≤ L.faults link.new }
-    ensures link_failed { result ≡ Err PlayFault.LinkFailed → HasRisen (L.faults link.old) (L.faults link.new) }
-    ensures write_failed { result ≡ Err PlayFault.WriteFailed → HasRisen (O.faults out.old) (O.faults out.new) }
+    ensures bound { L.bound (stage_at_return stage.exit).link ≡ L.bound (stage_at_call stage.entry).link }
+    ensures ends { EndsPlaying (setup_held setup) most (stage_of O.Sink L.Link R.Fresh (stage_at_call stage.entry)) (stage_of O.Sink L.Link R.Fresh (stage_at_return stage.exit)) result }
 {
     let Setup {
         keys,
@@ -101,10 +76,24 @@ fn play_on<L: Link, R: Fresh, O: Sink>(
         programs,
         script,
     } = setup;
+    let Stage { out, link, fresh } = stage;
     match Node::new(alloc, keys_of_node, &programs) {
         Ok(node) => play(
             alloc, node, &keys, &programs, script, most, link, fresh, out,
         ),
         Err(_) => Err(PlayFault::OutOfMemory),
+    }
+}
+
+// How the program ends after a play.
+fn ended(came: Result<(), PlayFault>) -> Ending<'static>
+    ensures ending { ending_held result ≡ ending_of_play came }
+    ensures played { CanHavePlayed (ending_held result) }
+{
+    match came {
+        Ok(()) => Ending::Written,
+        Err(PlayFault::LinkFailed) => Ending::LinkFailed,
+        Err(PlayFault::WriteFailed) => Ending::WriteFailed,
+        Err(PlayFault::OutOfMemory) => Ending::NoMemory,
     }
 }

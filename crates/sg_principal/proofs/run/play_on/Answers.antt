@@ -1,20 +1,20 @@
-use Rattle.std.proofs.Common.{[], Err, ap, refl, ◌∙◌}
+use Rattle.std.proofs.Common.{[], ap, ◌∙◌}
 use Rattle.sg_protocol.specs.Keyring.{Keyring}
 use Rattle.sg_protocol.specs.NodeStates.{new_state}
-use Rattle.sg_play.specs.declared.fault.PlayFault.TheVariants as Play
-use Rattle.sg_principal.proofs.Playing.{none_left, unplayed}
+use Rattle.sg_principal.specs.Model.{setup_held}
+use Rattle.sg_principal.specs.Outside.{stage_at_call, stage_of}
+use Rattle.sg_principal.proofs.Playing.{not_begun}
 use Rattle.sg_principal.proofs.run.play_on.Goals as goal
 
-pub returns-in-Ok-clause-plays : goal.returns-in-Ok-clause-plays
-returns-in-Ok-clause-plays g c = λ ds ws d w.
-    c.play.ensures.played [] ds ws (c.in-Ok.ensures.made ∙ ap (λ (k : Keyring). new_state k c.args.setup.programs []) c.requires) d w
+pub returns-in-Ok-clause-ends : goal.returns-in-Ok-clause-ends
+returns-in-Ok-clause-ends g c = record {
+  plays = λ ds ws d w. c.play.ensures.played [] ds ws (c.in-Ok.ensures.made ∙ ap (λ (k : Keyring). new_state k c.args.setup.programs []) c.requires) d w;
+  left = c.play.ensures.left;
+  at_most = c.play.ensures.at_most;
+  link_falls = c.play.ensures.link_falls;
+  link_failed = c.play.ensures.link_failed;
+  write_failed = c.play.ensures.write_failed;
+}
 
-pub returns-clause-plays : goal.returns-clause-plays
-returns-clause-plays g c = λ ds ws d w.
-    unplayed (record { keys = c.args.setup.keys; programs = c.args.setup.programs; script = c.args.setup.script }) c.args.most
-    (record { out = record { bytes = g.O.Sink.written c.args.out.now; faults = g.O.Sink.faults c.args.out.now }; link = record { bound = g.L.Link.bound c.args.link.now; deliveries = g.L.Link.deliveries c.args.link.now; sent = g.L.Link.sent c.args.link.now; faults = g.L.Link.faults c.args.link.now }; random = g.R.Fresh.random c.args.fresh.now })
-    (record { out = record { bytes = g.O.Sink.written c.args.out.now; faults = g.O.Sink.faults c.args.out.now }; link = record { bound = g.L.Link.bound c.args.link.now; deliveries = g.L.Link.deliveries c.args.link.now; sent = g.L.Link.sent c.args.link.now; faults = g.L.Link.faults c.args.link.now }; random = g.R.Fresh.random c.args.fresh.now })
-    (Err Play.OutOfMemory) refl refl (λ o n steps h. h) ds ws d w
-
-pub returns-clause-at_most : goal.returns-clause-at_most
-returns-clause-at_most g c = none_left c.args.most (g.L.Link.deliveries c.args.link.now) (g.L.Link.deliveries c.args.link.now) refl
+pub returns-clause-ends : goal.returns-clause-ends
+returns-clause-ends g c = not_begun (setup_held c.args.setup) c.args.most (stage_of g.O.Sink g.L.Link g.R.Fresh (stage_at_call c.args.stage))

@@ -9,7 +9,7 @@ pub returns-in_default-clause-ends : goal.returns-in_default-clause-ends
 returns-in_default-clause-ends g c = record {
   bound = refl;
   answers = λ bytes coming random known comes drawn.
-      not_begun (record { written = g.O.Sink.written c.args.out.now; sent = g.L.Link.sent c.args.link.now; coming = g.L.TimedLink.coming c.args.link.now; failed = g.L.Link.faults c.args.link.now }) (g.R.Fresh.random c.args.fresh.now)
+      not_begun (record { written = g.O.Sink.written (c.args.stage.out).now; sent = g.L.Link.sent (c.args.stage.link).now; coming = g.L.TimedLink.coming (c.args.stage.link).now; failed = g.L.Link.faults (c.args.stage.link).now }) (g.R.Fresh.random (c.args.stage.fresh).now)
       (images_if (is_some c.args.ledger) (g.D.Disk.may_leave c.args.disk.now)) c.args.principal.keys c.args.principal.programs (joins_kept c.args.ledger) coming random (lines_of bytes) _ refl c.requires.represents;
   faults = record {
     link_falls = omega arith;

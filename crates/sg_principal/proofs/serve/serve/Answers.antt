@@ -1,14 +1,15 @@
 use Rattle.std.proofs.Common.{inl, inr, refl}
+use Rattle.sg_principal.specs.Model.{principal_held}
 use Rattle.sg_principal.proofs.serve.serve.Goals as goal
 
 pub returns-in-Ok-clause-serves : goal.returns-in-Ok-clause-serves
-returns-in-Ok-clause-serves g c = inl (record { keys = c.in-Ok.principal.keys; programs = c.in-Ok.principal.programs }, c.in-Ok.ensures.has, c.serve_principal.ensures.serves)
+returns-in-Ok-clause-serves g c = inl (principal_held c.in-Ok.principal, c.in-Ok.ensures.has, c.serve_principal.ensures.serves)
 
 pub returns-in-Err-clause-serves : goal.returns-in-Err-clause-serves
-returns-in-Err-clause-serves g c = inr ((refl, refl, refl, refl), ((refl, λ image left. left), λ image left. left, refl, refl), c.in-Err.ensures.lacks)
+returns-in-Err-clause-serves g c = inr (refl, ((refl, λ image left. left), λ image left. left, refl, refl), c.in-Err.ensures.lacks)
 
 pub returns-in-Err-clause-as_before : goal.returns-in-Err-clause-as_before
-returns-in-Err-clause-as_before g c = inr (refl, refl, refl)
+returns-in-Err-clause-as_before g c = inr (refl, refl)
 
 pub returns-in-Err-clause-disk : goal.returns-in-Err-clause-disk
 returns-in-Err-clause-disk g c = inr refl

@@ -1,35 +1,26 @@
 use Rattle.std.proofs.Common.{Some, inl, inr, refl, ap, ◌∙◌}
-use Rattle.sg_principal.specs.Serves.{Waited}
+use Rattle.sg_setup.specs.Setup.{waits_at}
+use Rattle.sg_principal.specs.Outside.{input_of, output_of, port_of}
 use Rattle.sg_principal.proofs.Playing.{at_address}
+use Rattle.sg_principal.proofs.Serving.{opened, unopened}
 use Rattle.sg_principal.proofs.serve.serve_over.Goals as goal
 
 pub returns-in-Ok-clause-serves : goal.returns-in-Ok-clause-serves
 returns-in-Ok-clause-serves g c =
-    let link : Waited = record { bound = g.L.Link.bound c.open_at.new.self; coming = g.L.TimedLink.coming c.open_at.new.self; sent = g.L.Link.sent c.open_at.new.self; faults = g.L.Link.faults c.open_at.new.self } in
     inr (
-      link,
+      port_of g.L.Link g.L.TimedLink.coming c.open_at.new.self,
       c.answer_all.result,
-      record {
-        bound = c.in-Ok.ensures.waits ∙ ap Some (at_address c.listen.result c.args.principal.keys c.listen.ensures.ip c.listen.ensures.port);
-        coming = c.open_at.ensures.kept;
-        sent = c.open_at.ensures.kept_sent;
-        falls = c.open_at.ensures.never_falls;
-      },
+      opened (port_of g.L.Link g.L.TimedLink.coming (c.args.stage.link).now) (port_of g.L.Link g.L.TimedLink.coming c.open_at.new.self) c.open_at.ensures.kept c.open_at.ensures.kept_sent
+          (waits_at c.args.principal.keys) (c.in-Ok.ensures.waits ∙ ap Some (at_address c.listen.result c.args.principal.keys c.listen.ensures.ip c.listen.ensures.port)) c.open_at.ensures.never_falls,
       c.answer_all.ensures.ends,
       c.ended.ensures.ending,
     )
 
 pub returns-clause-serves : goal.returns-clause-serves
-returns-clause-serves g c = inl (
-  record {
-    bound = c.in-Err.ensures.kept_bound;
-    risen = c.in-Err.ensures.failed;
-    out = refl;
-    coming = c.open_at.ensures.kept;
-    sent = c.open_at.ensures.kept_sent;
-    random = refl;
-    input = refl;
-  },
-  (refl, λ image left. left),
-  refl,
-)
+returns-clause-serves g c =
+    inl (
+      unopened (port_of g.L.Link g.L.TimedLink.coming (c.args.stage.link).now) (port_of g.L.Link g.L.TimedLink.coming c.open_at.new.self) c.open_at.ensures.kept c.open_at.ensures.kept_sent
+          (output_of g.O.Sink (c.args.stage.out).now) (g.R.Fresh.random (c.args.stage.fresh).now) (input_of g.I.Input c.args.input.now) c.in-Err.ensures.kept_bound c.in-Err.ensures.failed,
+      (refl, λ image left. left),
+      refl,
+    )
