@@ -70,15 +70,6 @@ status_reported (Some (Claims graph claims)) work old new status h says = absurd
 status_reported (Some (Serve over_tcp ledger keys programs)) work old new status h says = of_says IsOfServe (inl (inl six_of_play)) (inl (inl eight_of_play)) work old new status (of_serve work h) says
 status_reported None work old new status h says = absurd h
 
--- a run over one link leaves the others as they are, and what it doesn't read
-pub over_link : {Played Link Stream Port Input Words : Type 0} → Stream → Port → Input → Played ⊎ (Link × Words) → Played ⊎ (Link × Stream × Port × Input × Words)
-over_link stream port input (inl played) = inl played
-over_link stream port input (inr rest) = inr (rest.0, stream, port, input, rest.1)
-
-pub over_stream : {Played Link Stream Port Input Words : Type 0} → Link → Port → Input → Played ⊎ (Stream × Words) → Played ⊎ (Link × Stream × Port × Input × Words)
-over_stream link port input (inl played) = inl played
-over_stream link port input (inr rest) = inr (link, rest.0, port, input, rest.1)
-
 -- a command that may have played ends with one of its statuses; or the rest holds
 pub may_play : {Rest : Type 0} (args : List (List ℕ)) (c : Option Command) (work : Ending) (old new : Output) (status : ℕ) → c ≡ command_of args → HasPlayed c work ⊎ Rest
     → Says work old new status → MayPlay args status ⊎ Rest

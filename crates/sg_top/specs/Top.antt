@@ -1,69 +1,72 @@
 -- What the program leaves, and how it says why it ends.
-use Rattle.std.specs.Prelude.{◌≡◌, ℕ, ◌+◌, ◌⊎◌, Bool, true, false, if◌then◌else◌, List, Option, Some, None, ⊤}
-use Rattle.sg_base.specs.declared.address.Addr.{Addr}
+use Rattle.std.specs.Prelude.{◌≡◌, ℕ, ◌⊎◌, Bool, true, false, List, Option, Some, None, ⊤}
 use Rattle.sg_model.specs.Limits.{most_graph_file, most_logs_file, most_schedule_file}
-use Rattle.sg_stream.specs.Link.{StreamHeld, sent_of, to_come}
-use Rattle.sg_stream.specs.Traffic.{Traffic}
 use Rattle.sg_args.specs.Command.{Command, Check, Compile, Run, Replay, Drive, Ledger, Keep, Stream, Audit, Compose, Suggest, Claims, Serve, command_of}
 use Rattle.sg_ending.specs.Ending.{Ending, NoCommand, NoMemory}
-use Rattle.sg_ending.specs.Files.{KnownFiles, OnFile}
+use Rattle.sg_ending.specs.Files.{OnFile}
 use Rattle.sg_ending.specs.Output.{Output}
 use Rattle.sg_ending.specs.Says.{Says}
 use Rattle.sg_design.specs.Claimed.{DecidesClaims, Suggests}
 use Rattle.sg_design.specs.Ends.{Checks, Compiles, Composes}
 use Rattle.sg_replay.specs.Ends.{Replays, Drives, Audits}
-use Rattle.sg_principal.specs.Ledgers.{CanHaveKept, Disked, IsNotAsked, KeepsRun, Makes}
-use Rattle.sg_principal.specs.Runs.{CanHavePlayed, Linked, Outside, IsUntouched, Runs}
-use Rattle.sg_principal.specs.Serves.{Application, CanHaveServed, Entered, ServesRun, Waited}
-use Rattle.sg_wait.specs.declared.coming.Coming.{Coming}
+use Rattle.sg_principal.specs.Ledgers.{CanHaveKept, KeepsRun, Makes}
+use Rattle.sg_principal.specs.Outside.{IsKept}
+use Rattle.sg_principal.specs.Runs.{CanHavePlayed, Runs}
+use Rattle.sg_principal.specs.Serves.{CanHaveServed, ServesRun}
+use Rattle.sg_top.specs.Outside.{Objects, Outside, Reported, Reports, application, over_link, over_stream, reported}
 
--- a link over connections, as a link: the address at which these wait, the frames of the messages to come, in the order in which these become whole, the frames that went out, and its count of faults, which is that of its connections and its own
-abbrev pub streamed : {C : Type 0} → (bound : C → Option Addr) → (held : C → Option Traffic) → (faults : C → ℕ) → StreamHeld C → Linked
-streamed {C} bound held faults l = record { bound = bound l.conns; deliveries = to_come l.unread (held l.conns); sent = sent_of (held l.conns); faults = faults l.conns + l.faults }
+-- ---- what is done
 
--- what a run for an application acts on beside these: what is to come on the link, if it is known, the link over connections that are kept, and standard input
-pub record Beside : Type 0 where
-  pub coming : Option (List Coming)
-  pub port : Waited
-  pub input : Entered
+-- what is done with a file of at most `most` bytes ends so
+abbrev pub OnNamed : (List ℕ → (old new : Output) → Ending → Type 0) → (most : ℕ) → (file : List ℕ) → (old new : Reported) → Ending → Type 0
+OnNamed Does most file old new ending = OnFile Does most file (old.files).held (old.files).faults (new.files).faults old.out new.out ending
 
--- what it acts on in all, over connections or not
-abbrev pub application : (over_tcp : Bool) → Outside → Beside → Application
-application over_tcp o b = record {
-  out = o.out;
-  link = if over_tcp then b.port else record { bound = (o.link).bound; coming = b.coming; sent = (o.link).sent; faults = (o.link).faults };
-  random = o.random;
-  input = b.input;
-}
+-- the work that a command asks for ends so; what the command isn't about is untouched, as `untouched_by` says
+abbrev pub Works : Option Command → (old new : Reported) → Ending → Type 0
+Works None old new ending = ending ≡ NoCommand
+Works (Some (Check file)) old new ending = OnNamed Checks most_graph_file file old new ending
+Works (Some (Compile file role)) old new ending = OnNamed (Compiles role) most_graph_file file old new ending
+Works (Some (Run keys script most programs)) old new ending = Runs (record { keys = keys; programs = programs; script = script }) most old.files new.files (over_link old) (over_link new) ending
+Works (Some (Replay file)) old new ending = OnNamed Replays most_schedule_file file old new ending
+Works (Some (Drive seed sessions file)) old new ending = OnNamed (Drives seed sessions) most_graph_file file old new ending
+Works (Some (Ledger file)) old new ending = Makes file old.out new.out old.disk new.disk ending
+Works (Some (Keep file keys script most programs)) old new ending = KeepsRun file (record { keys = keys; programs = programs; script = script }) most old.files new.files (over_link old) (over_link new) old.disk new.disk ending
+Works (Some (Stream keys script most programs)) old new ending = Runs (record { keys = keys; programs = programs; script = script }) most old.files new.files (over_stream old) (over_stream new) ending
+Works (Some (Audit file)) old new ending = OnNamed Audits most_logs_file file old new ending
+Works (Some (Compose file)) old new ending = OnNamed Composes most_graph_file file old new ending
+Works (Some (Suggest file)) old new ending = OnNamed Suggests most_graph_file file old new ending
+Works (Some (Claims graph claims)) old new ending = DecidesClaims graph claims (old.files).held (old.files).faults (new.files).faults old.out new.out ending
+Works (Some (Serve over_tcp ledger keys programs)) old new ending = ServesRun (record { keys = keys; programs = programs; ledger = ledger }) old.files new.files (application over_tcp old) (application over_tcp new) old.disk new.disk ending
 
--- the work that a command asks for ends so; a run over connections is a run over that link
-abbrev pub Works : Option Command → KnownFiles → (faults faults' : ℕ) → (old new : Outside) → (stream stream' : Linked) → (disk disk' : Disked) → (beside beside' : Beside) → Ending → Type 0
-Works None known faults faults' old new stream stream' disk disk' beside beside' ending = IsUntouched old new × (faults' ≡ faults) × (ending ≡ NoCommand)
-Works (Some (Check file)) known faults faults' old new stream stream' disk disk' beside beside' ending = OnFile Checks most_graph_file file known faults faults' old.out new.out ending
-Works (Some (Compile file role)) known faults faults' old new stream stream' disk disk' beside beside' ending = OnFile (Compiles role) most_graph_file file known faults faults' old.out new.out ending
-Works (Some (Run keys script most programs)) known faults faults' old new stream stream' disk disk' beside beside' ending = Runs (record { keys = keys; programs = programs; script = script }) most known faults faults' old new ending
-Works (Some (Replay file)) known faults faults' old new stream stream' disk disk' beside beside' ending = OnFile Replays most_schedule_file file known faults faults' old.out new.out ending
-Works (Some (Drive seed sessions file)) known faults faults' old new stream stream' disk disk' beside beside' ending = OnFile (Drives seed sessions) most_graph_file file known faults faults' old.out new.out ending
-Works (Some (Ledger file)) known faults faults' old new stream stream' disk disk' beside beside' ending = (faults' ≡ faults) × Makes file old.out new.out disk disk' ending
-Works (Some (Keep file keys script most programs)) known faults faults' old new stream stream' disk disk' beside beside' ending = KeepsRun file (record { keys = keys; programs = programs; script = script }) most known faults faults' old new disk disk' ending
-Works (Some (Stream keys script most programs)) known faults faults' old new stream stream' disk disk' beside beside' ending = Runs (record { keys = keys; programs = programs; script = script }) most known faults faults' (record old { link = stream }) (record new { link = stream' }) ending
-Works (Some (Audit file)) known faults faults' old new stream stream' disk disk' beside beside' ending = OnFile Audits most_logs_file file known faults faults' old.out new.out ending
-Works (Some (Compose file)) known faults faults' old new stream stream' disk disk' beside beside' ending = OnFile Composes most_graph_file file known faults faults' old.out new.out ending
-Works (Some (Suggest file)) known faults faults' old new stream stream' disk disk' beside beside' ending = OnFile Suggests most_graph_file file known faults faults' old.out new.out ending
-Works (Some (Claims graph claims)) known faults faults' old new stream stream' disk disk' beside beside' ending = DecidesClaims graph claims known faults faults' old.out new.out ending
-Works (Some (Serve over_tcp ledger keys programs)) known faults faults' old new stream stream' disk disk' beside beside' ending = ServesRun (record { keys = keys; programs = programs; ledger = ledger }) known faults faults' (application over_tcp old beside) (application over_tcp new beside') disk disk' ending
+-- the work that the arguments ask for ends so, or memory ran out before they were read, and nothing is touched
+abbrev pub Does : {F O L R D S P I : Type 0} → Reports F O L R D S P I → (args : List (List ℕ)) → (old new : Objects F O L R D S P I) → Ending → Type 0
+Does reports args old new ending = Works (command_of args) (reported reports old) (reported reports new) ending ⊎ ((new ≡ old) × (ending ≡ NoMemory))
 
--- the work that the arguments ask for ends so, or memory ran out before they were read, and nothing was touched
-abbrev pub Does : (args : List (List ℕ)) → KnownFiles → (faults faults' : ℕ) → (old new : Outside) → (stream stream' : Linked) → (disk disk' : Disked) → (beside beside' : Beside) → Ending → Type 0
-Does args known faults faults' old new stream stream' disk disk' beside beside' ending =
-    Works (command_of args) known faults faults' old new stream stream' disk disk' beside beside' ending
-    ⊎ (IsUntouched old new × (stream' ≡ stream) × IsNotAsked disk disk' × (beside' ≡ beside) × (faults' ≡ faults) × (ending ≡ NoMemory))
+-- ---- what is untouched
 
--- the program ended with this status: its work ended in some way, and so it says
-pub record Ends (args : List (List ℕ)) (known : KnownFiles) (faults faults' : ℕ) (old new : Outside) (stream stream' : Linked) (disk disk' : Disked) (beside beside' : Beside) (err err' : Output) (status : ℕ) : Type 0 where
-  pub work : Ending
-  pub does : Does args known faults faults' old new stream stream' disk disk' beside beside' work
-  pub says : Says work err err' status
+-- the objects of before, but for those that a command is about: the files if it reads some, standard output, the link that it is over with the random bytes, a ledger's disk, and standard input if it serves
+abbrev pub untouched_by : {F O L R D S P I : Type 0} → Option Command → (old new : Objects F O L R D S P I) → Objects F O L R D S P I
+untouched_by None old new = old
+untouched_by (Some (Check file)) old new = record old { files = new.files; out = new.out }
+untouched_by (Some (Compile file role)) old new = record old { files = new.files; out = new.out }
+untouched_by (Some (Run keys script most programs)) old new = record old { files = new.files; out = new.out; link = new.link; fresh = new.fresh }
+untouched_by (Some (Replay file)) old new = record old { files = new.files; out = new.out }
+untouched_by (Some (Drive seed sessions file)) old new = record old { files = new.files; out = new.out }
+untouched_by (Some (Ledger file)) old new = record old { out = new.out; disk = new.disk }
+untouched_by (Some (Keep file keys script most programs)) old new = record old { files = new.files; out = new.out; link = new.link; fresh = new.fresh; disk = new.disk }
+untouched_by (Some (Stream keys script most programs)) old new = record old { files = new.files; out = new.out; stream = new.stream; fresh = new.fresh }
+untouched_by (Some (Audit file)) old new = record old { files = new.files; out = new.out }
+untouched_by (Some (Compose file)) old new = record old { files = new.files; out = new.out }
+untouched_by (Some (Suggest file)) old new = record old { files = new.files; out = new.out }
+untouched_by (Some (Claims graph claims)) old new = record old { files = new.files; out = new.out }
+untouched_by (Some (Serve false None keys programs)) old new = record old { files = new.files; out = new.out; link = new.link; fresh = new.fresh; input = new.input }
+untouched_by (Some (Serve false (Some file) keys programs)) old new = record old { files = new.files; out = new.out; link = new.link; fresh = new.fresh; input = new.input; disk = new.disk }
+untouched_by (Some (Serve true None keys programs)) old new = record old { files = new.files; out = new.out; port = new.port; fresh = new.fresh; input = new.input }
+untouched_by (Some (Serve true (Some file) keys programs)) old new = record old { files = new.files; out = new.out; port = new.port; fresh = new.fresh; input = new.input; disk = new.disk }
+
+-- the objects of before, but for files, standard output and a ledger's disk: nothing was asked of a link, of the random bytes or of the input
+abbrev pub unplayed : {F O L R D S P I : Type 0} → (old new : Objects F O L R D S P I) → Objects F O L R D S P I
+unplayed old new = record old { files = new.files; out = new.out; disk = new.disk }
 
 -- one of the statuses of a run that may have played
 abbrev pub IsOfPlay : ℕ → Type 0
@@ -97,31 +100,13 @@ PlaysWith other status = ⊥
 abbrev pub MayPlay : (args : List (List ℕ)) → (status : ℕ) → Type 0
 MayPlay args status = PlaysWith (command_of args) status
 
--- the command is a run over the link, also over a ledger or for an application
-abbrev pub IsOverLink : Option Command → Type 0
-IsOverLink (Some (Run keys script most programs)) = ⊤
-IsOverLink (Some (Keep file keys script most programs)) = ⊤
-IsOverLink (Some (Serve false ledger keys programs)) = ⊤
-IsOverLink other = ⊥
+-- ---- all of it
 
--- the command is a run over connections
-abbrev pub IsOverStream : Option Command → Type 0
-IsOverStream (Some (Stream keys script most programs)) = ⊤
-IsOverStream other = ⊥
-
--- the command is a run for an application over connections
-abbrev pub IsOverPort : Option Command → Type 0
-IsOverPort (Some (Serve true ledger keys programs)) = ⊤
-IsOverPort other = ⊥
-
--- the command reads standard input
-abbrev pub IsOnInput : Option Command → Type 0
-IsOnInput (Some (Serve over_tcp ledger keys programs)) = ⊤
-IsOnInput other = ⊥
-
--- the command is on a ledger
-abbrev pub IsOnDisk : Option Command → Type 0
-IsOnDisk (Some (Ledger file)) = ⊤
-IsOnDisk (Some (Keep file keys script most programs)) = ⊤
-IsOnDisk (Some (Serve over_tcp (Some file) keys programs)) = ⊤
-IsOnDisk other = ⊥
+-- the program ended with this status: its work ended in some way, and so it says. No command changes the files; if no run began, nothing was asked of a link, of the random bytes or of the input; and what the arguments aren't about is untouched
+pub record Ends {F O E L R D S P I : Type 0} (reports : Reports F O L R D S P I) (err : E → Output) (args : List (List ℕ)) (old new : Outside F O E L R D S P I) (status : ℕ) : Type 0 where
+  pub work : Ending
+  pub does : Does reports args old.objects new.objects work
+  pub says : Says work (err old.err) (err new.err) status
+  pub kept : IsKept (reports.files (old.objects).files) (reports.files (new.objects).files)
+  pub as_before : MayPlay args status ⊎ (new.objects ≡ unplayed old.objects new.objects)
+  pub untouched : new.objects ≡ untouched_by (command_of args) old.objects new.objects

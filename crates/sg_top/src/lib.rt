@@ -13,10 +13,11 @@
 //!
 //! `laws` says of each command on one file that its endings exclude each other.
 //!
-//! `specs/Top.antt` says how the program ends, by its command.
+//! `specs/Outside.antt` says what the objects report, and `specs/Top.antt` how the program ends, by its command, and what it leaves untouched.
 #![tactic(auto)]
 
 pub mod laws;
+mod objects;
 mod program;
 
 pub use program::top;

@@ -1,10 +1,13 @@
 //! The program without the real objects.
 ghost use Rattle.std.specs.Prelude.{◌≡◌, ◌⊎◌, map, option_map, string_bytes};
-ghost use Rattle.sg_args.specs.Command.{CanBeDriven, command_of};
+ghost use Rattle.sg_args.specs.Command.{CanBeDriven};
 ghost use Rattle.sg_args.specs.Model.{command_held};
 ghost use Rattle.sg_ending.specs.Model.{ending_held};
-ghost use Rattle.sg_top.specs.Top.{Ends, HasPlayed, IsOnDisk, IsOnInput, IsOverLink, IsOverPort, IsOverStream, MayPlay, Works, streamed};
+ghost use Rattle.sg_principal.specs.Outside.{IsKept, files_of, link_of, output_of};
+ghost use Rattle.sg_top.specs.Outside.{objects_at_call, objects_at_return, reported, reports_of, stream_of};
+ghost use Rattle.sg_top.specs.Top.{Ends, HasPlayed, Works, unplayed, untouched_by};
 
+use crate::objects::Objects;
 use sg_args::{Command, CommandLine, Parsed};
 use sg_base::{Files, Fresh, Link, Sink};
 use sg_design::check::check;
@@ -19,6 +22,7 @@ use sg_principal::keep::keep;
 use sg_principal::ledger::ledger;
 use sg_principal::run::run;
 use sg_principal::serve::serve;
+use sg_principal::{NamedFiles, RunFiles, Stage};
 use sg_replay::audit::audit;
 use sg_replay::drive::drive;
 use sg_replay::replay::replay;
@@ -63,32 +67,24 @@ pub fn top<
     port: &mut P,
     input: &mut I,
 ) -> u8
-    // No command changes the files.
-    ensures files { F.held files.new ≡ F.held files.old }
-    ensures ends { Ends (map string_bytes args.now) (F.held files.old) (F.faults files.old) (F.faults files.new)
-        (record { out = record { bytes = O.written out.old; faults = O.faults out.old }; link = record { bound = L.bound link.old; deliveries = L.deliveries link.old; sent = L.sent link.old; faults = L.faults link.old }; random = R.random fresh.old })
-        (record { out = record { bytes = O.written out.new; faults = O.faults out.new }; link = record { bound = L.bound link.new; deliveries = L.deliveries link.new; sent = L.sent link.new; faults = L.faults link.new }; random = R.random fresh.new })
-        (streamed C.bound C.held C.faults stream.old) (streamed C.bound C.held C.faults stream.new)
-        (record { bound = D.bound disk.old; seen = D.seen disk.old; may_leave = D.may_leave disk.old; faults = D.faults disk.old }) (record { bound = D.bound disk.new; seen = D.seen disk.new; may_leave = D.may_leave disk.new; faults = D.faults disk.new })
-        (record { coming = L.coming link.old; port = record { bound = P.bound port.old; coming = P.coming port.old; sent = P.sent port.old; faults = P.faults port.old }; input = record { bytes = I.coming input.old; faults = I.faults input.old } })
-        (record { coming = L.coming link.new; port = record { bound = P.bound port.new; coming = P.coming port.new; sent = P.sent port.new; faults = P.faults port.new }; input = record { bytes = I.coming input.new; faults = I.faults input.new } })
-        (record { bytes = E.written err.old; faults = E.faults err.old }) (record { bytes = E.written err.new; faults = E.faults err.new }) result }
-
-    // All links, the input and the random bytes are as before if no run began.
-    ensures as_before { MayPlay (map string_bytes args.now) result ⊎ ((link.new ≡ link.old) × (stream.new ≡ stream.old) × (port.new ≡ port.old) × (input.new ≡ input.old) × (fresh.new ≡ fresh.old)) }
-
-    // So is each link if the arguments ask for no run over it, the input if they don't ask to serve, and the disk if they are not on a
-    // ledger.
-    ensures link { IsOverLink (command_of (map string_bytes args.now)) ⊎ (link.new ≡ link.old) }
-    ensures stream { IsOverStream (command_of (map string_bytes args.now)) ⊎ (stream.new ≡ stream.old) }
-    ensures port { IsOverPort (command_of (map string_bytes args.now)) ⊎ (port.new ≡ port.old) }
-    ensures input { IsOnInput (command_of (map string_bytes args.now)) ⊎ (input.new ≡ input.old) }
-    ensures disk { IsOnDisk (command_of (map string_bytes args.now)) ⊎ (disk.new ≡ disk.old) }
+    ensures { Ends (reports_of F.Files O.Sink L.Link L.coming R.Fresh D.Disk (stream_of C.Conns) P.Link P.coming I.Input) (output_of E.Sink) (map string_bytes args.now)
+        (record { objects = record { files = files.old; out = out.old; link = link.old; fresh = fresh.old; disk = disk.old; stream = stream.old; port = port.old; input = input.old }; err = err.old })
+        (record { objects = record { files = files.new; out = out.new; link = link.new; fresh = fresh.new; disk = disk.new; stream = stream.new; port = port.new; input = input.new }; err = err.new }) result }
 {
     match CommandLine::new(alloc, args) {
-        Ok(line) => on_line(
-            alloc, &line, files, out, err, link, fresh, disk, stream, port, input,
-        ),
+        Ok(line) => {
+            let objects = Objects {
+                files,
+                out,
+                link,
+                fresh,
+                disk,
+                stream,
+                port,
+                input,
+            };
+            on_line(alloc, &line, objects, err)
+        }
         Err(_) => say(alloc, &Ending::NoMemory, err),
     }
 }
@@ -107,81 +103,45 @@ fn on_line<
 >(
     alloc: Global,
     line: &CommandLine<'_>,
-    files: &mut F,
-    out: &mut O,
+    objects: Objects<'_, F, O, L, R, D, S, P, I>,
     err: &mut E,
-    link: &mut L,
-    fresh: &mut R,
-    disk: &mut D,
-    stream: &mut S,
-    port: &mut P,
-    input: &mut I,
 ) -> u8
-    ensures files { F.held files.new ≡ F.held files.old }
-    ensures ends { Ends line.now (F.held files.old) (F.faults files.old) (F.faults files.new)
-        (record { out = record { bytes = O.written out.old; faults = O.faults out.old }; link = record { bound = L.bound link.old; deliveries = L.deliveries link.old; sent = L.sent link.old; faults = L.faults link.old }; random = R.random fresh.old })
-        (record { out = record { bytes = O.written out.new; faults = O.faults out.new }; link = record { bound = L.bound link.new; deliveries = L.deliveries link.new; sent = L.sent link.new; faults = L.faults link.new }; random = R.random fresh.new })
-        (record { bound = S.bound stream.old; deliveries = S.deliveries stream.old; sent = S.sent stream.old; faults = S.faults stream.old }) (record { bound = S.bound stream.new; deliveries = S.deliveries stream.new; sent = S.sent stream.new; faults = S.faults stream.new })
-        (record { bound = D.bound disk.old; seen = D.seen disk.old; may_leave = D.may_leave disk.old; faults = D.faults disk.old }) (record { bound = D.bound disk.new; seen = D.seen disk.new; may_leave = D.may_leave disk.new; faults = D.faults disk.new })
-        (record { coming = L.coming link.old; port = record { bound = P.bound port.old; coming = P.coming port.old; sent = P.sent port.old; faults = P.faults port.old }; input = record { bytes = I.coming input.old; faults = I.faults input.old } })
-        (record { coming = L.coming link.new; port = record { bound = P.bound port.new; coming = P.coming port.new; sent = P.sent port.new; faults = P.faults port.new }; input = record { bytes = I.coming input.new; faults = I.faults input.new } })
-        (record { bytes = E.written err.old; faults = E.faults err.old }) (record { bytes = E.written err.new; faults = E.faults err.new }) result }
-    ensures as_before { MayPlay line.now result ⊎ ((link.new ≡ link.old) × (stream.new ≡ stream.old) × (port.new ≡ port.old) × (input.new ≡ input.old) × (fresh.new ≡ fresh.old)) }
-    ensures link { IsOverLink (command_of line.now) ⊎ (link.new ≡ link.old) }
-    ensures stream { IsOverStream (command_of line.now) ⊎ (stream.new ≡ stream.old) }
-    ensures port { IsOverPort (command_of line.now) ⊎ (port.new ≡ port.old) }
-    ensures input { IsOnInput (command_of line.now) ⊎ (input.new ≡ input.old) }
-    ensures disk { IsOnDisk (command_of line.now) ⊎ (disk.new ≡ disk.old) }
+    ensures { Ends (reports_of F.Files O.Sink L.Link L.coming R.Fresh D.Disk (link_of S.Link) P.Link P.coming I.Input) (output_of E.Sink) line.now
+        (record { objects = objects_at_call objects.entry; err = err.old }) (record { objects = objects_at_return objects.exit; err = err.new }) result }
 {
     match Parsed::read(alloc, line) {
         Ok(given) => {
-            let ending = work(
-                alloc,
-                given.command(),
-                files,
-                out,
-                link,
-                fresh,
-                disk,
-                stream,
-                port,
-                input,
-            );
+            let ending = work(alloc, given.command(), objects);
             say(alloc, &ending, err)
         }
         Err(_) => say(alloc, &Ending::NoMemory, err),
     }
 }
 
+// Does what a command asks for, or nothing if the arguments are in no command.
 fn work<'w, F: Files, O: Sink, L: TimedLink, R: Fresh, D: Disk, S: Link, P: TimedLink, I: Input>(
     alloc: Global,
     command: Option<Command<'w>>,
-    files: &mut F,
-    out: &mut O,
-    link: &mut L,
-    fresh: &mut R,
-    disk: &mut D,
-    stream: &mut S,
-    port: &mut P,
-    input: &mut I,
+    objects: Objects<'_, F, O, L, R, D, S, P, I>,
 ) -> Ending<'w>
     requires { CanBeDriven (option_map command_held command) }
-    ensures files { F.held files.new ≡ F.held files.old }
-    ensures works { Works (option_map command_held command.entry) (F.held files.old) (F.faults files.old) (F.faults files.new)
-        (record { out = record { bytes = O.written out.old; faults = O.faults out.old }; link = record { bound = L.bound link.old; deliveries = L.deliveries link.old; sent = L.sent link.old; faults = L.faults link.old }; random = R.random fresh.old })
-        (record { out = record { bytes = O.written out.new; faults = O.faults out.new }; link = record { bound = L.bound link.new; deliveries = L.deliveries link.new; sent = L.sent link.new; faults = L.faults link.new }; random = R.random fresh.new })
-        (record { bound = S.bound stream.old; deliveries = S.deliveries stream.old; sent = S.sent stream.old; faults = S.faults stream.old }) (record { bound = S.bound stream.new; deliveries = S.deliveries stream.new; sent = S.sent stream.new; faults = S.faults stream.new })
-        (record { bound = D.bound disk.old; seen = D.seen disk.old; may_leave = D.may_leave disk.old; faults = D.faults disk.old }) (record { bound = D.bound disk.new; seen = D.seen disk.new; may_leave = D.may_leave disk.new; faults = D.faults disk.new })
-        (record { coming = L.coming link.old; port = record { bound = P.bound port.old; coming = P.coming port.old; sent = P.sent port.old; faults = P.faults port.old }; input = record { bytes = I.coming input.old; faults = I.faults input.old } })
-        (record { coming = L.coming link.new; port = record { bound = P.bound port.new; coming = P.coming port.new; sent = P.sent port.new; faults = P.faults port.new }; input = record { bytes = I.coming input.new; faults = I.faults input.new } })
-        (ending_held result) }
-    ensures as_before { HasPlayed (option_map command_held command.entry) (ending_held result) ⊎ ((link.new ≡ link.old) × (stream.new ≡ stream.old) × (port.new ≡ port.old) × (input.new ≡ input.old) × (fresh.new ≡ fresh.old)) }
-    ensures link { IsOverLink (option_map command_held command.entry) ⊎ (link.new ≡ link.old) }
-    ensures stream { IsOverStream (option_map command_held command.entry) ⊎ (stream.new ≡ stream.old) }
-    ensures port { IsOverPort (option_map command_held command.entry) ⊎ (port.new ≡ port.old) }
-    ensures input { IsOnInput (option_map command_held command.entry) ⊎ (input.new ≡ input.old) }
-    ensures disk { IsOnDisk (option_map command_held command.entry) ⊎ (disk.new ≡ disk.old) }
+    ensures works { Works (option_map command_held command.entry)
+        (reported (reports_of F.Files O.Sink L.Link L.coming R.Fresh D.Disk (link_of S.Link) P.Link P.coming I.Input) (objects_at_call objects.entry))
+        (reported (reports_of F.Files O.Sink L.Link L.coming R.Fresh D.Disk (link_of S.Link) P.Link P.coming I.Input) (objects_at_return objects.exit)) (ending_held result) }
+    ensures kept { IsKept (files_of F.Files (objects_at_call objects.entry).files) (files_of F.Files (objects_at_return objects.exit).files) }
+    ensures as_before { HasPlayed (option_map command_held command.entry) (ending_held result) ⊎ (objects_at_return objects.exit ≡ unplayed (objects_at_call objects.entry) (objects_at_return objects.exit)) }
+    ensures untouched { objects_at_return objects.exit ≡ untouched_by (option_map command_held command.entry) (objects_at_call objects.entry) (objects_at_return objects.exit) }
 {
+    let Objects {
+        files,
+        out,
+        link,
+        fresh,
+        disk,
+        stream,
+        port,
+        input,
+    } = objects;
     match command {
         None => Ending::NoCommand,
         Some(Command::Check { file }) => check(alloc, file, files, out),
@@ -193,9 +153,14 @@ fn work<'w, F: Files, O: Sink, L: TimedLink, R: Fresh, D: Disk, S: Link, P: Time
                 deliveries,
                 programs,
             },
-        ) => run(
-            alloc, keys, script, deliveries, programs, files, out, link, fresh,
-        ),
+        ) => {
+            let named = RunFiles {
+                keys,
+                programs,
+                script,
+            };
+            run(alloc, named, deliveries, files, Stage { out, link, fresh })
+        }
         Some(Command::Replay { file }) => replay(alloc, file, files, out),
         Some(
             Command::Drive {
@@ -213,9 +178,15 @@ fn work<'w, F: Files, O: Sink, L: TimedLink, R: Fresh, D: Disk, S: Link, P: Time
                 deliveries,
                 programs,
             },
-        ) => keep(
-            alloc, file, keys, script, deliveries, programs, files, out, link, fresh, disk,
-        ),
+        ) => {
+            let named = RunFiles {
+                keys,
+                programs,
+                script,
+            };
+            let stage = Stage { out, link, fresh };
+            keep(alloc, file, named, deliveries, files, stage, disk)
+        }
         Some(
             Command::Stream {
                 keys,
@@ -223,9 +194,19 @@ fn work<'w, F: Files, O: Sink, L: TimedLink, R: Fresh, D: Disk, S: Link, P: Time
                 deliveries,
                 programs,
             },
-        ) => run(
-            alloc, keys, script, deliveries, programs, files, out, stream, fresh,
-        ),
+        ) => {
+            let named = RunFiles {
+                keys,
+                programs,
+                script,
+            };
+            let stage = Stage {
+                out,
+                link: stream,
+                fresh,
+            };
+            run(alloc, named, deliveries, files, stage)
+        }
         Some(Command::Audit { file }) => audit(alloc, file, files, out),
         Some(Command::Compose { file }) => compose(alloc, file, files, out),
         Some(Command::Suggest { file }) => suggest(alloc, file, files, out),
@@ -242,9 +223,15 @@ fn work<'w, F: Files, O: Sink, L: TimedLink, R: Fresh, D: Disk, S: Link, P: Time
                 keys,
                 programs,
             },
-        ) => serve(
-            alloc, ledger, keys, programs, files, out, input, link, fresh, disk,
-        ),
+        ) => {
+            let named = NamedFiles {
+                keys,
+                programs,
+                ledger,
+            };
+            let stage = Stage { out, link, fresh };
+            serve(alloc, named, files, stage, input, disk)
+        }
         Some(
             Command::Serve {
                 over_tcp: true,
@@ -252,8 +239,18 @@ fn work<'w, F: Files, O: Sink, L: TimedLink, R: Fresh, D: Disk, S: Link, P: Time
                 keys,
                 programs,
             },
-        ) => serve(
-            alloc, ledger, keys, programs, files, out, input, port, fresh, disk,
-        ),
+        ) => {
+            let named = NamedFiles {
+                keys,
+                programs,
+                ledger,
+            };
+            let stage = Stage {
+                out,
+                link: port,
+                fresh,
+            };
+            serve(alloc, named, files, stage, input, disk)
+        }
     }
 }
