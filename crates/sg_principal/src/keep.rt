@@ -33,10 +33,8 @@ pub fn keep<'w, F: Files, O: Sink, L: Link, R: Fresh, D: Disk>(
 ) -> Ending<'w>
     ensures kept { IsKept (files_of F.Files files.old) (files_of F.Files files.new) }
     ensures keeps { KeepsRun file.now (run_files_held named.entry) most (files_of F.Files files.old) (files_of F.Files files.new)
-        (stage_of O.Sink L.Link R.Fresh (stage_at_call stage.entry))
-        (stage_of O.Sink L.Link R.Fresh (stage_at_return stage.exit))
-        (disk_of D.Disk disk.old) (disk_of D.Disk disk.new)
-        (ending_held result) }
+        (stage_of O.Sink L.Link R.Fresh (stage_at_call stage.entry)) (stage_of O.Sink L.Link R.Fresh (stage_at_return stage.exit))
+        (disk_of D.Disk disk.old) (disk_of D.Disk disk.new) (ending_held result) }
     ensures as_before { CanHaveKept (ending_held result) ⊎ (stage_at_return stage.exit ≡ stage_at_call stage.entry) }
 {
     match read_setup(alloc, named.keys, named.script, named.programs, files) {
@@ -56,10 +54,8 @@ fn keep_setup<O: Sink, L: Link, R: Fresh, D: Disk>(
 ) -> Ending<'static>
     requires { setup.keys_of_node ≡ setup.keys }
     ensures keeps { KeepsSetup file.now (setup_held setup) most
-        (stage_of O.Sink L.Link R.Fresh (stage_at_call stage.entry))
-        (stage_of O.Sink L.Link R.Fresh (stage_at_return stage.exit))
-        (disk_of D.Disk disk.old) (disk_of D.Disk disk.new)
-        (ending_held result) }
+        (stage_of O.Sink L.Link R.Fresh (stage_at_call stage.entry)) (stage_of O.Sink L.Link R.Fresh (stage_at_return stage.exit))
+        (disk_of D.Disk disk.old) (disk_of D.Disk disk.new) (ending_held result) }
     ensures as_before { CanHaveKept (ending_held result) ⊎ (stage_at_return stage.exit ≡ stage_at_call stage.entry) }
 {
     match open_ledger(alloc, file, disk) {
@@ -81,14 +77,12 @@ fn play_over<O: Sink, L: Link, R: Fresh, D: Disk>(
     requires working { ledger.failed ≡ false }
     requires represents { AllRepresent (D.may_leave disk.old) ledger.joins }
     ensures bound { D.bound disk.new ≡ D.bound disk.old }
-    ensures waits { (L.bound (stage_at_return stage.exit).link ≡ Some (waits_at setup.keys)) ⊎ ((result ≡ Err (KeepFault.Played PlayFault.LinkFailed)) × LacksLink
-        (stage_of O.Sink L.Link R.Fresh (stage_at_call stage.entry))
-        (stage_of O.Sink L.Link R.Fresh (stage_at_return stage.exit))) }
+    ensures waits { (L.bound (stage_at_return stage.exit).link ≡ Some (waits_at setup.keys)) ⊎
+        ((result ≡ Err (KeepFault.Played PlayFault.LinkFailed)) × LacksLink
+        (stage_of O.Sink L.Link R.Fresh (stage_at_call stage.entry)) (stage_of O.Sink L.Link R.Fresh (stage_at_return stage.exit))) }
     ensures ends { EndsOver ledger.joins (setup_held setup) most
-        (stage_of O.Sink L.Link R.Fresh (stage_at_call stage.entry))
-        (stage_of O.Sink L.Link R.Fresh (stage_at_return stage.exit))
-        (disk_of D.Disk disk.old) (disk_of D.Disk disk.new)
-        result }
+        (stage_of O.Sink L.Link R.Fresh (stage_at_call stage.entry)) (stage_of O.Sink L.Link R.Fresh (stage_at_return stage.exit))
+        (disk_of D.Disk disk.old) (disk_of D.Disk disk.new) result }
 {
     let Stage { out, link, fresh } = stage;
     match link.open(setup.keys.listen()) {

@@ -17,8 +17,7 @@ pub fn ledger<O: Sink, D: Disk>(
     disk: &mut D,
 ) -> Ending<'static>
     ensures { Makes file.now (output_of O.Sink out.old) (output_of O.Sink out.new)
-        (disk_of D.Disk disk.old) (disk_of D.Disk disk.new)
-        (ending_held result) }
+        (disk_of D.Disk disk.old) (disk_of D.Disk disk.new) (ending_held result) }
 {
     match create(alloc, file, disk) {
         Ok(()) => match write_all(out, b"ledger made\n") {

@@ -29,9 +29,7 @@ pub fn run<'w, F: Files, O: Sink, L: Link, R: Fresh>(
 ) -> Ending<'w>
     ensures kept { IsKept (files_of F.Files files.old) (files_of F.Files files.new) }
     ensures runs { Runs (run_files_held named.entry) most (files_of F.Files files.old) (files_of F.Files files.new)
-        (stage_of O.Sink L.Link R.Fresh (stage_at_call stage.entry))
-        (stage_of O.Sink L.Link R.Fresh (stage_at_return stage.exit))
-        (ending_held result) }
+        (stage_of O.Sink L.Link R.Fresh (stage_at_call stage.entry)) (stage_of O.Sink L.Link R.Fresh (stage_at_return stage.exit)) (ending_held result) }
     ensures as_before { CanHavePlayed (ending_held result) ⊎ (stage_at_return stage.exit ≡ stage_at_call stage.entry) }
 {
     match read_setup(alloc, named.keys, named.script, named.programs, files) {
@@ -48,10 +46,11 @@ fn play_setup<O: Sink, L: Link, R: Fresh>(
     stage: Stage<'_, O, L, R>,
 ) -> Result<(), PlayFault>
     requires { setup.keys_of_node ≡ setup.keys }
-    ensures waits { (L.bound (stage_at_return stage.exit).link ≡ Some (waits_at setup.keys)) ⊎ ((result ≡ Err PlayFault.LinkFailed) × LacksLink
-        (stage_of O.Sink L.Link R.Fresh (stage_at_call stage.entry))
-        (stage_of O.Sink L.Link R.Fresh (stage_at_return stage.exit))) }
-    ensures ends { EndsPlaying (setup_held setup) most (stage_of O.Sink L.Link R.Fresh (stage_at_call stage.entry)) (stage_of O.Sink L.Link R.Fresh (stage_at_return stage.exit)) result }
+    ensures waits { (L.bound (stage_at_return stage.exit).link ≡ Some (waits_at setup.keys)) ⊎
+        ((result ≡ Err PlayFault.LinkFailed) × LacksLink
+        (stage_of O.Sink L.Link R.Fresh (stage_at_call stage.entry)) (stage_of O.Sink L.Link R.Fresh (stage_at_return stage.exit))) }
+    ensures ends { EndsPlaying (setup_held setup) most
+        (stage_of O.Sink L.Link R.Fresh (stage_at_call stage.entry)) (stage_of O.Sink L.Link R.Fresh (stage_at_return stage.exit)) result }
 {
     match stage.link.open(setup.keys.listen()) {
         Ok(()) => play_on(alloc, setup, most, stage),
@@ -68,7 +67,8 @@ fn play_on<O: Sink, L: Link, R: Fresh>(
 ) -> Result<(), PlayFault>
     requires { setup.keys_of_node ≡ setup.keys }
     ensures bound { L.bound (stage_at_return stage.exit).link ≡ L.bound (stage_at_call stage.entry).link }
-    ensures ends { EndsPlaying (setup_held setup) most (stage_of O.Sink L.Link R.Fresh (stage_at_call stage.entry)) (stage_of O.Sink L.Link R.Fresh (stage_at_return stage.exit)) result }
+    ensures ends { EndsPlaying (setup_held setup) most
+        (stage_of O.Sink L.Link R.Fresh (stage_at_call stage.entry)) (stage_of O.Sink L.Link R.Fresh (stage_at_return stage.exit)) result }
 {
     let Setup {
         keys,

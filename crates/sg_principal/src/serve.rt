@@ -35,8 +35,7 @@ pub fn serve<'w, F: Files, O: Sink, I: Input, L: TimedLink, R: Fresh, D: Disk>(
     ensures serves { ServesRun (named_files_held named.entry) (files_of F.Files files.old) (files_of F.Files files.new)
         (application_of O.Sink L.Link L.coming R.Fresh I.Input (stage_at_call stage.entry) input.old)
         (application_of O.Sink L.Link L.coming R.Fresh I.Input (stage_at_return stage.exit) input.new)
-        (disk_of D.Disk disk.old) (disk_of D.Disk disk.new)
-        (ending_held result) }
+        (disk_of D.Disk disk.old) (disk_of D.Disk disk.new) (ending_held result) }
     ensures as_before { CanHaveServed (ending_held result) ⊎ ((stage_at_return stage.exit ≡ stage_at_call stage.entry) × (input.new ≡ input.old)) }
     ensures disk { IsSome named.entry.ledger ⊎ (disk.new ≡ disk.old) }
 {
@@ -59,8 +58,7 @@ fn serve_principal<O: Sink, I: Input, L: TimedLink, R: Fresh, D: Disk>(
     ensures serves { ServesPrincipal (option_map (λ f. f.now) ledger.entry) (principal_held principal)
         (application_of O.Sink L.Link L.coming R.Fresh I.Input (stage_at_call stage.entry) input.old)
         (application_of O.Sink L.Link L.coming R.Fresh I.Input (stage_at_return stage.exit) input.new)
-        (disk_of D.Disk disk.old) (disk_of D.Disk disk.new)
-        (ending_held result) }
+        (disk_of D.Disk disk.old) (disk_of D.Disk disk.new) (ending_held result) }
     ensures as_before { CanHaveServed (ending_held result) ⊎ ((stage_at_return stage.exit ≡ stage_at_call stage.entry) × (input.new ≡ input.old)) }
     ensures disk { IsSome ledger.entry ⊎ (disk.new ≡ disk.old) }
 {
@@ -88,8 +86,7 @@ fn serve_over<O: Sink, I: Input, L: TimedLink, R: Fresh, D: Disk>(
     ensures serves { ServesOver (is_some ledger) (joins_kept ledger) (principal_held principal)
         (application_of O.Sink L.Link L.coming R.Fresh I.Input (stage_at_call stage.entry) input.old)
         (application_of O.Sink L.Link L.coming R.Fresh I.Input (stage_at_return stage.exit) input.new)
-        (disk_of D.Disk disk.old) (disk_of D.Disk disk.new)
-        (ending_held result) }
+        (disk_of D.Disk disk.old) (disk_of D.Disk disk.new) (ending_held result) }
     ensures bound { D.bound disk.new ≡ D.bound disk.old }
     ensures served { CanHaveServed (ending_held result) }
     ensures disk { IsNone ledger → disk.new ≡ disk.old }
@@ -116,8 +113,7 @@ fn answer_all<O: Sink, I: Input, L: TimedLink, R: Fresh, D: Disk>(
     ensures ends { EndsServing (is_some ledger) (joins_kept ledger) (principal_held principal)
         (application_of O.Sink L.Link L.coming R.Fresh I.Input (stage_at_call stage.entry) input.old)
         (application_of O.Sink L.Link L.coming R.Fresh I.Input (stage_at_return stage.exit) input.new)
-        (disk_of D.Disk disk.old) (disk_of D.Disk disk.new)
-        result }
+        (disk_of D.Disk disk.old) (disk_of D.Disk disk.new) result }
     ensures disk { IsNone ledger → disk.new ≡ disk.old }
 {
     let Principal {

@@ -27,10 +27,17 @@ pub record Objects (F O L R D S P I : Type 0) : Type 0 where
   pub port : P
   pub input : I
 
--- the outside: these, and standard error
+-- the outside: standard error, and these objects
 pub record Outside (F O E L R D S P I : Type 0) : Type 0 where
-  pub objects : Objects F O L R D S P I
   pub err : E
+  pub objects : Objects F O L R D S P I
+
+-- the outside of these objects
+abbrev pub outside_of : {F O E L R D S P I : Type 0} → F → O → E → L → R → D → S → P → I → Outside F O E L R D S P I
+outside_of files out err link fresh disk stream port input = record {
+  err = err;
+  objects = record { files = files; out = out; link = link; fresh = fresh; disk = disk; stream = stream; port = port; input = input };
+}
 
 -- ---- what they report
 

@@ -4,7 +4,7 @@ ghost use Rattle.sg_args.specs.Command.{CanBeDriven};
 ghost use Rattle.sg_args.specs.Model.{command_held};
 ghost use Rattle.sg_ending.specs.Model.{ending_held};
 ghost use Rattle.sg_principal.specs.Outside.{IsKept, files_of, link_of, output_of};
-ghost use Rattle.sg_top.specs.Outside.{objects_at_call, objects_at_return, reported, reports_of, stream_of};
+ghost use Rattle.sg_top.specs.Outside.{objects_at_call, objects_at_return, outside_of, reported, reports_of, stream_of};
 ghost use Rattle.sg_top.specs.Top.{Ends, HasPlayed, Works, unplayed, untouched_by};
 
 use crate::objects::Objects;
@@ -67,9 +67,10 @@ pub fn top<
     port: &mut P,
     input: &mut I,
 ) -> u8
-    ensures { Ends (reports_of F.Files O.Sink L.Link L.coming R.Fresh D.Disk (stream_of C.Conns) P.Link P.coming I.Input) (output_of E.Sink) (map string_bytes args.now)
-        (record { objects = record { files = files.old; out = out.old; link = link.old; fresh = fresh.old; disk = disk.old; stream = stream.old; port = port.old; input = input.old }; err = err.old })
-        (record { objects = record { files = files.new; out = out.new; link = link.new; fresh = fresh.new; disk = disk.new; stream = stream.new; port = port.new; input = input.new }; err = err.new }) result }
+    ensures { Ends (reports_of F.Files O.Sink L.Link L.coming R.Fresh D.Disk (stream_of C.Conns) P.Link P.coming I.Input) (output_of E.Sink)
+        (map string_bytes args.now)
+        (outside_of files.old out.old err.old link.old fresh.old disk.old stream.old port.old input.old)
+        (outside_of files.new out.new err.new link.new fresh.new disk.new stream.new port.new input.new) result }
 {
     match CommandLine::new(alloc, args) {
         Ok(line) => {
@@ -107,7 +108,7 @@ fn on_line<
     err: &mut E,
 ) -> u8
     ensures { Ends (reports_of F.Files O.Sink L.Link L.coming R.Fresh D.Disk (link_of S.Link) P.Link P.coming I.Input) (output_of E.Sink) line.now
-        (record { objects = objects_at_call objects.entry; err = err.old }) (record { objects = objects_at_return objects.exit; err = err.new }) result }
+        (record { err = err.old; objects = objects_at_call objects.entry }) (record { err = err.new; objects = objects_at_return objects.exit }) result }
 {
     match Parsed::read(alloc, line) {
         Ok(given) => {
@@ -127,10 +128,13 @@ fn work<'w, F: Files, O: Sink, L: TimedLink, R: Fresh, D: Disk, S: Link, P: Time
     requires { CanBeDriven (option_map command_held command) }
     ensures works { Works (option_map command_held command.entry)
         (reported (reports_of F.Files O.Sink L.Link L.coming R.Fresh D.Disk (link_of S.Link) P.Link P.coming I.Input) (objects_at_call objects.entry))
-        (reported (reports_of F.Files O.Sink L.Link L.coming R.Fresh D.Disk (link_of S.Link) P.Link P.coming I.Input) (objects_at_return objects.exit)) (ending_held result) }
+        (reported (reports_of F.Files O.Sink L.Link L.coming R.Fresh D.Disk (link_of S.Link) P.Link P.coming I.Input) (objects_at_return objects.exit))
+        (ending_held result) }
     ensures kept { IsKept (files_of F.Files (objects_at_call objects.entry).files) (files_of F.Files (objects_at_return objects.exit).files) }
-    ensures as_before { HasPlayed (option_map command_held command.entry) (ending_held result) ⊎ (objects_at_return objects.exit ≡ unplayed (objects_at_call objects.entry) (objects_at_return objects.exit)) }
-    ensures untouched { objects_at_return objects.exit ≡ untouched_by (option_map command_held command.entry) (objects_at_call objects.entry) (objects_at_return objects.exit) }
+    ensures as_before { HasPlayed (option_map command_held command.entry) (ending_held result) ⊎
+        (objects_at_return objects.exit ≡ unplayed (objects_at_call objects.entry) (objects_at_return objects.exit)) }
+    ensures untouched { objects_at_return objects.exit ≡
+        untouched_by (option_map command_held command.entry) (objects_at_call objects.entry) (objects_at_return objects.exit) }
 {
     let Objects {
         files,
