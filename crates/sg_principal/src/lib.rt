@@ -7,8 +7,10 @@
 //! - `serve` reads keys and programs as `run` does, opens the ledger, if it has one, and then its link, and answers the lines of standard input,
 //!   each before it reads the next one. A link that fails after that is an answer.
 //!
-//! Each command has a module of its name, and `joins` opens a ledger. `specs/Runs.antt` says what a run leaves, `specs/Ledgers.antt` what the making of
-//! a ledger leaves, and a run over one, and `specs/Serves.antt` a run for an application.
+//! Each command has a module of its name, and `joins` opens a ledger. A player is given what it acts on as one struct, `Stage`.
+//!
+//! `specs/Outside.antt` says what these objects report, `specs/Runs.antt` what a run leaves, `specs/Ledgers.antt` what the making of a ledger leaves, and
+//! a run over one, and `specs/Serves.antt` a run for an application.
 #![tactic(auto)]
 
 mod joins;
