@@ -1,10 +1,12 @@
 -- The bytes of a file decide whether a ledger is made.
-use Rattle.std.proofs.Common.{◌≡◌, ◌≢◌, ℕ, inl, inr, false, List, [], ◌∷◌, Option, Some, codes, refl, sym, ap, ◌∙◌}
+use Rattle.std.proofs.Common.{◌≡◌, ◌≢◌, ℕ, inl, inr, false, List, [], ◌∷◌, Some, codes, refl, sym, ap, ◌∙◌}
+use Rattle.sg_ledger.specs.declared.disk.Disk as Disk
 use Rattle.sg_ending.specs.Ending.{Ending, Written, LedgerNotEmpty, WriteFailed, DiskFailed, NoMemory}
 use Rattle.sg_ending.specs.Laws.{asked, is_of_outside}
 use Rattle.sg_ending.specs.Output.{Output, Writes}
 use Rattle.sg_principal.specs.Laws.{LedgersAreMadeByBytes, asked_by}
-use Rattle.sg_principal.specs.Ledgers.{Disked, LacksRoom, Makes}
+use Rattle.sg_principal.specs.Ledgers.{LacksRoom, Makes}
+use Rattle.sg_principal.specs.Outside.{Disked, disk_of}
 
 is_written : (old new : Output) (text : List ℕ) (e : Ending) → Writes old new text e → asked e ≡ Written
 is_written old new text Written h = refl
@@ -25,7 +27,5 @@ by_bytes : (file bytes : List ℕ) (old new : Output) (disk disk' : Disked) (e :
 by_bytes file bytes old new disk disk' e seen (bound, inl ((empty, left), w)) p d = is_written old new (codes "ledger made\n") e w ∙ sym (ap asked_by (empty bytes seen))
 by_bytes file bytes old new disk disk' e seen (bound, inr (same, lacks)) p d = lacks_room disk disk' bytes e seen lacks p d
 
-pub ledgers_by_bytes : {D : Type 0} (bound seen : D → Option (List ℕ)) (may_leave : D → List ℕ → Type 0) (faults : D → ℕ) → LedgersAreMadeByBytes bound seen may_leave faults
-ledgers_by_bytes {D} bound seen may_leave faults file bytes old new disk disk' e known h p d =
-    let disked : D → Disked = λ x. record { bound = bound x; seen = seen x; may_leave = may_leave x; faults = faults x } in
-    by_bytes file bytes old new (disked disk) (disked disk') e known h p d
+pub ledgers_by_bytes : {D : Type 0} (g : Disk.Ghosts D) → LedgersAreMadeByBytes g
+ledgers_by_bytes {D} g file bytes old new disk disk' e known h p d = by_bytes file bytes old new (disk_of g disk) (disk_of g disk') e known h p d

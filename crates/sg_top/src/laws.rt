@@ -42,5 +42,5 @@ pub fn runs_lack_once()
 
 /// The bytes of a disk's file, if they are known, decide whether a ledger is made, unless the disk fails or memory runs out.
 pub fn ledger_is_made_once<D: Disk>()
-    ensures { LedgersAreMadeByBytes D.bound D.seen D.may_leave D.faults }
+    ensures { LedgersAreMadeByBytes D.Disk }
 {}
