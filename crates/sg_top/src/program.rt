@@ -136,20 +136,16 @@ fn work<'w, F: Files, O: Sink, L: TimedLink, R: Fresh, D: Disk, S: Link, P: Time
     ensures untouched { objects_at_return objects.exit ≡
         untouched_by (option_map command_held command.entry) (objects_at_call objects.entry) (objects_at_return objects.exit) }
 {
-    let Objects {
-        files,
-        out,
-        link,
-        fresh,
-        disk,
-        stream,
-        port,
-        input,
-    } = objects;
     match command {
         None => Ending::NoCommand,
-        Some(Command::Check { file }) => check(alloc, file, files, out),
-        Some(Command::Compile { file, role }) => compile(alloc, file, role, files, out),
+        Some(Command::Check { file }) => {
+            let Objects { files, out, .. } = objects;
+            check(alloc, file, files, out)
+        }
+        Some(Command::Compile { file, role }) => {
+            let Objects { files, out, .. } = objects;
+            compile(alloc, file, role, files, out)
+        }
         Some(
             Command::Run {
                 keys,
@@ -163,17 +159,33 @@ fn work<'w, F: Files, O: Sink, L: TimedLink, R: Fresh, D: Disk, S: Link, P: Time
                 programs,
                 script,
             };
+            let Objects {
+                files,
+                out,
+                link,
+                fresh,
+                ..
+            } = objects;
             run(alloc, named, deliveries, files, Stage { out, link, fresh })
         }
-        Some(Command::Replay { file }) => replay(alloc, file, files, out),
+        Some(Command::Replay { file }) => {
+            let Objects { files, out, .. } = objects;
+            replay(alloc, file, files, out)
+        }
         Some(
             Command::Drive {
                 seed,
                 sessions,
                 file,
             },
-        ) => drive(alloc, seed, sessions, file, files, out),
-        Some(Command::Ledger { file }) => ledger(alloc, file, out, disk),
+        ) => {
+            let Objects { files, out, .. } = objects;
+            drive(alloc, seed, sessions, file, files, out)
+        }
+        Some(Command::Ledger { file }) => {
+            let Objects { out, disk, .. } = objects;
+            ledger(alloc, file, out, disk)
+        }
         Some(
             Command::Keep {
                 file,
@@ -188,6 +200,14 @@ fn work<'w, F: Files, O: Sink, L: TimedLink, R: Fresh, D: Disk, S: Link, P: Time
                 programs,
                 script,
             };
+            let Objects {
+                files,
+                out,
+                link,
+                fresh,
+                disk,
+                ..
+            } = objects;
             let stage = Stage { out, link, fresh };
             keep(alloc, file, named, deliveries, files, stage, disk)
         }
@@ -204,6 +224,13 @@ fn work<'w, F: Files, O: Sink, L: TimedLink, R: Fresh, D: Disk, S: Link, P: Time
                 programs,
                 script,
             };
+            let Objects {
+                files,
+                out,
+                stream,
+                fresh,
+                ..
+            } = objects;
             let stage = Stage {
                 out,
                 link: stream,
@@ -211,15 +238,27 @@ fn work<'w, F: Files, O: Sink, L: TimedLink, R: Fresh, D: Disk, S: Link, P: Time
             };
             run(alloc, named, deliveries, files, stage)
         }
-        Some(Command::Audit { file }) => audit(alloc, file, files, out),
-        Some(Command::Compose { file }) => compose(alloc, file, files, out),
-        Some(Command::Suggest { file }) => suggest(alloc, file, files, out),
+        Some(Command::Audit { file }) => {
+            let Objects { files, out, .. } = objects;
+            audit(alloc, file, files, out)
+        }
+        Some(Command::Compose { file }) => {
+            let Objects { files, out, .. } = objects;
+            compose(alloc, file, files, out)
+        }
+        Some(Command::Suggest { file }) => {
+            let Objects { files, out, .. } = objects;
+            suggest(alloc, file, files, out)
+        }
         Some(
             Command::Claims {
                 graph,
                 claims: file,
             },
-        ) => claims(alloc, graph, file, files, out),
+        ) => {
+            let Objects { files, out, .. } = objects;
+            claims(alloc, graph, file, files, out)
+        }
         Some(
             Command::Serve {
                 over_tcp: false,
@@ -233,6 +272,15 @@ fn work<'w, F: Files, O: Sink, L: TimedLink, R: Fresh, D: Disk, S: Link, P: Time
                 programs,
                 ledger,
             };
+            let Objects {
+                files,
+                out,
+                link,
+                fresh,
+                disk,
+                input,
+                ..
+            } = objects;
             let stage = Stage { out, link, fresh };
             serve(alloc, named, files, stage, input, disk)
         }
@@ -249,6 +297,15 @@ fn work<'w, F: Files, O: Sink, L: TimedLink, R: Fresh, D: Disk, S: Link, P: Time
                 programs,
                 ledger,
             };
+            let Objects {
+                files,
+                out,
+                port,
+                fresh,
+                disk,
+                input,
+                ..
+            } = objects;
             let stage = Stage {
                 out,
                 link: port,
