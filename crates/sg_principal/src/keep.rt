@@ -84,8 +84,7 @@ fn play_over<O: Sink, L: Link, R: Fresh, D: Disk>(
         (stage_of O.Sink L.Link R.Fresh (stage_at_call stage.entry)) (stage_of O.Sink L.Link R.Fresh (stage_at_return stage.exit))
         (disk_of D.Disk disk.old) (disk_of D.Disk disk.new) result }
 {
-    let Stage { out, link, fresh } = stage;
-    match link.open(setup.keys.listen()) {
+    match stage.link.open(setup.keys.listen()) {
         Ok(()) => {}
         Err(_) => return Err(KeepFault::Played(PlayFault::LinkFailed)),
     }
@@ -95,6 +94,7 @@ fn play_over<O: Sink, L: Link, R: Fresh, D: Disk>(
         programs,
         script,
     } = setup;
+    let Stage { out, link, fresh } = stage;
     sg_keep::keep(
         alloc,
         keys_of_node,

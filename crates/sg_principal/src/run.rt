@@ -76,11 +76,13 @@ fn play_on<O: Sink, L: Link, R: Fresh>(
         programs,
         script,
     } = setup;
-    let Stage { out, link, fresh } = stage;
     match Node::new(alloc, keys_of_node, &programs) {
-        Ok(node) => play(
-            alloc, node, &keys, &programs, script, most, link, fresh, out,
-        ),
+        Ok(node) => {
+            let Stage { out, link, fresh } = stage;
+            play(
+                alloc, node, &keys, &programs, script, most, link, fresh, out,
+            )
+        }
         Err(_) => Err(PlayFault::OutOfMemory),
     }
 }

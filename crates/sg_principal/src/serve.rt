@@ -121,7 +121,6 @@ fn answer_all<O: Sink, I: Input, L: TimedLink, R: Fresh, D: Disk>(
         keys_of_node,
         programs,
     } = principal;
-    let Stage { out, link, fresh } = stage;
     let node = match &ledger {
         Some(ledger) => Node::with_joins(alloc, keys_of_node, &programs, ledger.joins()),
         None => Node::new(alloc, keys_of_node, &programs),
@@ -129,6 +128,7 @@ fn answer_all<O: Sink, I: Input, L: TimedLink, R: Fresh, D: Disk>(
     let Ok(node) = node else {
         return Err(ServeFault::OutOfMemory);
     };
+    let Stage { out, link, fresh } = stage;
     sg_serve::serve(
         alloc, node, &keys, &programs, ledger, input, link, fresh, out, disk,
     )
