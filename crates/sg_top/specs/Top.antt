@@ -1,5 +1,5 @@
 -- What the program leaves, and how it says why it ends.
-use Rattle.std.specs.Prelude.{◌≡◌, ℕ, ◌⊎◌, Bool, true, false, List, Option, Some, None, ⊤}
+use Rattle.std.specs.Prelude.{◌≡◌, ℕ, ◌⊎◌, true, false, List, Option, Some, None}
 use Rattle.sg_model.specs.Limits.{most_graph_file, most_logs_file, most_schedule_file}
 use Rattle.sg_args.specs.Command.{Command, Check, Compile, Run, Replay, Drive, Ledger, Keep, Stream, Audit, Compose, Suggest, Claims, Serve, command_of}
 use Rattle.sg_ending.specs.Ending.{Ending, NoCommand, NoMemory}

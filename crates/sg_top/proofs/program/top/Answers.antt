@@ -1,4 +1,4 @@
-use Rattle.std.proofs.Common.{refl, inl, inr, map}
+use Rattle.std.proofs.Common.{refl, inr, map}
 use Rattle.std.specs.Prelude.{string_bytes}
 use Rattle.sg_args.specs.Command.{command_of}
 use Rattle.sg_ending.specs.Ending.{NoMemory}
