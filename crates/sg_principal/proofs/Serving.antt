@@ -1,9 +1,10 @@
 -- Runs for an application, from before a ledger and a link were opened.
-use Rattle.std.proofs.Common.{◌≡◌, ℕ, ◌≤◌, ◌⊎◌, Bool, List, Option, Some, Result, inl, inr, ◌∙◌, arith}
+use Rattle.std.proofs.Common.{◌≡◌, ℕ, ◌≤◌, Bool, List, Option, Some, Result, Err, inl, inr, ◌∙◌, arith}
 use Rattle.sg_base.specs.Outside.{HasRisen}
 use Rattle.sg_base.specs.declared.address.Addr.{Addr}
 use Rattle.sg_ledger.specs.Format.{Join}
 use Rattle.sg_serve.specs.declared.fault.ServeFault.{ServeFault}
+use Rattle.sg_serve.specs.declared.fault.ServeFault.TheVariants as ServeFaults
 use Rattle.sg_ending.specs.Ending.{Ending}
 use Rattle.sg_ending.specs.Output.{Output}
 use Rattle.sg_ending.proofs.Files.{rises}
@@ -11,6 +12,19 @@ use Rattle.sg_setup.specs.Setup.{Principal}
 use Rattle.sg_principal.specs.Ledgers.{IsLeft}
 use Rattle.sg_principal.specs.Outside.{Application, Disked, Entered, Waited}
 use Rattle.sg_principal.specs.Serves.{EndsServing, IsOpened, LacksLink, ServesOver}
+
+-- memory that ran out is no other fault
+abbrev out_of_memory : Result (Unit {0}) ServeFault
+out_of_memory = Err ServeFaults.OutOfMemory
+
+pub no_write_failed : out_of_memory ≡ Err ServeFaults.WriteFailed → ⊥
+no_write_failed e = absurd cc
+
+pub no_disk_failed : out_of_memory ≡ Err ServeFaults.DiskFailed → ⊥
+no_disk_failed e = absurd cc
+
+pub no_input_failed : out_of_memory ≡ Err ServeFaults.InputFailed → ⊥
+no_input_failed e = absurd cc
 
 module _ (link link1 : Waited) (kept : link1.coming ≡ link.coming) (kept_sent : link1.sent ≡ link.sent) where
   -- the link was opened

@@ -1,5 +1,5 @@
 -- How the making of a ledger ends, and a run over one, and what they leave of the disk.
-use Rattle.std.specs.Prelude.{◌≡◌, ◌≢◌, ℕ, ◌⊎◌, List, [], take, codes, Option, Some, Result, Ok, Err, OnOk, ⊤}
+use Rattle.std.specs.Prelude.{◌≡◌, ◌≢◌, ℕ, ◌⊎◌, List, [], take, codes, Some, Result, Ok, Err, OnOk, ⊤}
 use Rattle.sg_base.specs.Outside.{HasRisen}
 use Rattle.sg_keep.specs.Faults.{Counts, CountsFaults}
 use Rattle.sg_keep.specs.KeptRuns.{AllRepresent, HasKept}

@@ -3,6 +3,7 @@ use Rattle.std.specs.Prelude.{is_some}
 use Rattle.sg_input.specs.Lines.{lines_of}
 use Rattle.sg_serve.specs.Served.{images_if, joins_kept}
 use Rattle.sg_serve.proofs.Running.{not_begun}
+use Rattle.sg_principal.proofs.Serving.{no_disk_failed, no_input_failed, no_write_failed}
 use Rattle.sg_principal.proofs.serve.answer_all.Goals as goal
 
 pub returns-in_default-clause-ends : goal.returns-in_default-clause-ends
@@ -15,9 +16,9 @@ returns-in_default-clause-ends g c = record {
     link_falls = omega arith;
     out_falls = omega arith;
     disk_falls = omega arith;
-    write_failed = λ e. absurd cc;
-    disk_failed = λ e. absurd cc;
+    write_failed = λ e. absurd (no_write_failed e);
+    disk_failed = λ e. absurd (no_disk_failed e);
   };
   input_falls = omega arith;
-  input_failed = λ e. absurd cc;
+  input_failed = λ e. absurd (no_input_failed e);
 }
