@@ -136,16 +136,21 @@ fn work<'w, F: Files, O: Sink, L: TimedLink, R: Fresh, D: Disk, S: Link, P: Time
     ensures untouched { objects_at_return objects.exit ≡
         untouched_by (option_map command_held command.entry) (objects_at_call objects.entry) (objects_at_return objects.exit) }
 {
+    let Objects {
+        files,
+        out,
+        link,
+        fresh,
+        disk,
+        stream,
+        port,
+        input,
+    } = objects;
+    // Each arm returns, and is proved by itself.
     match command {
-        None => Ending::NoCommand,
-        Some(Command::Check { file }) => {
-            let Objects { files, out, .. } = objects;
-            check(alloc, file, files, out)
-        }
-        Some(Command::Compile { file, role }) => {
-            let Objects { files, out, .. } = objects;
-            compile(alloc, file, role, files, out)
-        }
+        None => return Ending::NoCommand,
+        Some(Command::Check { file }) => return check(alloc, file, files, out),
+        Some(Command::Compile { file, role }) => return compile(alloc, file, role, files, out),
         Some(
             Command::Run {
                 keys,
@@ -159,33 +164,17 @@ fn work<'w, F: Files, O: Sink, L: TimedLink, R: Fresh, D: Disk, S: Link, P: Time
                 programs,
                 script,
             };
-            let Objects {
-                files,
-                out,
-                link,
-                fresh,
-                ..
-            } = objects;
-            run(alloc, named, deliveries, files, Stage { out, link, fresh })
+            return run(alloc, named, deliveries, files, Stage { out, link, fresh });
         }
-        Some(Command::Replay { file }) => {
-            let Objects { files, out, .. } = objects;
-            replay(alloc, file, files, out)
-        }
+        Some(Command::Replay { file }) => return replay(alloc, file, files, out),
         Some(
             Command::Drive {
                 seed,
                 sessions,
                 file,
             },
-        ) => {
-            let Objects { files, out, .. } = objects;
-            drive(alloc, seed, sessions, file, files, out)
-        }
-        Some(Command::Ledger { file }) => {
-            let Objects { out, disk, .. } = objects;
-            ledger(alloc, file, out, disk)
-        }
+        ) => return drive(alloc, seed, sessions, file, files, out),
+        Some(Command::Ledger { file }) => return ledger(alloc, file, out, disk),
         Some(
             Command::Keep {
                 file,
@@ -200,16 +189,8 @@ fn work<'w, F: Files, O: Sink, L: TimedLink, R: Fresh, D: Disk, S: Link, P: Time
                 programs,
                 script,
             };
-            let Objects {
-                files,
-                out,
-                link,
-                fresh,
-                disk,
-                ..
-            } = objects;
             let stage = Stage { out, link, fresh };
-            keep(alloc, file, named, deliveries, files, stage, disk)
+            return keep(alloc, file, named, deliveries, files, stage, disk);
         }
         Some(
             Command::Stream {
@@ -224,41 +205,22 @@ fn work<'w, F: Files, O: Sink, L: TimedLink, R: Fresh, D: Disk, S: Link, P: Time
                 programs,
                 script,
             };
-            let Objects {
-                files,
-                out,
-                stream,
-                fresh,
-                ..
-            } = objects;
             let stage = Stage {
                 out,
                 link: stream,
                 fresh,
             };
-            run(alloc, named, deliveries, files, stage)
+            return run(alloc, named, deliveries, files, stage);
         }
-        Some(Command::Audit { file }) => {
-            let Objects { files, out, .. } = objects;
-            audit(alloc, file, files, out)
-        }
-        Some(Command::Compose { file }) => {
-            let Objects { files, out, .. } = objects;
-            compose(alloc, file, files, out)
-        }
-        Some(Command::Suggest { file }) => {
-            let Objects { files, out, .. } = objects;
-            suggest(alloc, file, files, out)
-        }
+        Some(Command::Audit { file }) => return audit(alloc, file, files, out),
+        Some(Command::Compose { file }) => return compose(alloc, file, files, out),
+        Some(Command::Suggest { file }) => return suggest(alloc, file, files, out),
         Some(
             Command::Claims {
                 graph,
                 claims: file,
             },
-        ) => {
-            let Objects { files, out, .. } = objects;
-            claims(alloc, graph, file, files, out)
-        }
+        ) => return claims(alloc, graph, file, files, out),
         Some(
             Command::Serve {
                 over_tcp: false,
@@ -272,17 +234,8 @@ fn work<'w, F: Files, O: Sink, L: TimedLink, R: Fresh, D: Disk, S: Link, P: Time
                 programs,
                 ledger,
             };
-            let Objects {
-                files,
-                out,
-                link,
-                fresh,
-                disk,
-                input,
-                ..
-            } = objects;
             let stage = Stage { out, link, fresh };
-            serve(alloc, named, files, stage, input, disk)
+            return serve(alloc, named, files, stage, input, disk);
         }
         Some(
             Command::Serve {
@@ -297,21 +250,12 @@ fn work<'w, F: Files, O: Sink, L: TimedLink, R: Fresh, D: Disk, S: Link, P: Time
                 programs,
                 ledger,
             };
-            let Objects {
-                files,
-                out,
-                port,
-                fresh,
-                disk,
-                input,
-                ..
-            } = objects;
             let stage = Stage {
                 out,
                 link: port,
                 fresh,
             };
-            serve(alloc, named, files, stage, input, disk)
+            return serve(alloc, named, files, stage, input, disk);
         }
     }
 }

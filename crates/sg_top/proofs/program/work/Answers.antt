@@ -110,9 +110,8 @@ returns-in-Some-Serve-true-default-default-default-clause-works g c =
 
 pub returns-in-Some-Serve-true-default-default-default-clause-as_before : goal.returns-in-Some-Serve-true-default-default-default-clause-as_before
 returns-in-Some-Serve-true-default-default-default-clause-as_before g c =
-    let over : c.in-Some-Serve-true-default-default-default.field-0-0 ≡ true = sym c.in-Some-Serve-true-default-default-default.field-0-0-is ∙ c.in-Some-Serve-true-default-default-default.field-0-0-test in
     let command : c.in-Some-Serve-true-default-default-default.field-0 ≡ Serve c.in-Some-Serve-true-default-default-default.field-0-0 c.in-Some-Serve-true-default-default-default.ledger c.in-Some-Serve-true-default-default-default.keys c.in-Some-Serve-true-default-default-default.programs = rw c.in-Some-Serve-true-default-default-default.is at c.in-Some-Serve-true-default-default-default.field-0-is in
-    rw (c.in-Some-Serve-true-default-default-default.is, command, over) (unserved_port (objects_at_call c.args.objects) _ _ _ _ c.serve.ensures.as_before)
+    rw (c.in-Some-Serve-true-default-default-default.is, command) (unserved_port (objects_at_call c.args.objects) _ _ _ _ c.serve.ensures.as_before)
 
 pub returns-in-Some-Serve-true-default-default-default-clause-untouched : goal.returns-in-Some-Serve-true-default-default-default-clause-untouched
 returns-in-Some-Serve-true-default-default-default-clause-untouched g c =
@@ -128,9 +127,8 @@ returns-in-Some-Serve-false-default-default-default-clause-works g c =
 
 pub returns-in-Some-Serve-false-default-default-default-clause-as_before : goal.returns-in-Some-Serve-false-default-default-default-clause-as_before
 returns-in-Some-Serve-false-default-default-default-clause-as_before g c =
-    let over : c.in-Some-Serve-false-default-default-default.field-0-0 ≡ false = sym c.in-Some-Serve-false-default-default-default.field-0-0-is ∙ c.in-Some-Serve-false-default-default-default.field-0-0-test in
     let command : c.in-Some-Serve-false-default-default-default.field-0 ≡ Serve c.in-Some-Serve-false-default-default-default.field-0-0 c.in-Some-Serve-false-default-default-default.ledger c.in-Some-Serve-false-default-default-default.keys c.in-Some-Serve-false-default-default-default.programs = rw c.in-Some-Serve-false-default-default-default.is at c.in-Some-Serve-false-default-default-default.field-0-is in
-    rw (c.in-Some-Serve-false-default-default-default.is, command, over) (unserved_link (objects_at_call c.args.objects) _ _ _ _ c.serve-in-Some-Serve-false-default-default-default.ensures.as_before)
+    rw (c.in-Some-Serve-false-default-default-default.is, command) (unserved_link (objects_at_call c.args.objects) _ _ _ _ c.serve-in-Some-Serve-false-default-default-default.ensures.as_before)
 
 pub returns-in-Some-Serve-false-default-default-default-clause-untouched : goal.returns-in-Some-Serve-false-default-default-default-clause-untouched
 returns-in-Some-Serve-false-default-default-default-clause-untouched g c =
