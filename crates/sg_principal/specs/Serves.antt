@@ -1,5 +1,5 @@
 -- How a run for an application ends, and what it leaves.
-use Rattle.std.specs.Prelude.{◌≡◌, ℕ, ◌≤◌, ◌⊎◌, true, false, Bool, if◌then◌else◌, List, [], Option, Some, None, Result, Ok, Err, ⊤}
+use Rattle.std.specs.Prelude.{◌≡◌, ℕ, ◌≤◌, ◌⊎◌, true, false, Bool, List, [], Option, Some, None, Result, Ok, Err, ⊤}
 use Rattle.sg_base.specs.Outside.{HasRisen}
 use Rattle.sg_base.specs.declared.address.Addr.{Addr}
 use Rattle.sg_input.specs.Lines.{lines_of}
