@@ -4,6 +4,8 @@ pub mod Apart
 pub mod Behind
 pub mod Canonical
 pub mod Compiling
+pub mod Decided
+pub mod Listed
 pub mod Lines
 pub mod Once
 pub mod OneFault
@@ -11,4 +13,6 @@ pub mod OneTable
 pub mod Only
 pub mod Reading
 pub mod Refusals
+pub mod Sure
 pub mod Tabled
+pub mod Whole

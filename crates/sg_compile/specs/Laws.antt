@@ -1,12 +1,14 @@
 -- What holds of all graphs and all texts of programs: a graph is compiled or refused, and a text is of one program or has a fault.
-use Rattle.std.specs.Prelude.{◌≡◌, ◌≢◌, ℕ, List, All}
-use Rattle.sg_protocol.specs.Graph.{Graph}
+use Rattle.std.specs.Prelude.{◌≡◌, ◌≢◌, ◌⊎◌, ℕ, ◌<◌, ◌≤◌, List, length, All}
+use Rattle.sg_protocol.specs.Accepted.{Accepted}
+use Rattle.sg_protocol.specs.Graph.{Graph, IsGraph}
 use Rattle.sg_protocol.specs.IsSchedule.{AreCompiled}
 use Rattle.sg_protocol.specs.Keyring.{Program}
 use Rattle.sg_protocol.specs.Texts.{real}
 use Rattle.sg_compile.specs.All.{IsAllFault}
 use Rattle.sg_compile.specs.Compiled.{IsCompiled, IsRefused, IsWhole}
 use Rattle.sg_compile.specs.Loading.{IsLoadFault}
+use Rattle.sg_compile.specs.Refused.{IsRefusal}
 use Rattle.sg_compile.specs.Text.{program_text}
 use Rattle.sg_compile.specs.declared.all.AllFault.TheVariants.{Refused}
 use Rattle.sg_compile.specs.declared.check.CompileFault.{CompileFault}
@@ -22,6 +24,24 @@ CompiledIsNotRefused = (g : Graph) (r : ℕ) (p : Program) (f : CompileFault) �
 abbrev pub AllCompiledIsNotRefused : Type 0
 AllCompiledIsNotRefused = (graphs : List Graph) (programs : List Program) (index : ℕ) (f : CompileFault)
     → AreCompiled real graphs programs → All IsWhole programs → IsAllFault graphs (Refused index f) → ⊥
+
+-- it can't be that this doesn't hold
+abbrev pub Surely : Type 0 → Type 0
+Surely A = (A → ⊥) → ⊥
+
+-- A graph is accepted or refused
+abbrev pub GraphsAreAcceptedOrRefused : Type 0
+GraphsAreAcceptedOrRefused = (g : Graph) → 2 ≤ length g.roles → Surely (Accepted g ⊎ ((f : CompileFault) × IsRefusal g f × (f ≢ CompileMemory)))
+
+-- A graph has a program for a role, or is refused for it
+abbrev pub RolesAreCompiledOrRefused : Type 0
+RolesAreCompiledOrRefused = (g : Graph) (r : ℕ) → IsGraph g → 2 ≤ length g.roles → r < length g.roles
+    → Surely (((p : Program) × IsCompiled g r p) ⊎ ((f : CompileFault) × IsRefused g r f × (f ≢ CompileMemory)))
+
+-- Graphs have programs for all their roles, or a first of them is refused
+abbrev pub AllAreCompiledOrRefused : Type 0
+AllAreCompiledOrRefused = (graphs : List Graph) → All (λ g. IsGraph g × (2 ≤ length g.roles)) graphs
+    → Surely (((ps : List Program) × AreCompiled real graphs ps × All IsWhole ps) ⊎ ((index : ℕ) × (f : CompileFault) × IsAllFault graphs (Refused index f)))
 
 -- Two programs have two texts
 abbrev pub TextsDiffer : Type 0

@@ -1,10 +1,18 @@
 //! What holds of all graphs and of all texts of programs. Each function is a law: it does nothing, and its contract is the statement.
-ghost use Rattle.sg_compile.specs.Laws.{AllCompiledIsNotRefused, CompiledIsNotRefused, TextHasOneFault, TextIsNotRefused, TextsDiffer};
+ghost use Rattle.sg_compile.specs.Laws.{AllAreCompiledOrRefused, AllCompiledIsNotRefused, CompiledIsNotRefused, GraphsAreAcceptedOrRefused, RolesAreCompiledOrRefused, TextHasOneFault, TextIsNotRefused, TextsDiffer};
 
 /// A graph that has a program for a role isn't refused for it, and of graphs that have programs for all their roles none is refused.
 pub fn compiled_are_not_refused()
     ensures one { CompiledIsNotRefused }
     ensures all { AllCompiledIsNotRefused }
+{}
+
+/// A graph is accepted or refused; if it is accepted, it has a program for a role, or is refused for it; and graphs have programs for all their roles, or a
+/// first of them is refused. It can't be that neither holds.
+pub fn graphs_are_compiled_or_refused()
+    ensures accepted { GraphsAreAcceptedOrRefused }
+    ensures one { RolesAreCompiledOrRefused }
+    ensures all { AllAreCompiledOrRefused }
 {}
 
 /// Two programs have two texts, the text of a program has no fault, and a text has one fault at most. Of a graph that is refused this says which
