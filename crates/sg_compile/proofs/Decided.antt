@@ -1,9 +1,9 @@
 -- A graph is accepted or refused.
-use Rattle.std.proofs.Common.{◌≡◌, ◌≢◌, ℕ, ◌+◌, ◌<◌, ◌≤◌, ◌⊎◌, inl, inr, true, false, List, [], ◌∷◌, ◌++◌, length, Some, refl, sym, ap, subst, arith}
+use Rattle.std.proofs.Common.{◌≡◌, ◌≢◌, ℕ, ◌<◌, ◌⊎◌, inl, inr, List, [], ◌∷◌, ◌++◌, length, Some, refl, sym, ap, subst, arith}
 use Rattle.std.proofs.lemmas.Bool.{cases_Bool, cases_lt}
 use Rattle.sg_model.specs.Last.{last, last_or}
 use Rattle.sg_model.specs.Lists.{is_in}
-use Rattle.sg_model.specs.Shape.{Blinding, Sighted, receiver, sender}
+use Rattle.sg_model.specs.Shape.{Blinding, Sighted, sender}
 use Rattle.sg_check.specs.Blind.{IsBefore, IsBlind, IsBlindFault, PairAtNode}
 use Rattle.sg_check.specs.Least.{IsLeast, IsNowhere}
 use Rattle.sg_check.specs.Shaped.{HasNode, HasShape, IsIdle, IsSelfEdge, IsShapeFault, IsUnreachable}
@@ -14,15 +14,13 @@ use Rattle.sg_check.specs.declared.shape.ShapeFault.TheVariants.{SelfEdge, Unrea
 use Rattle.sg_know.specs.Reads.{AcceptedReads, HasBadRead, IsFirstFault, IsNotWriter, IsReadsOwn, IsUpTo, IsLeast as IsLeastPlace, IsNowhere as IsAtNoPlace}
 use Rattle.sg_know.specs.declared.fault.ReadFault.{ReadFault}
 use Rattle.sg_know.specs.declared.fault.ReadFault.TheVariants.{NotWriter, ReadsOwn, BadRead, OutOfMemory as ReadMemory}
-use Rattle.sg_protocol.specs.Accepted.{Accepted, Reached}
-use Rattle.sg_protocol.specs.Graph.{Graph, reads, shape, writers, writes}
+use Rattle.sg_protocol.specs.Accepted.{Reached}
+use Rattle.sg_protocol.specs.Graph.{Graph, shape, writers}
 use Rattle.sg_protocol.specs.Knowledge.{knows}
 use Rattle.sg_compile.specs.Laws.{GraphsAreAcceptedOrRefused, Surely}
-use Rattle.sg_compile.specs.Refused.{IsRefusal}
-use Rattle.sg_compile.specs.declared.check.CompileFault.{CompileFault}
-use Rattle.sg_compile.specs.declared.check.CompileFault.TheVariants.{Shape, Reads, Blinding as BlindingFault, OutOfMemory}
+use Rattle.sg_compile.specs.declared.check.CompileFault.TheVariants.{Shape, Reads, Blinding as BlindingFault}
 use Rattle.sg_compile.proofs.Accepting.{accepted_from}
-use Rattle.sg_compile.proofs.Sure.{each, least, or_not, so, sure}
+use Rattle.sg_compile.proofs.Sure.{each, least, so, sure}
 
 module _ (g : Graph) where
   -- ---- shape

@@ -15,4 +15,5 @@ pub mod Reading
 pub mod Refusals
 pub mod Sure
 pub mod Tabled
+pub mod Texts
 pub mod Whole

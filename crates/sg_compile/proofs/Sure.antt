@@ -1,5 +1,5 @@
 -- What can't be otherwise: to show it, one may ask whether anything holds.
-use Rattle.std.proofs.Common.{◌≡◌, ℕ, zero, suc, ◌+◌, ◌<◌, ◌⊎◌, inl, inr, arith, subst}
+use Rattle.std.proofs.Common.{◌≡◌, ℕ, zero, suc, ◌<◌, ◌⊎◌, inl, inr, arith, subst}
 use Rattle.std.proofs.lemmas.Bool.{cases_lt}
 use Rattle.sg_check.specs.Least.{IsNowhere, IsLeast}
 use Rattle.sg_compile.specs.Laws.{Surely}

@@ -1,5 +1,5 @@
 -- Graphs have programs for all their roles, or one of them is refused.
-use Rattle.std.proofs.Common.{◌≡◌, ◌≢◌, ℕ, zero, suc, ◌+◌, ◌<◌, ◌≤◌, ◌⊎◌, inl, inr, List, [], ◌∷◌, ◌++◌, length, take, get_or, Some, slice_get, refl, sym, ap, ◌∙◌, subst, arith, add-one, append-nil, append_assoc, All}
+use Rattle.std.proofs.Common.{◌≡◌, ◌≢◌, ℕ, zero, suc, ◌<◌, ◌≤◌, ◌⊎◌, inl, inr, List, [], ◌∷◌, ◌++◌, length, take, get_or, Some, slice_get, refl, sym, ap, ◌∙◌, subst, arith, add-one, append-nil, append_assoc, All}
 use Rattle.std.proofs.lemmas.List.{take_all}
 use Rattle.std.proofs.lemmas.List.Elements.{All-nil}
 use Rattle.sg_base.specs.Sets.{with_member}
@@ -9,13 +9,12 @@ use Rattle.sg_plan.proofs.Aimed.{AreSetsBelow, IsSetBelow, set_with, set_without
 use Rattle.sg_protocol.specs.Accepted.{Accepted}
 use Rattle.sg_protocol.specs.Evidence.{View, IsViewTable}
 use Rattle.sg_protocol.specs.Graph.{AreNumbers, Graph, IsGraph, shape}
-use Rattle.sg_protocol.specs.IsSchedule.{AreCompiled, parts}
+use Rattle.sg_protocol.specs.IsSchedule.{parts}
 use Rattle.sg_protocol.specs.Keyring.{Program}
 use Rattle.sg_protocol.specs.Targets.{IsTarget, IsTargetTable}
 use Rattle.sg_protocol.specs.Texts.{graph_digest, real}
-use Rattle.sg_vis.specs.Limits.{Explains, FewOpen}
-use Rattle.sg_vis.specs.declared.fault.ViewFault.{ViewFault}
-use Rattle.sg_vis.specs.declared.fault.ViewFault.TheVariants.{TooManyOpen, TooManyViews, OutOfMemory as ViewMemory}
+use Rattle.sg_vis.specs.Limits.{FewOpen}
+use Rattle.sg_vis.specs.declared.fault.ViewFault.TheVariants.{TooManyOpen, TooManyViews}
 use Rattle.sg_compile.specs.All.{IsAllFault, IsStopped, pairs_of, roles_of}
 use Rattle.sg_compile.specs.Compiled.{IsCompiled, IsRefused, IsWhole}
 use Rattle.sg_compile.specs.Laws.{AllAreCompiledOrRefused, RolesAreCompiledOrRefused, Surely}

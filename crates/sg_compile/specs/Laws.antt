@@ -59,3 +59,7 @@ told fault = fault
 -- A text that is no program's has one fault
 abbrev pub TextHasOneFault : Type 0
 TextHasOneFault = (bs : List ℕ) (e f : LoadFault) → IsLoadFault bs e → IsLoadFault bs f → e ≢ LoadMemory → f ≢ LoadMemory → told e ≡ told f
+
+-- A text is that of a program, or it has a fault
+abbrev pub TextsAreReadOrRefused : Type 0
+TextsAreReadOrRefused = (bs : List ℕ) → Surely (((p : Program) × IsWhole p × (program_text p ≡ bs)) ⊎ ((f : LoadFault) × IsLoadFault bs f × (f ≢ LoadMemory)))

@@ -1,5 +1,6 @@
 //! What holds of all graphs and of all texts of programs. Each function is a law: it does nothing, and its contract is the statement.
-ghost use Rattle.sg_compile.specs.Laws.{AllAreCompiledOrRefused, AllCompiledIsNotRefused, CompiledIsNotRefused, GraphsAreAcceptedOrRefused, RolesAreCompiledOrRefused, TextHasOneFault, TextIsNotRefused, TextsDiffer};
+ghost use Rattle.sg_compile.specs.Laws.{AllAreCompiledOrRefused, GraphsAreAcceptedOrRefused, RolesAreCompiledOrRefused, TextsAreReadOrRefused};
+ghost use Rattle.sg_compile.specs.Laws.{AllCompiledIsNotRefused, CompiledIsNotRefused, TextHasOneFault, TextIsNotRefused, TextsDiffer};
 
 /// A graph that has a program for a role isn't refused for it, and of graphs that have programs for all their roles none is refused.
 pub fn compiled_are_not_refused()
@@ -7,8 +8,8 @@ pub fn compiled_are_not_refused()
     ensures all { AllCompiledIsNotRefused }
 {}
 
-/// A graph is accepted or refused; if it is accepted, it has a program for a role, or is refused for it; and graphs have programs for all their roles, or a
-/// first of them is refused. It can't be that neither holds.
+/// A graph is accepted or refused; it has a program for a role, or is refused for it; and graphs have programs for all their roles, or a first of them is
+/// refused. It can't be that neither holds.
 pub fn graphs_are_compiled_or_refused()
     ensures accepted { GraphsAreAcceptedOrRefused }
     ensures one { RolesAreCompiledOrRefused }
@@ -21,4 +22,9 @@ pub fn texts_are_one()
     ensures differ { TextsDiffer }
     ensures apart { TextIsNotRefused }
     ensures once { TextHasOneFault }
+{}
+
+/// A text is that of a program, or it has a fault. It can't be that neither holds.
+pub fn texts_are_read_or_refused()
+    ensures { TextsAreReadOrRefused }
 {}
