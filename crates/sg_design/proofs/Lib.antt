@@ -2,3 +2,4 @@ pub mod Named
 pub mod Claiming
 pub mod OneEnding
 pub mod OneClaims
+pub mod SomeEnding

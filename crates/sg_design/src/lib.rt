@@ -4,11 +4,12 @@
 //! was. With a file of claims `claims` reads and checks the graph whole, before it reads the claims.
 //!
 //! Each command has a module of its name, and `claims` on a graph alone is in `suggest`. `specs/Ends.antt` says what `check`, `compile` and `compose` leave and why
-//! they end so, `specs/Claimed.antt` what `claims` says, and `specs/Accepted.antt` has the text of `check`.
+//! they end so, `specs/Claimed.antt` what `claims` says, and `specs/Accepted.antt` has the text of `check`. `laws` says that an ending always applies.
 #![tactic(auto)]
 
 pub mod check;
 pub mod claims;
 pub mod compile;
 pub mod compose;
+pub mod laws;
 pub mod suggest;

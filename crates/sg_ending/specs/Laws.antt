@@ -1,5 +1,6 @@
--- What a command on one file does is what its file asks for: one ending, unless the outside fails.
-use Rattle.std.specs.Prelude.{◌≡◌, ℕ, Bool, true, false, List, Some}
+-- What a command on one file does is what its file asks for: one ending, and always one, unless the outside fails.
+use Rattle.std.specs.Prelude.{◌≡◌, ◌≢◌, ℕ, Bool, true, false, List, Some}
+use Rattle.sg_compile.specs.Laws.{Surely}
 use Rattle.sg_compile.specs.declared.check.CompileFault.TheVariants.{OutOfMemory}
 use Rattle.sg_ending.specs.Ending.{Ending, Written, GraphRefused, FileFailed, WriteFailed, NoMemory}
 use Rattle.sg_ending.specs.Files.{OnFile}
@@ -22,3 +23,15 @@ abbrev pub EndsOnce : (Does : List ℕ → (old new : Output) → Ending → Typ
 EndsOnce Does most = (files : List (List ℕ × List ℕ)) (file : List ℕ) (m m' n n' : ℕ) (a a' b b' : Output) (x y : Ending)
     → OnFile Does most file (Some files) m m' a a' x → OnFile Does most file (Some files) n n' b b' y
     → is_of_outside x ≡ false → is_of_outside y ≡ false → asked x ≡ asked y
+
+-- files can ask for this ending: it is neither the outside's nor that of a failed write
+abbrev pub IsAsked : Ending → Type 0
+IsAsked ending = (is_of_outside ending ≡ false) × (ending ≢ WriteFailed)
+
+-- a command may end so that files ask for it: it can't be that no such ending applies
+abbrev pub SomeEnding : (Ends : (new : Output) → Ending → Type 0) → Type 0
+SomeEnding Ends = Surely ((new : Output) × (ending : Ending) × IsAsked ending × Ends new ending)
+
+-- Whatever files hold, a command on one file may end without the outside's failing
+abbrev pub EndsAlways : (Does : List ℕ → (old new : Output) → Ending → Type 0) → (most : ℕ) → Type 0
+EndsAlways Does most = (files : List (List ℕ × List ℕ)) (file : List ℕ) (n : ℕ) (old : Output) → SomeEnding (λ new ending. OnFile Does most file (Some files) n n old new ending)
