@@ -1,3 +1,4 @@
 pub mod Beside
 pub mod InOrder
 pub mod OneSetup
+pub mod SomeSetup
