@@ -6,8 +6,6 @@ use Rattle.std.proofs.lemmas.Bool.{cases_Bool}
 use Rattle.std.proofs.lemmas.List.Elements.{All-from_recursion, recursion_from_All}
 use Rattle.sg_model.specs.Lists.{has_text}
 use Rattle.sg_model.specs.Names.{Name}
-use Rattle.sg_law.proofs.Members.{rec_in}
-use Rattle.sg_law.proofs.Upto.{In}
 use Rattle.sg_protocol.specs.Graph.{Graph}
 use Rattle.sg_protocol.specs.Keyring.{Program}
 use Rattle.sg_protocol.specs.Texts.{Hash, IsHash}
@@ -20,6 +18,7 @@ use Rattle.sg_protocol.specs.Ranges.{IsCallInRange}
 use Rattle.sg_apart.specs.Apart.{Begins, CallAt, AreCallsInRange, names_of, honest_are, run_apart}
 use Rattle.sg_apart.specs.Laws.{AnsweredAt, IsHonest, IsOrder, HonestPastsFollowWalks, as_begun, asked, own_calls}
 use Rattle.sg_apart.proofs.Whole.{sessions_follow_walks_apart}
+use Rattle.sg_model.proofs.Members.{In, rec_in}
 
 abbrev pub Ranged : AnsweredCall → Type 0
 Ranged c = IsCallInRange c.call

@@ -1,67 +1,26 @@
--- No principal that runs apart joins a pair of session and role twice, and pasts are those of a run of their calls.
-use Rattle.std.specs.Prelude.{◌≡◌, ℕ, ◌+◌, IsTrue, All, Bool, true, false, ◌||◌, List, [], ◌∷◌, ◌++◌, map, find, bytes_eq, refl, Option, Some, None}
+-- Pasts are those of a run of their calls.
+use Rattle.std.specs.Prelude.{◌≡◌, ℕ, ◌+◌, IsTrue, Bool, true, false, ◌||◌, List, [], ◌∷◌, ◌++◌, map, find, bytes_eq, refl, Option, Some}
 use Rattle.std.specs.List.{AllByRecursion}
 use Rattle.std.specs.Option.{option_map_or}
 use Rattle.std.proofs.Common.{sym, ◌∙◌, ap, subst, inl, inr, append_assoc, append-nil}
 use Rattle.std.proofs.lemmas.Bool.{cases_Bool}
 use Rattle.std.proofs.lemmas.List.{map-append}
-use Rattle.std.proofs.lemmas.List.Elements.{All-nil, All-cons, recursion_from_All}
+use Rattle.std.proofs.lemmas.List.Elements.{recursion_from_All}
 use Rattle.sg_model.specs.Lists.{has_text}
 use Rattle.sg_model.specs.Names.{Name}
 use Rattle.sg_model.proofs.Small.{bytes_eq-swap}
+use Rattle.sg_model.proofs.Members.{rec_in}
+use Rattle.sg_model.proofs.Finding.{find_passes, found_in}
 use Rattle.sg_protocol.specs.Texts.{Hash}
 use Rattle.sg_protocol.specs.Calls.{Call}
-use Rattle.sg_protocol.specs.Node.{Node}
 use Rattle.sg_protocol.specs.NodeAfter.{node_after}
 use Rattle.sg_protocol.specs.Acting.{answer}
-use Rattle.sg_protocol.specs.Past.{AnsweredCall, Past, JoinedOnce, AreAnswers, new_node, node_of, node_after_all, past_after, pairs_differ}
-use Rattle.sg_protocol.specs.World.{World, Outcome, Answered, past_of}
+use Rattle.sg_protocol.specs.Past.{Past, AreAnswers, new_node, node_of, past_after}
+use Rattle.sg_protocol.specs.World.{World, Outcome, Answered}
 use Rattle.sg_protocol.specs.Run.{called}
 use Rattle.sg_protocol.proofs.Progressing.{node_more, next_past}
-use Rattle.sg_protocol.proofs.Finding.{find_passes}
-use Rattle.sg_protocol.proofs.Joins.{nodes_join_once}
-use Rattle.sg_protocol.proofs.Whole.{found_in}
-use Rattle.sg_law.proofs.Members.{rec_in}
-use Rattle.sg_apart.specs.Apart.{Begins, CallAt, names_of, world_called, world_after_calls, run_apart}
-use Rattle.sg_apart.specs.Laws.{NoneJoinsTwiceApart, PastsRunApart, AnsweredAt, as_begun, asked, own_calls, answered_of}
-
--- ---- joins
-
-abbrev Right : Hash → Past → Type 0
-Right sha p = AreAnswers sha (new_node p.keys p.programs p.first) p.calls × IsTrue (pairs_differ p.first)
-
-answers_more : (sha : Hash) (n : Node) (cs : List AnsweredCall) (c : Call) → AreAnswers sha n cs → AreAnswers sha n (cs ++ record { call = c; answer = answer sha (node_after_all n cs) c } ∷ [])
-answers_more sha n [] c a = (refl, tt)
-answers_more sha n (d ∷ cs) c a = (a.0, answers_more sha (node_after n d.call d.answer) cs c a.1)
-
-right_recorded : (sha : Hash) (who : Name) (c : Call) (ps : List Past) → AllByRecursion (Right sha) ps → AllByRecursion (Right sha) (map (next_past sha who c) ps)
-right_recorded sha who c [] a = tt
-right_recorded sha who c (p ∷ ps) a = (
-  elim (cases_Bool (bytes_eq p.keys.me who)) [
-    | inl e ↦ rw e (answers_more sha (new_node p.keys p.programs p.first) p.calls c (a.0).0, (a.0).1)
-    | inr e ↦ rw e a.0
-  ],
-  right_recorded sha who c ps a.1,
-)
-
-right_past : (sha : Hash) (w : World) (k : ℕ) (c : CallAt) (o : Option Past) → AllByRecursion (Right sha) w.pasts → AllByRecursion (Right sha) (option_map_or (called sha w k c.who c.call) o w).pasts
-right_past sha w k c None a = a
-right_past sha w k c (Some past) a = right_recorded sha c.who c.call w.pasts a
-
-right_all : (sha : Hash) (w : World) (k : ℕ) (cs : List CallAt) → AllByRecursion (Right sha) w.pasts → AllByRecursion (Right sha) (world_after_calls sha w k cs).pasts
-right_all sha w k [] a = a
-right_all sha w k (c ∷ cs) a = right_all sha (world_called sha w k c) (k + 1) cs (right_past sha w k c (past_of w c.who) a)
-
-right_new : (sha : Hash) (ps : List Past) → AllByRecursion (Begins sha) ps → AllByRecursion (Right sha) ps
-right_new sha [] a = tt
-right_new sha (p ∷ ps) a = ((subst (AreAnswers sha (new_node p.keys p.programs p.first)) (sym (a.0).calls) tt, (a.0).first), right_new sha ps a.1)
-
-all_once : (sha : Hash) (ps : List Past) → AllByRecursion (Right sha) ps → All JoinedOnce ps
-all_once sha [] a = All-nil JoinedOnce
-all_once sha (p ∷ ps) a = All-cons JoinedOnce p ps (nodes_join_once sha p (a.0).1 (a.0).0) (all_once sha ps a.1)
-
-pub none_joins_twice_apart : (sha : Hash) → NoneJoinsTwiceApart sha
-none_joins_twice_apart sha ps calls b = all_once sha (run_apart sha ps calls).pasts (right_all sha (record { pasts = ps; log = [] }) 1 calls (right_new sha ps (recursion_from_All (Begins sha) ps b)))
+use Rattle.sg_apart.specs.Apart.{names_of, world_called, world_after_calls}
+use Rattle.sg_apart.specs.Laws.{PastsRunApart, AnsweredAt, as_begun, asked, own_calls, answered_of}
 
 -- ---- pasts
 

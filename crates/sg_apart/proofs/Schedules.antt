@@ -1,5 +1,5 @@
 -- The run of a schedule is one of its honest principals apart.
-use Rattle.std.specs.Prelude.{◌≡◌, ℕ, ◌+◌, ◌≤◌, All, Bool, true, false, List, [], ◌∷◌, ◌++◌, map, filter, flat_map, length, bytes_eq, is_some, refl, slice_get, Option, Some, None, option_map}
+use Rattle.std.specs.Prelude.{◌≡◌, ℕ, ◌+◌, ◌≤◌, All, Bool, true, false, List, [], ◌∷◌, map, filter, flat_map, length, bytes_eq, is_some, refl, slice_get, Option, Some, None, option_map}
 use Rattle.std.specs.List.{AllByRecursion, list_all}
 use Rattle.std.specs.Option.{option_map_or}
 use Rattle.std.proofs.Common.{sym, ◌∙◌, ap, subst, inl, inr, arith, append-nil}
@@ -8,9 +8,7 @@ use Rattle.std.proofs.lemmas.List.Elements.{filter-append, All-from_recursion, r
 use Rattle.sg_model.specs.Lists.{all_differ, has_text}
 use Rattle.sg_model.specs.Names.{Name, is_name}
 use Rattle.sg_model.proofs.Small.{all-append, cases_Option, same_bytes}
-use Rattle.sg_law.proofs.Members.{all_in, in_left, in_map, in_parts, in_right}
-use Rattle.sg_law.proofs.Take.{contains_from_in}
-use Rattle.sg_law.proofs.Upto.{In, in_from_Contains}
+use Rattle.sg_model.proofs.Members.{In, in_from_Contains, contains_from_in, in_left, in_right, in_parts, in_map, all_in, filter_in, in_filter, of_filtered}
 use Rattle.sg_protocol.specs.Accepted.{Accepted}
 use Rattle.sg_protocol.specs.Graph.{Graph, IsGraph}
 use Rattle.sg_protocol.specs.Frame.{Cast}
@@ -28,26 +26,11 @@ use Rattle.sg_protocol.specs.Ranges.{IsCallInRange}
 use Rattle.sg_protocol.proofs.Progressing.{past_called}
 use Rattle.sg_protocol.proofs.Fits.{Fit, call_given, declared_in, fit_new, fit_next}
 use Rattle.sg_protocol.proofs.Happenings.{IsGiven}
-use Rattle.sg_protocol.proofs.OneCasts.{filter_in}
 use Rattle.sg_protocol.proofs.Whole.{first_past, new_past, program_graph}
 use Rattle.sg_apart.specs.Apart.{Begins, CallAt, honest_are, names_of, run_apart, world_after_calls, world_called}
 use Rattle.sg_apart.specs.Laws.{IsApart, SchedulesRunApart}
 
 -- ---- lists
-
-in_filter : {A : Type 0} (q : A → Bool) (xs : List A) (x : A) → In (filter q xs) x → In xs x
-in_filter q [] x i = i
-in_filter q (y ∷ ys) x i = elim (cases_Bool (q y)) [
-  | inl h ↦ (let j : In (y ∷ filter q ys) x = rw h at i in elim j [ inl e ↦ inl e | inr j ↦ inr (in_filter q ys x j) ])
-  | inr h ↦ (let j : In (filter q ys) x = rw h at i in inr (in_filter q ys x j))
-]
-
-of_filtered : {A B : Type 0} (q : A → Bool) (f : A → List B) (xs : List A) (b : B) → In (flat_map f (filter q xs)) b → In (flat_map f xs) b
-of_filtered q f [] b i = i
-of_filtered q f (x ∷ xs) b i = elim (cases_Bool (q x)) [
-  | inl h ↦ (let j : In (f x ++ flat_map f (filter q xs)) b = rw h at i in elim (in_parts (f x) (flat_map f (filter q xs)) b j) [ inl k ↦ in_left (f x) (flat_map f xs) b k | inr k ↦ in_right (f x) (flat_map f xs) b (of_filtered q f xs b k) ])
-  | inr h ↦ (let j : In (flat_map f (filter q xs)) b = rw h at i in in_right (f x) (flat_map f xs) b (of_filtered q f xs b j))
-]
 
 -- ---- entries with a call
 

@@ -1,4 +1,4 @@
--- The run of principals apart is a course of happenings, and one walk explains each session.
+-- The run of principals apart is a course of happenings: one walk explains each session, and no principal joins a pair of session and role twice.
 use Rattle.std.specs.Prelude.{◌≡◌, ◌≢◌, ℕ, ◌+◌, ◌||◌, Bool, true, false, All, List, [], ◌∷◌, map, flat_map, find, bytes_eq, refl, Some}
 use Rattle.std.specs.List.{AllByRecursion}
 use Rattle.std.proofs.Common.{sym, subst, inl, inr}
@@ -8,12 +8,11 @@ use Rattle.std.proofs.lemmas.Slice.Eq.{bytes_eq-Decides}
 use Rattle.sg_model.specs.Lists.{has_text}
 use Rattle.sg_model.specs.Names.{Name}
 use Rattle.sg_model.proofs.Small.{same_bytes, all-append}
-use Rattle.sg_law.proofs.Members.{in_map, in_flat, all_in}
-use Rattle.sg_law.proofs.Upto.{In}
+use Rattle.sg_model.proofs.Members.{In, in_map, in_flat, all_in}
 use Rattle.sg_protocol.specs.Graph.{IsGraph}
 use Rattle.sg_protocol.specs.Texts.{Hash, IsHash}
 use Rattle.sg_protocol.specs.Keyring.{Program}
-use Rattle.sg_protocol.specs.Past.{Past}
+use Rattle.sg_protocol.specs.Past.{Past, JoinedOnce, AreAnswers, new_node}
 use Rattle.sg_protocol.specs.World.{World}
 use Rattle.sg_protocol.specs.Run.{events_of}
 use Rattle.sg_protocol.specs.Premises.{Premises}
@@ -23,8 +22,9 @@ use Rattle.sg_protocol.specs.Ranges.{IsCallInRange}
 use Rattle.sg_protocol.proofs.Happenings.{Happening, Asked, IsCourse, IsRight, Own, all_happen, given, run_of, suffix_course}
 use Rattle.sg_protocol.proofs.Progressing.{Suffix}
 use Rattle.sg_protocol.proofs.OneWalk.{explained, first_cast}
+use Rattle.sg_protocol.proofs.Joins.{Right, joined_once}
 use Rattle.sg_apart.specs.Apart.{Begins, CallAt, AreCallsInRange, names_of, honest_are, world_called, world_after_calls, run_apart}
-use Rattle.sg_apart.specs.Laws.{SessionsFollowWalksApart}
+use Rattle.sg_apart.specs.Laws.{SessionsFollowWalksApart, NoneJoinsTwiceApart}
 use Rattle.sg_apart.proofs.Once.{there}
 
 -- ---- calls are happenings
@@ -95,3 +95,10 @@ sessions_follow_walks_apart sha hash ps calls are range =
     let all : IsCourse sha (honest_are ps) ps (map asks calls) = is_course sha ps are calls range in
     of_course sha ps calls (λ w. Premises sha (honest_are ps) w → (sid : List ℕ) → events_of sid w.log ≢ [] → IsExplained sha (honest_are ps) w sid)
     (λ premises sid some. explained sha hash (honest_are ps) ps (map asks calls) all sid premises (first_cast sha hash (honest_are ps) ps (map asks calls) all sid some))
+
+right_new : (sha : Hash) (ps : List Past) → AllByRecursion (Begins sha) ps → AllByRecursion (Right sha) ps
+right_new sha [] a = tt
+right_new sha (p ∷ ps) a = ((subst (AreAnswers sha (new_node p.keys p.programs p.first)) (sym (a.0).calls) tt, (a.0).first), right_new sha ps a.1)
+
+pub none_joins_twice_apart : (sha : Hash) → NoneJoinsTwiceApart sha
+none_joins_twice_apart sha ps calls b = of_course sha ps calls (λ w. All JoinedOnce w.pasts) (joined_once sha ps (map asks calls) (right_new sha ps (recursion_from_All (Begins sha) ps b)))

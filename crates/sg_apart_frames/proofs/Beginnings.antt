@@ -3,17 +3,18 @@ use Rattle.std.specs.Prelude.{◌≡◌, ℕ, suc, ◌+◌, ◌≤◌, List, [],
 use Rattle.std.specs.Option.{option_map_or}
 use Rattle.std.proofs.Common.{◌∙◌, ap, inl, inr, arith}
 use Rattle.sg_model.specs.Last.{last}
-use Rattle.sg_law.proofs.Upto.{In}
 use Rattle.sg_protocol.specs.Texts.{Hash}
 use Rattle.sg_protocol.specs.Past.{Past}
 use Rattle.sg_protocol.specs.Schedule.{Schedule}
 use Rattle.sg_protocol.specs.World.{World, Logged, past_of}
 use Rattle.sg_protocol.specs.Run.{called}
 use Rattle.sg_protocol.specs.Premises.{Premises}
-use Rattle.sg_protocol.proofs.FirstSteps.{OneMore, begins_so, last_so, numbers_below, premises_earlier, take_few}
+use Rattle.sg_protocol.proofs.FirstSteps.{OneMore, begins_so, last_so, numbers_below, premises_earlier}
 use Rattle.sg_protocol.proofs.Progressing.{Suffix}
 use Rattle.sg_apart.specs.Apart.{CallAt, world_called, world_after_calls, run_apart}
 use Rattle.sg_apart.proofs.Whole.{suffix_calls}
+use Rattle.sg_model.proofs.Small.{take_most}
+use Rattle.sg_model.proofs.Members.{In}
 
 module _ (sha : Hash) where
   one_past : (w : World) (k : ℕ) (c : CallAt) (o : Option Past) → OneMore k w.log (option_map_or (called sha w k c.who c.call) o w).log
@@ -36,7 +37,7 @@ module _ (sha : Hash) (ps : List Past) (calls : List CallAt) (n : ℕ) where
   up_to : (l : Logged) → In (run_apart sha ps (take n calls)).log l → l.number ≤ n
   up_to l i =
       let h = numbers_below (world_called sha) (world_after_calls sha) (λ w k. refl) (λ w k x xs. refl) (one_more sha) (suffix_calls sha) (take n calls) (record { pasts = ps; log = [] }) 1 (λ l i. absurd i) l i in
-      let k = take_few n calls in
+      let k = take_most n calls in
       omega (arith, h, k)
 
   pub premises_before : (s : Schedule) → Premises sha s (run_apart sha ps calls) → Premises sha s (run_apart sha ps (take n calls))

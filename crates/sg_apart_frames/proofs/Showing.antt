@@ -3,8 +3,6 @@ use Rattle.std.specs.Prelude.{◌≡◌, ℕ, List, All, Some, map, take}
 use Rattle.std.proofs.lemmas.List.Elements.{All-take}
 use Rattle.sg_model.specs.Last.{last}
 use Rattle.sg_model.specs.Names.{Name}
-use Rattle.sg_law.proofs.Take.{contains_from_in}
-use Rattle.sg_law.proofs.Upto.{in_from_Contains}
 use Rattle.sg_protocol.specs.Graph.{Graph}
 use Rattle.sg_protocol.specs.Frame.{Cast, Frame}
 use Rattle.sg_protocol.specs.Texts.{Hash, IsHash}
@@ -17,6 +15,7 @@ use Rattle.sg_apart.specs.Apart.{Begins, CallAt, AreCallsInRange, honest_are, ru
 use Rattle.sg_apart.proofs.Whole.{asks, is_course, of_course}
 use Rattle.sg_apart_frames.specs.LastSteps.{FramesShowLastStepsApart}
 use Rattle.sg_apart_frames.proofs.Beginnings.{premises_before, is_last}
+use Rattle.sg_model.proofs.Members.{in_from_Contains, contains_from_in}
 
 -- where the acceptance ends the run
 apart_at_end : (sha : Hash) → IsHash sha → (ps : List Past) (calls : List CallAt) → All (Begins sha) ps → AreCallsInRange calls → (who : Name) (bs : List ℕ) (f : Frame) (l : Logged) (cast : Cast) (g : Graph) (past : Past) → ShowsAtEnd sha (honest_are ps) who bs f l cast g past (run_apart sha ps calls)

@@ -5,13 +5,12 @@ use Rattle.std.specs.Option.{option_map_or}
 use Rattle.std.proofs.lemmas.Bool.{and_parts, eqb-true, eq-eqb, cases_Bool}
 use Rattle.std.proofs.lemmas.Bool.Decides.{nat_tests}
 use Rattle.sg_certify.specs.Traces.{is_receipt}
-use Rattle.sg_law.proofs.Members.{all_in, in_left, in_map, in_flat}
-use Rattle.sg_law.proofs.Take.{contains_from_in}
-use Rattle.sg_law.proofs.Upto.{In}
 use Rattle.sg_model.specs.Last.{Map}
 use Rattle.sg_model.specs.Lists.{below, range_from, first_some}
 use Rattle.sg_model.specs.Values.{Value}
 use Rattle.sg_model.proofs.Small.{same_bytes, bytes_same}
+use Rattle.sg_model.proofs.Members.{In, contains_from_in, in_left, in_map, in_flat, all_in}
+use Rattle.sg_model.proofs.Finding.{find_passes, found_in, find_some}
 use Rattle.sg_protocol.specs.Acting.{answer, started, acted, sent, rows_of_start, rows_of_act}
 use Rattle.sg_protocol.specs.Calls.{Event, Started, Sent, Received, sid_of, role_of, Answer, Happened, Sends, Abandoned, NotStarted, NotActed, NotAbandoned, NotDelivered, events_of_answer, Call, Start, Act, Abandon, Deliver, StartFault, ActFault, Refusal}
 use Rattle.sg_protocol.specs.Frame.{Cast, Frame}
@@ -29,11 +28,10 @@ use Rattle.sg_protocol.specs.Texts.{real, graph_digest, graph_text_of, session_i
 use Rattle.sg_protocol.specs.Named.{IsNamed, IsAnswered, IsOfOneGraph, HasEvent, HasNamed, names_numbers}
 use Rattle.sg_protocol.specs.Verdict.{receipt, decided, verdict_on, rows}
 use Rattle.sg_protocol.specs.World.{Logged, World, Answered}
-use Rattle.sg_protocol.proofs.Finding.{find_passes}
 use Rattle.sg_protocol.proofs.RealHash.{real_hash}
 use Rattle.sg_protocol.proofs.TextLaws as TL
 use Rattle.sg_protocol.proofs.NamedRuns.{steps_are_named}
-use Rattle.sg_protocol.proofs.Whole.{find_some, found_in, program_graph, same_name, same_named}
+use Rattle.sg_protocol.proofs.Whole.{program_graph, same_name, same_named}
 use Rattle.sg_certify.specs.Runs.{IsUnbroken}
 
 -- ---- which event comes of which call

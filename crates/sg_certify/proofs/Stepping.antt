@@ -3,8 +3,6 @@ use Rattle.std.proofs.Common.{◌≡◌, ℕ, false, List, [], ◌∷◌, ◌++�
 use Rattle.std.specs.Prelude.{Some, None, Ok, Err, Contains, slice_get, option_and_then}
 use Rattle.std.specs.Result.{result_ok}
 use Rattle.sg_certify.specs.Traces.{is_receipt, Trace, Traces}
-use Rattle.sg_law.proofs.Members.{in_right}
-use Rattle.sg_law.proofs.Take.{contains_from_in}
 use Rattle.sg_text.proofs.Firsts.{has_text-firsts}
 use Rattle.sg_model.specs.Last.{Map}
 use Rattle.sg_model.specs.Lists.{has_text}
@@ -25,6 +23,7 @@ use Rattle.sg_certify.specs.Adding.{Begins, Adds, Takes}
 use Rattle.sg_certify.specs.Tables.{GoesAt, IsLast, Begun}
 use Rattle.sg_certify.proofs.Entries.{IsEntry, entry, start_is, act_is, delivery_is, malformed_is, abandon_is}
 use Rattle.sg_certify.proofs.Going.{Entry, keys, first_cast, goes_at, goes_new, acts, begins, takes}
+use Rattle.sg_model.proofs.Members.{contains_from_in, in_right}
 
 -- the traces behind their sids
 abbrev pub with_table : List Program → List Entry → Traces

@@ -10,9 +10,9 @@ use Rattle.std.proofs.lemmas.List.Quantifiers.{all_pairs_push}
 use Rattle.indexmap.specs.IndexMap.{insert_entry}
 use Rattle.sg_model.specs.Names.{Name}
 use Rattle.sg_model.proofs.Small.{same_bytes}
+use Rattle.sg_model.proofs.Finding.{find_passes, find_all}
 use Rattle.sg_protocol.specs.Crafted.{pair_key}
 use Rattle.sg_protocol.specs.Schedule.{PairKey}
-use Rattle.sg_protocol.proofs.Finding.{find_all, find_passes}
 use Rattle.sg_base.proofs.SameName.{same-bytes_eq, same-bytes_eq_back}
 use Rattle.sg_craft.specs.Model.{is_in_order, key_of_entry}
 use Rattle.sg_craft.specs.Invariant.{AreApart}

@@ -6,8 +6,8 @@ use Rattle.std.proofs.lemmas.Bool.Decides.{nat_tests}
 use Rattle.std.proofs.lemmas.List.{map-append}
 use Rattle.sg_graph.specs.Edges.{leaving_from}
 use Rattle.sg_model.proofs.Small.{all-append, all-parts, same_bytes}
+use Rattle.sg_model.proofs.Finding.{find_passes, find_all}
 use Rattle.sg_model.specs.Shape.{role_at, target}
-use Rattle.sg_protocol.proofs.Finding.{find_all, find_passes}
 use Rattle.sg_protocol.proofs.RealHash.{real_hash}
 use Rattle.sg_protocol.specs.Acting.{answer}
 use Rattle.sg_protocol.specs.Calls.{Event, Call, Start, Abandon, Deliver, Answer, Happened}

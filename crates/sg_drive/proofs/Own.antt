@@ -5,11 +5,11 @@ use Rattle.std.specs.List.{AllByRecursion}
 use Rattle.std.proofs.lemmas.Bool.{and_parts}
 use Rattle.std.proofs.lemmas.Bool.Decides.{nat_tests}
 use Rattle.sg_model.proofs.Small.{same_bytes}
+use Rattle.sg_model.proofs.Finding.{find_passes, find_all}
 use Rattle.sg_model.specs.Last.{Map, last, has}
 use Rattle.sg_model.specs.Lists.{all_differ}
 use Rattle.sg_model.specs.Shape.{receiver}
 use Rattle.sg_model.specs.Values.{Value}
-use Rattle.sg_protocol.proofs.Finding.{find_all, find_passes}
 use Rattle.sg_protocol.proofs.First.{programs_after}
 use Rattle.sg_protocol.proofs.Live.{gives_sound}
 use Rattle.sg_protocol.proofs.Nodes.{ActSent, abandon_all, act_all, act_sends, deliver_all, start_all}

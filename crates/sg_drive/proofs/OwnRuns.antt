@@ -5,10 +5,10 @@ use Rattle.std.specs.List.{AllByRecursion, cons_option}
 use Rattle.std.specs.Option.{option_map_or}
 use Rattle.std.proofs.lemmas.List.Elements.{filter_map-append}
 use Rattle.sg_model.proofs.Small.{all-append}
+use Rattle.sg_model.proofs.Finding.{find_passes}
 use Rattle.sg_model.specs.Last.{Map}
 use Rattle.sg_model.specs.Values.{Value}
 use Rattle.sg_protocol.proofs.Progressing.{next_past, node_more, past_called}
-use Rattle.sg_protocol.proofs.Finding.{find_passes}
 use Rattle.sg_protocol.proofs.Nodes.{abandon_sends, deliver_sends, start_sends}
 use Rattle.sg_protocol.proofs.Steps.{frames_are_numbered}
 use Rattle.sg_protocol.specs.Acting.{answer}

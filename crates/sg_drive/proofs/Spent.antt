@@ -8,11 +8,12 @@ use Rattle.std.proofs.lemmas.Bool.Decides.{nat_tests}
 use Rattle.std.proofs.lemmas.Grind.{flat_map-append}
 use Rattle.sg_law.proofs.Lists.{last-append, last-append_some}
 use Rattle.sg_model.proofs.Small.{none_parts, same_bytes}
+use Rattle.sg_model.proofs.Finding.{find_passes, find_all}
 use Rattle.sg_model.specs.Last.{last}
 use Rattle.sg_model.specs.Lists.{first_some}
 use Rattle.sg_model.specs.Values.{Value, Opening}
 use Rattle.sg_model.specs.Last.{Map}
-use Rattle.sg_protocol.proofs.Finding.{find_all, find_passes, joined_more, joined_now}
+use Rattle.sg_protocol.proofs.Finding.{joined_more, joined_now}
 use Rattle.sg_protocol.proofs.First.{programs_after}
 use Rattle.sg_protocol.proofs.Joins.{fourth, owns_after, third}
 use Rattle.sg_protocol.proofs.Live.{gives_sound, node_sound}

@@ -11,6 +11,7 @@ use Rattle.sg_model.specs.Bytes.{AreBytes, IsBytes}
 use Rattle.sg_model.specs.Names.{Name, is_name}
 use Rattle.sg_model.specs.Values.{Value}
 use Rattle.sg_model.proofs.Small.{all-append}
+use Rattle.sg_model.proofs.Finding.{find_all}
 use Rattle.sg_play.specs.Choosing.{is_ready, used}
 use Rattle.sg_play.specs.Played.{Play, abandons, act_by, acts, all_deliveries, all_starts, answer_in, beginning, called, cast_of_start, chosen, next_confounders, next_random, or_abandons, played, plays, plays_on, sid_answered, starts, with_turn, without}
 use Rattle.sg_program.specs.Together.{is_named}
@@ -28,7 +29,6 @@ use Rattle.sg_protocol.specs.Texts.{graph_text_of, real}
 use Rattle.sg_protocol.specs.TextLaws.{IsVersion}
 use Rattle.sg_protocol.specs.Named.{live_with}
 use Rattle.sg_protocol.specs.Turn.{turn_of}
-use Rattle.sg_protocol.proofs.Finding.{find_all}
 use Rattle.sg_protocol.proofs.RealHash.{real_hash}
 use Rattle.sg_protocol.proofs.Spelled.{bytes-zeros, to_bytes}
 use Rattle.sg_script.specs.Script.{Choice, IsChoice, IsScript, IsStart, Script}

@@ -1,4 +1,6 @@
 pub mod Small
+pub mod Members
+pub mod Finding
 pub mod Numbers
 pub mod Differ
 pub mod LastOf

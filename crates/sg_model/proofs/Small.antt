@@ -1,12 +1,13 @@
 -- Small lemmas that many proofs open with: on answers, bytes, options, lists, what holds of each element, and ranges of numbers.
-use Rattle.std.specs.Prelude.{◌≡◌, ◌≢◌, ℕ, zero, suc, ◌+◌, ◌<◌, ◌≤◌, ◌==◌, nat_lt, ◌&&◌, ◌||◌, ◌⊎◌, Bool, true, false, List, [], ◌∷◌, ◌++◌, map, filter, take, drop, length, get_or, bytes_eq, refl, Option, Some, None}
+use Rattle.std.specs.Prelude.{◌≡◌, ◌≢◌, ℕ, zero, suc, ◌+◌, ◌<◌, ◌≤◌, ◌==◌, nat_lt, ◌&&◌, ◌||◌, ◌⊎◌, Bool, true, false, List, [], ◌∷◌, ◌++◌, map, filter, take, drop, length, get_or, bytes_eq, refl, Option, Some, None, slice_get, flat_map, ◌*◌, IsSomeAnd, option_map}
 use Rattle.std.specs.List.{list_all, AllByRecursion}
 use Rattle.std.proofs.Common.{◌∙◌, sym, ap, subst, inl, inr, arith, length-append}
 use Rattle.std.proofs.lemmas.Bool.{cases_Bool, and_parts, or_parts, eqb-true}
 use Rattle.std.proofs.lemmas.Bool.Decides.{nat_tests, Decides-like, same_from_decides}
 use Rattle.std.proofs.lemmas.Slice.Eq.{bytes_eq-Decides}
 use Rattle.sg_model.specs.Last.{last}
-use Rattle.sg_model.specs.Lists.{range_from, first_some}
+use Rattle.sg_model.specs.Lists.{range_from, first_some, keys_of}
+use Rattle.std.proofs.Math.Nat.{suc-mul}
 
 -- two truths of one answer, and the two cases of an option
 pub contradicts : {b : Bool} → b ≡ true → b ≡ false → ⊥
@@ -18,6 +19,10 @@ clash b t f = cc
 pub cases_Option : {A : Type 0} (o : Option A) → (o ≡ None) ⊎ ((x : A) × (o ≡ Some x))
 cases_Option None = inl refl
 cases_Option (Some x) = inr (x, refl)
+
+pub map_none : {A B : Type 0} (f : A → B) (o : Option A) → option_map f o ≡ None → o ≡ None
+map_none f None h = refl
+map_none f (Some x) h = absurd (cc)
 
 -- parts of answers
 pub or_false : (b : Bool) → (b || false) ≡ b
@@ -64,6 +69,9 @@ same_number a b h = grind (arith, nat_tests)
 -- the equality of numbers goes both ways
 pub eqb-swap : (a b : ℕ) → (a == b) ≡ (b == a)
 eqb-swap a b = grind (arith, nat_tests)
+
+pub lt_of : (a b : ℕ) → nat_lt a b ≡ true → a < b
+lt_of a b h = grind (arith, nat_tests)
 
 pub zero_less : (n : ℕ) → nat_lt 0 (suc n) ≡ true
 zero_less n = grind (arith, nat_tests)
@@ -124,9 +132,17 @@ heads x y xs ys e = cc
 pub tails : {A : Type 0} (x y : A) (xs ys : List A) → x ∷ xs ≡ y ∷ ys → xs ≡ ys
 tails x y xs ys e = cc
 
+pub not_empty : {A : Type 0} (xs : List A) (y : A) (ys : List A) → xs ++ y ∷ ys ≡ [] → ⊥
+not_empty [] y ys e = absurd (cc)
+not_empty (x ∷ xs) y ys e = absurd (cc)
+
 pub right_empty : {A : Type 0} (xs : List A) (y : A) → xs ++ y ∷ [] ≡ [] → ⊥
-right_empty [] y e = cc
-right_empty (x ∷ xs) y e = cc
+right_empty xs y e = not_empty xs y [] e
+
+-- what stands behind a part
+pub at_length : {A : Type 0} (xs : List A) (y : A) (ys : List A) → slice_get (xs ++ y ∷ ys) (length xs) ≡ Some y
+at_length [] y ys = refl
+at_length (x ∷ xs) y ys = at_length xs y ys
 
 -- what stands behind an index, and behind the end
 pub drop_from : {A : Type 0} (xs : List A) (i : ℕ) (x : A) → i < length xs → x ≡ get_or xs i x → drop i xs ≡ x ∷ drop (suc i) xs
@@ -143,15 +159,24 @@ drop_end [] (suc i) h = refl
 drop_end (x ∷ xs) zero h = absurd (omega arith)
 drop_end (x ∷ xs) (suc i) h = drop_end xs i (omega arith)
 
-pub map_same : {A : Type 0} (f h : ℕ → A) (xs : List ℕ) → ((x : ℕ) → f x ≡ h x) → map f xs ≡ map h xs
+pub map_same : {A B : Type 0} (f h : A → B) (xs : List A) → ((x : A) → f x ≡ h x) → map f xs ≡ map h xs
 map_same f h [] e = refl
 map_same f h (x ∷ xs) e = ap (λ z. z ∷ map f xs) (e x) ∙ ap (λ l. h x ∷ l) (map_same f h xs e)
+
+-- the keys of pairs
+pub keys_of_pairs : {A : Type 0} (f : ℕ → A) (xs : List ℕ) → keys_of (map (λ x. (x, f x)) xs) ≡ xs
+keys_of_pairs f [] = refl
+keys_of_pairs f (x ∷ xs) = ap (λ l. x ∷ l) (keys_of_pairs f xs)
+
+pub length-flat : {A : Type 0} (n : ℕ) (f : A → List ℕ) (xs : List A) → AllByRecursion (λ x. length (f x) ≤ n) xs → length (flat_map f xs) ≤ length xs * n
+length-flat n f [] a = omega arith
+length-flat n f (x ∷ xs) a = let l = length-append (f x) (flat_map f xs) in let m = length-flat n f xs a.1 in let h = a.0 in let e : suc (length xs) * n ≡ length xs * n + n = suc-mul (length xs) n in omega (arith, l, m, h, e)
 
 pub length_filter : {A : Type 0} (q : A → Bool) (xs : List A) → length (filter q xs) ≤ length xs
 length_filter q [] = omega arith
 length_filter q (x ∷ xs) = elim (cases_Bool (q x)) [ inl e ↦ rw e (let l = length_filter q xs in omega (arith, l)) | inr e ↦ rw e (let l = length_filter q xs in omega (arith, l)) ]
 
-pub take_most : (n : ℕ) (t : List ℕ) → length (take n t) ≤ n
+pub take_most : {A : Type 0} (n : ℕ) (t : List A) → length (take n t) ≤ n
 take_most zero t = omega arith
 take_most (suc n) [] = omega arith
 take_most (suc n) (x ∷ t) = let l = take_most n t in omega (arith, l)
@@ -181,6 +206,10 @@ pub all_weaker : {A : Type 0} (P Q : A → Type 0) → ((x : A) → P x → Q x)
 all_weaker P Q f [] a = tt
 all_weaker P Q f (x ∷ xs) a = (f x a.0, all_weaker P Q f xs a.1)
 
+pub some_weaker : {A : Type 0} (P Q : A → Type 0) (o : Option A) → ((x : A) → P x → Q x) → IsSomeAnd o P → IsSomeAnd o Q
+some_weaker P Q None f h = absurd h
+some_weaker P Q (Some x) f h = f x h
+
 pub all_filter : {A : Type 0} (P : A → Type 0) (q : A → Bool) (xs : List A) → AllByRecursion P xs → AllByRecursion P (filter q xs)
 all_filter P q [] a = tt
 all_filter P q (x ∷ xs) a = elim (cases_Bool (q x)) [ inl e ↦ rw e (a.0, all_filter P q xs a.1) | inr e ↦ rw e (all_filter P q xs a.1) ]
@@ -188,6 +217,10 @@ all_filter P q (x ∷ xs) a = elim (cases_Bool (q x)) [ inl e ↦ rw e (a.0, all
 pub all_tests : {A : Type 0} (p : A → Bool) (xs : List A) → list_all p xs ≡ true → AllByRecursion (λ x. p x ≡ true) xs
 all_tests p [] h = tt
 all_tests p (x ∷ xs) h = let q = and_parts (p x) (list_all p xs) h in (q.0, all_tests p xs q.1)
+
+pub tests_all : {A : Type 0} (p : A → Bool) (xs : List A) → AllByRecursion (λ x. p x ≡ true) xs → list_all p xs ≡ true
+tests_all p [] a = refl
+tests_all p (x ∷ xs) a = rw a.0 (tests_all p xs a.1)
 
 pub all_below : (n : ℕ) (xs : List ℕ) → list_all (λ k. nat_lt k n) xs ≡ true → AllByRecursion (λ x. x < n) xs
 all_below n [] h = tt

@@ -5,6 +5,7 @@ use Rattle.std.specs.List.{AllByRecursion}
 use Rattle.std.proofs.Common.{sym, ◌∙◌, ap, subst, inl, inr, append_assoc}
 use Rattle.std.proofs.lemmas.Bool.{eqb-true, cases_Bool}
 use Rattle.sg_model.proofs.Small.{and_left, and_right, same_bytes, bytes_same}
+use Rattle.sg_model.proofs.Finding.{find_passes}
 use Rattle.sg_model.specs.Bytes.{AreBytes}
 use Rattle.sg_model.specs.Limits.{most_roles}
 use Rattle.sg_model.specs.Lists.{first_some, all_differ}
@@ -28,7 +29,6 @@ use Rattle.sg_protocol.proofs.Reachable.{states_are_reachable}
 use Rattle.sg_protocol.proofs.Live.{sessions_are_sound}
 use Rattle.sg_protocol.proofs.RealHash.{real_hash}
 use Rattle.sg_protocol.proofs.Representation.{states_represent}
-use Rattle.sg_protocol.proofs.Finding.{find_passes}
 use Rattle.sg_role.specs.Accepting.{Acceptance}
 use Rattle.sg_role.specs.Faults.{Refuses}
 use Rattle.sg_role.specs.Sending.{with_notes}

@@ -3,11 +3,11 @@ use Rattle.std.specs.Prelude.{◌≡◌, ℕ, ◌==◌, ◌&&◌, Bool, true, if
 use Rattle.std.proofs.Common.{sym, ◌∙◌, ap, inl, inr}
 use Rattle.std.proofs.lemmas.Bool.{cases_Bool, eqb-true, eq-eqb}
 use Rattle.sg_model.proofs.Small.{clash, and_left, and_right, same_bytes, some_same}
+use Rattle.sg_model.proofs.Finding.{find_passes}
 use Rattle.sg_model.specs.Shape.{role_at}
 use Rattle.sg_protocol.specs.Graph.{shape}
 use Rattle.sg_protocol.specs.Keyring.{Program}
 use Rattle.sg_protocol.specs.Node.{program_for, starter}
-use Rattle.sg_protocol.proofs.Finding.{find_passes}
 use Rattle.sg_node.proofs.Indices.{some_none}
 
 -- two that are found first, each of which passes the other's test, are one

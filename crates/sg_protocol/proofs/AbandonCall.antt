@@ -18,12 +18,15 @@ use Rattle.sg_protocol.specs.Acting.{answer}
 use Rattle.sg_model.proofs.Small.{same_bytes}
 use Rattle.sg_protocol.specs.Node.{Node, session_with}
 use Rattle.sg_protocol.specs.NodeAfter.{goes_on, replace}
-use Rattle.sg_protocol.proofs.Isolation.{of_sid, replace-other, replace-own}
 use Rattle.sg_protocol.proofs.KnownSession.{SessionOfCast}
 use Rattle.sg_protocol.proofs.Calls.{Status, NodeOk, WasLeft, Out}
 use Rattle.sg_protocol.proofs.AfterCalls.{replace_lengths, other_status, nothing}
+use Rattle.sg_protocol.proofs.OfSid.{of_sid, replace-other, replace-own}
 
 module _ {sha : Hash} {programs : List Program} {sid : List ℕ} {cast : Cast} {g : Graph} {Hashed : List ℕ → Type 0} (known : SessionOfCast sha programs sid cast g Hashed) (s : Schedule) (LeftBy : Name → Type 0) (st : State) (who : Name) (n : Node) (ok : NodeOk known s LeftBy st who n) where
+  after_own : (sid0 : List ℕ) → sid0 ≡ sid → filter (of_sid sid) (replace (λ (x : Session). bytes_eq x.sid sid0) (λ x. []) n.live) ≡ replace (λ (x : Session). bytes_eq x.sid sid0) (λ x. []) (filter (of_sid sid) n.live)
+  after_own sid0 q = sym (replace-own (λ (x : Session). bytes_eq x.sid sid0) (λ x. []) (λ x e. subst (λ y. bytes_eq x.sid y ≡ true) q e) (λ x e. refl) n.live)
+
   abandon_done : (sid0 : List ℕ) → (sid0 ≡ sid → LeftBy who) → NodeOk known s LeftBy st who (goes_on n (λ (x : Session). bytes_eq x.sid sid0) (λ x. []))
   abandon_done sid0 left = record {
     me = ok.me;
@@ -35,19 +38,16 @@ module _ {sha : Hash} {programs : List Program} {sid : List ℕ} {cast : Cast} {
     ];
   }
     where
-      after : sid0 ≡ sid → filter (of_sid sid) (replace (λ (x : Session). bytes_eq x.sid sid0) (λ x. []) n.live) ≡ replace (λ (x : Session). bytes_eq x.sid sid0) (λ x. []) (filter (of_sid sid) n.live)
-      after q = sym (replace-own (λ (x : Session). bytes_eq x.sid sid0) (λ x. []) (λ x e. subst (λ y. bytes_eq x.sid y ≡ true) q e) (λ x e. refl) n.live)
-
       mine : sid0 ≡ sid → Status known s LeftBy st who n → Status known s LeftBy st who (goes_on n (λ (x : Session). bytes_eq x.sid sid0) (λ x. []))
-      mine q (inl f) = inl record { alone = after q ∙ ap (replace (λ (x : Session). bytes_eq x.sid sid0) (λ x. [])) f.alone; all = f.all }
+      mine q (inl f) = inl record { alone = after_own sid0 q ∙ ap (replace (λ (x : Session). bytes_eq x.sid sid0) (λ x. [])) f.alone; all = f.all }
       mine q (inr (inl h)) = inr (inr record {
-        alone = after q ∙ ap (replace (λ (x : Session). bytes_eq x.sid sid0) (λ x. [])) h.alone ∙ rw ((bytes_eq-Decides (h.x).sid sid0).1 (h.matches.same_sid ∙ sym q)) refl;
+        alone = after_own sid0 q ∙ ap (replace (λ (x : Session). bytes_eq x.sid sid0) (λ x. [])) h.alone ∙ rw ((bytes_eq-Decides (h.x).sid sid0).1 (h.matches.same_sid ∙ sym q)) refl;
         x = h.x;
         matches = h.matches;
         was_joined = h.was_joined;
         why = inr (left q);
       })
-      mine q (inr (inr g')) = inr (inr record { alone = after q ∙ ap (replace (λ (x : Session). bytes_eq x.sid sid0) (λ x. [])) g'.alone; x = g'.x; matches = g'.matches; was_joined = g'.was_joined; why = g'.why })
+      mine q (inr (inr g')) = inr (inr record { alone = after_own sid0 q ∙ ap (replace (λ (x : Session). bytes_eq x.sid sid0) (λ x. [])) g'.alone; x = g'.x; matches = g'.matches; was_joined = g'.was_joined; why = g'.why })
 
   abandon_life : (sid0 : List ℕ) → (sid0 ≡ sid → LeftBy who) → (filter (of_sid sid) (replace (λ (x : Session). bytes_eq x.sid sid0) (λ x. []) n.live) ≡ filter (of_sid sid) n.live) ⊎ WasLeft known s LeftBy who n (goes_on n (λ (x : Session). bytes_eq x.sid sid0) (λ x. [])) Abandoned
   abandon_life sid0 left = elim (cases_Bool (bytes_eq sid0 sid)) [
@@ -55,13 +55,10 @@ module _ {sha : Hash} {programs : List Program} {sid : List ℕ} {cast : Cast} {
     | inr h ↦ inl (replace-other (λ (x : Session). bytes_eq x.sid sid0) (λ x. []) (λ x e. subst (λ y. bytes_eq y sid ≡ false) (sym (same_bytes x.sid sid0 e)) h) (λ x e. refl) n.live)
   ]
     where
-      after : sid0 ≡ sid → filter (of_sid sid) (replace (λ (x : Session). bytes_eq x.sid sid0) (λ x. []) n.live) ≡ replace (λ (x : Session). bytes_eq x.sid sid0) (λ x. []) (filter (of_sid sid) n.live)
-      after q = sym (replace-own (λ (x : Session). bytes_eq x.sid sid0) (λ x. []) (λ x e. subst (λ y. bytes_eq x.sid y ≡ true) q e) (λ x e. refl) n.live)
-
       mine : sid0 ≡ sid → Status known s LeftBy st who n → filter (of_sid sid) (replace (λ (x : Session). bytes_eq x.sid sid0) (λ x. []) n.live) ≡ []
-      mine q (inl f) = after q ∙ ap (replace (λ (x : Session). bytes_eq x.sid sid0) (λ x. [])) f.alone
-      mine q (inr (inl h)) = after q ∙ ap (replace (λ (x : Session). bytes_eq x.sid sid0) (λ x. [])) h.alone ∙ rw ((bytes_eq-Decides (h.x).sid sid0).1 (h.matches.same_sid ∙ sym q)) refl
-      mine q (inr (inr h)) = after q ∙ ap (replace (λ (x : Session). bytes_eq x.sid sid0) (λ x. [])) h.alone
+      mine q (inl f) = after_own sid0 q ∙ ap (replace (λ (x : Session). bytes_eq x.sid sid0) (λ x. [])) f.alone
+      mine q (inr (inl h)) = after_own sid0 q ∙ ap (replace (λ (x : Session). bytes_eq x.sid sid0) (λ x. [])) h.alone ∙ rw ((bytes_eq-Decides (h.x).sid sid0).1 (h.matches.same_sid ∙ sym q)) refl
+      mine q (inr (inr h)) = after_own sid0 q ∙ ap (replace (λ (x : Session). bytes_eq x.sid sid0) (λ x. [])) h.alone
 
   pub abandon_out : (sid0 : List ℕ) → (sid0 ≡ sid → answer sha n (Abandon sid0) ≡ Abandoned → LeftBy who) → Out known s LeftBy st who n (Abandon sid0) (answer sha n (Abandon sid0)) (notes sha n (Abandon sid0))
   abandon_out sid0 = go (session_with n.live sid0)

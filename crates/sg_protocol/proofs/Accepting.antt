@@ -12,7 +12,9 @@ use Rattle.sg_model.specs.Shape.{Arrow, role_at, source, sender, receiver}
 use Rattle.sg_model.specs.Limits.{most_joins, most_live}
 use Rattle.sg_model.specs.Names.{Name}
 use Rattle.sg_model.specs.Values.{Opening, Value}
-use Rattle.sg_model.proofs.Small.{clash, same_bytes, bytes_same}
+use Rattle.sg_model.proofs.Small.{clash, same_bytes, bytes_same, first_false, second_false, right_empty, not_empty}
+use Rattle.sg_model.proofs.Members.{In, in_from_Contains, contains_from_in, all_in, in_split, split_in}
+use Rattle.sg_model.proofs.Finding.{find_passes, find_all, found_in, find-filter}
 use Rattle.sg_protocol.specs.Graph.{Graph, Edge, IsGraph, shape, reads}
 use Rattle.sg_protocol.specs.Evidence.{View, IsView, IsViewTable, same_origin}
 use Rattle.sg_protocol.specs.Targets.{IsTargetTable}
@@ -22,28 +24,24 @@ use Rattle.sg_protocol.specs.Reading.{read}
 use Rattle.sg_protocol.specs.Texts.{Hash, IsHash, graph_digest, session_id}
 use Rattle.sg_protocol.specs.Keyring.{Keyring, Program, key_of, targets_of, may_return}
 use Rattle.sg_protocol.specs.Session.{Session, principal, origin, place, time, at_turn, new_session}
-use Rattle.sg_protocol.specs.Calls.{Refusal, UnknownGraph, BadCast, UnknownPeer, BadSession, Joined, CacheFull, SessionsFull, UnknownSession, NotWaiting, Event, Call, Start, Act, Abandon, Deliver, Answer, Happened, Sends, Abandoned, NotStarted, NotActed, NotAbandoned, NotDelivered, sid_of, ActFault, NotYourTurn, Send, NoSuchLabel, BadValues, TimeSpent}
+use Rattle.sg_protocol.specs.Calls.{Refusal, UnknownGraph, BadCast, UnknownPeer, BadSession, Joined, CacheFull, SessionsFull, UnknownSession, NotWaiting, Event, Call, Start, Act, Abandon, Deliver, Happened, Sends, Abandoned, NotStarted, NotActed, NotAbandoned, NotDelivered, ActFault, NotYourTurn, Send, NoSuchLabel, BadValues, TimeSpent}
 use Rattle.sg_protocol.specs.Node.{Node, is_for, is_cast, stranger, session_with, session_for, program_for, starter, has_joined}
 use Rattle.sg_protocol.specs.NodeAfter.{is_over}
 use Rattle.sg_protocol.specs.Acting.{answer, acted, sent, is_bad, leaves, rows_of_act}
 use Rattle.sg_protocol.specs.Verdict.{row, seen, rows_of_session, rows_of_join, rows_of_next, join_rows, next_rows, rows, receipt, decided, verdict_on}
-use Rattle.sg_protocol.specs.Past.{Past, AnsweredCall, node_of, new_node, node_after_all}
+use Rattle.sg_protocol.specs.Past.{Past, node_of, new_node}
 use Rattle.sg_protocol.specs.Premises.{Premises}
 use Rattle.sg_protocol.specs.Receipts.{IsTaken, WasSent}
 use Rattle.sg_protocol.specs.LastSteps.{honest_items}
-use Rattle.sg_law.proofs.Upto.{In, in_from_Contains}
-use Rattle.sg_law.proofs.Take.{contains_from_in}
 use Rattle.sg_law.proofs.Lists.{last-append}
-use Rattle.sg_protocol.proofs.Isolation.{of_sid, find-filter}
 use Rattle.sg_protocol.proofs.ReadLaws.{read-spelling}
-use Rattle.sg_protocol.proofs.Finding.{find_passes, find_all, one_index}
+use Rattle.sg_protocol.proofs.Finding.{one_index}
 use Rattle.sg_protocol.proofs.OneWalk as W
 use Rattle.sg_protocol.proofs.Reduced.{by_role, has-both, reduced}
 use Rattle.sg_protocol.proofs.Relay.{StepsOk, RelayOk, OpensAt, relay_new, at_end}
 use Rattle.sg_protocol.proofs.Rows.{rows_none, viewed}
-use Rattle.sg_protocol.proofs.Splits.{in_split, split_in, role_small}
+use Rattle.sg_protocol.proofs.Splits.{role_small}
 use Rattle.sg_protocol.proofs.Keys as Keys'
-use Rattle.sg_protocol.specs.NodeAfter as NodeAfter'
 use Rattle.sg_protocol.proofs.OneTable.{one_table, reads_small}
 use Rattle.sg_protocol.specs.IsSchedule.{IsProgram}
 use Rattle.sg_protocol.specs.Run.{events_of, cast_of_session}
@@ -53,12 +51,8 @@ use Rattle.sg_protocol.specs.World.{World, Logged, Outcome, Answered, Crafted, N
 use Rattle.sg_protocol.specs.Schedule.{Schedule, PairKey, is_honest, honest_role, graph_with}
 use Rattle.sg_protocol.proofs.Entries.{Roles}
 use Rattle.sg_protocol.proofs.Ends.{after_all}
-use Rattle.sg_protocol.proofs.Nodes.{start_sends, abandon_sends, deliver_sends}
 use Rattle.sg_protocol.proofs.Reduced.{has-reduced}
 use Rattle.sg_protocol.proofs.RowLemmas.{roles_reduced}
-use Rattle.sg_protocol.proofs.LiveSessions.{act_event, keys_after}
-use Rattle.sg_protocol.proofs.Whole.{found_in}
-use Rattle.sg_law.proofs.Members.{all_in}
 use Rattle.sg_protocol.proofs.OneWalk.{FirstCast, first_cast, first_moves, node_begins}
 use Rattle.sg_protocol.proofs.Agreeing.{With}
 use Rattle.sg_protocol.proofs.Flight.{HonestSession, Flight, FrameOk, WasReceived, Track, New, SessOk, OnTheWay, FlightOfRun, flight_of_run}
@@ -67,6 +61,8 @@ use Rattle.sg_protocol.proofs.HeldKeys.{SameFor, in_at, pair_keys, pairs_differ,
 use Rattle.sg_protocol.proofs.Happenings.{Happening, IsCourse, IsRight, Own, HaveOneKey, HaveOneKeyEach, key_at, key_kept, keep_course, pasts_kept, run_of}
 use Rattle.sg_protocol.proofs.Senders.{receipts_are_of_sends, some_event}
 use Rattle.sg_protocol.proofs.Showing.{facts_of, first_progress, agree_first, of_run}
+use Rattle.sg_protocol.proofs.Anew.{keys_stay}
+use Rattle.sg_protocol.proofs.OfSid.{of_sid}
 
 not_over : (a b : ℕ) → a < b → nat_le b a ≡ false
 not_over a b l = elim (cases_Bool (nat_le b a)) [ inl e ↦ absurd (let m : b ≤ a = grind (arith, nat_tests) in omega (arith, l, m)) | inr e ↦ e ]
@@ -216,18 +212,9 @@ module _ (sha : Hash) (hash : IsHash sha) (s : Schedule) (ps : List Past) (cours
       let q : p.graph ≡ first.program.graph = W.same_digest sha hash s ps course is_course sid premises first p.graph first.program.graph ip.1 (first.own).1 (sym (ip.0).digest ∙ same_bytes p.digest first.cast.graph h.0 ∙ sym first.digest ∙ tp.digest) in
       ap (λ z. role_at (shape z) 0) (sym q) ∙ sym (eqb-true p.role (role_at (shape p.graph) 0) h.1)
 
-  sends_sid : (n : Node) (c : Call) (e : Event) (to : Name) (f : Frame) → answer sha n c ≡ Sends e to f → sid_of e ≡ f.sid
-  sends_sid n (Start c) e to f a = absurd (start_sends sha n c e to f a)
-  sends_sid n (Abandon sid0) e to f a = absurd (abandon_sends sha n sid0 e to f a)
-  sends_sid n (Deliver bs) e to f a = absurd (deliver_sends sha n bs e to f a)
-  sends_sid n (Act sid0 label values confs) e to f a = (act_event sha n sid0 label values confs e to f a).0
-
   was_sent_ : (l : Logged) (who : Name) (bs : List ℕ) (f : Frame) → IsTaken (run_of sha ps course) l who bs f → f.sid ≡ sid → honest_role s first.cast f.sender ≡ true → In first.cast.names who → In first.cast.names (principal first.cast f.sender) → WasSent (run_of sha ps course) l.number (principal first.cast f.sender) bs f
   was_sent_ l who bs f t q h i j = (receipts_are_of_sends sha hash s ps course is_course premises l who bs f first.cast t (ap (λ z. cast_of_session z (run_of sha ps course).log) q ∙ first.is_cast) h).1
       (λ _. all_in (HaveOneKey wf who) first.cast.names (principal first.cast f.sender) (all_in (λ a. All (HaveOneKey wf a) first.cast.names) first.cast.names who one_key i) j)
-
-  keys_kept : (n : Node) (c : Call) (a : Answer) → (NodeAfter'.node_after n c a).keys ≡ n.keys
-  keys_kept n c a = keys_after n c a
 
   known_of_session : HonestSession sha s sid first.cast first.program.graph (run_of sha ps course) Own_ keys targets Key (first_of ps)
   known_of_session = record {
@@ -238,9 +225,7 @@ module _ (sha : Hash) (hash : IsHash sha) (s : Schedule) (ps : List Past) (cours
     other_targets = λ e l. targets_apart first.program.graph first.program.targets tp.targets e l (λ t. (t < length first.program.graph.roles) × (t ≢ sender (shape first.program.graph) e)) (λ t m ne. (m, ne));
     same_key = same_key;
     was_sent = was_sent_;
-    keys_kept = keys_kept;
     starts = starts;
-    sends_sid = sends_sid;
   }
 
   begins_flight : Flight known_of_session w0
@@ -253,15 +238,11 @@ module _ (sha : Hash) (hash : IsHash sha) (s : Schedule) (ps : List Past) (cours
       none = λ r a b. refl;
       unjoined = λ r a b f h. clash (has_joined p.first sid r) h (ap (λ (o : Option Past). has_joined (option_map_or (λ (p : Past). p.first) o []) sid r) (sym e) ∙ f);
     });
-    frames = λ before l after e to f h o i. absurd (no_split before l after h);
+    frames = λ before l after e to f h o i. absurd (not_empty before l after (sym h));
   }
     where
       begun : (who : Name) (p : Past) → past_of (record { pasts = ps; log = [] }) who ≡ Some p → node_of p ≡ new_node p.keys p.programs p.first
       begun who p e = node_begins sha hash s ps course is_course p (found_in (λ (p : Past). bytes_eq p.keys.me who) ps p e)
-
-      no_split : (before : List Logged) (l : Logged) (after : List Logged) → [] ≡ before ++ l ∷ after → ⊥
-      no_split [] l after e = absurd (cc)
-      no_split (b ∷ before) l after e = absurd (cc)
 
   begins_run : FlightOfRun known_of_session w0
   begins_run = record {
@@ -291,16 +272,8 @@ module _ (sha : Hash) (hash : IsHash sha) (s : Schedule) (ps : List Past) (cours
     where
       go : (es : List Edge) → list_any (λ (e : Edge). e.source == m) es ≡ false → (e : ℕ) → e < length es → (get_or {A = Arrow} (map arrow_of es) e (record { source = 0; target = 0; writes = []; reads = [] })).source ≢ m
       go [] h e l q = omega (arith, l)
-      go (x ∷ es) h zero l q = clash (x.source == m) (eq-eqb x.source m q) (first_no (x.source == m) _ h)
-        where
-          first_no : (a b : Bool) → (a || b) ≡ false → a ≡ false
-          first_no true b h = absurd (let z : true ≡ false = h in cc)
-          first_no false b h = refl
-      go (x ∷ es) h (suc e) l q = go es (rest_no (x.source == m) _ h) e (omega (arith, l)) q
-        where
-          rest_no : (a b : Bool) → (a || b) ≡ false → b ≡ false
-          rest_no true b h = absurd (let z : true ≡ false = h in cc)
-          rest_no false b h = h
+      go (x ∷ es) h zero l q = clash (x.source == m) (eq-eqb x.source m q) (first_false (x.source == m) _ h)
+      go (x ∷ es) h (suc e) l q = go es (second_false (x.source == m) _ h) e (omega (arith, l)) q
 
   -- a session at its turn sends along each edge from its place
   acts_at : (who : Name) (past : Past) → past_of (run_of sha ps course) who ≡ Some past → (x : Session) → (the_p : (p : Program) × (program_for past.programs first.cast.graph x.role ≡ Some p)) → filter (of_sid sid) (node_of past).live ≡ x ∷ [] → at_turn first.program.graph x ≡ true → L.SessOk known_of_session (run_of sha ps course).log who x → CanAct sha (run_of sha ps course) first.cast first.program.graph sid
@@ -602,11 +575,7 @@ module _ (sha : Hash) (hash : IsHash sha) (s : Schedule) (ps : List Past) (cours
     -- ---- a frame that joins
 
     keys_of_past : n.keys ≡ past.keys
-    keys_of_past = go (new_node past.keys past.programs past.first) past.calls
-      where
-        go : (m : Node) (cs : List AnsweredCall) → (node_after_all m cs).keys ≡ m.keys
-        go m [] = refl
-        go m (c ∷ cs) = go (NodeAfter'.node_after m c.call c.answer) cs ∙ keys_kept m c.call c.answer
+    keys_of_past = keys_stay (new_node past.keys past.programs past.first) past.calls
 
     n_me : n.keys.me ≡ who
     n_me = ((runs_so.0).nodes who past its_past).ok.me
@@ -614,7 +583,7 @@ module _ (sha : Hash) (hash : IsHash sha) (s : Schedule) (ps : List Past) (cours
     joins : New known_of_session (run_of sha ps course).log who n → first_some (rows sha n f) ≡ None
     joins t =
         let none_r : has by_role f.receiver (honest_items sid (run_of sha ps course).log) ≡ false = t.none f.receiver who_is r_in in
-        let none_before : has by_role f.receiver (honest_items sid sp.0) ≡ false = first_no (has by_role f.receiver (honest_items sid sp.0)) _ (sym (has-both f.receiver (honest_items sid sp.0) (fo.item ∷ [])) ∙ ap (has by_role f.receiver) (sym done_is) ∙ none_r) in
+        let none_before : has by_role f.receiver (honest_items sid sp.0) ≡ false = first_false (has by_role f.receiver (honest_items sid sp.0)) _ (sym (has-both f.receiver (honest_items sid sp.0) (fo.item ∷ [])) ∙ ap (has by_role f.receiver) (sym done_is) ∙ none_r) in
         let jn : f.join ≡ Some first.cast = fo.join_is ∙ ap (λ b. if b then None else Some first.cast) none_before in
         let room = aw.room (ap is_some jn) in
         let wt : at_turn first.program.graph (new_session f.sid first.cast f.receiver) ≡ false = not_first (cases_Bool (role_at (shape first.program.graph) 0 == f.receiver)) none_r in
@@ -635,21 +604,13 @@ module _ (sha : Hash) (hash : IsHash sha) (s : Schedule) (ps : List Past) (cours
         (ap (λ b. row b SessionsFull) (not_over (length n.live) 4096 room.1))
         rs.rows_
       where
-        first_no : (a b : Bool) → (a || b) ≡ false → a ≡ false
-        first_no true b h = absurd (cc)
-        first_no false b h = refl
-
         not_joined : is_some f.join ≡ true → (has_joined n.joins sid f.receiver ≡ true) ⊎ (has_joined n.joins sid f.receiver ≡ false) → has_joined n.joins sid f.receiver ≡ false
         not_joined j (inl h) = absurd (t.unjoined f.receiver who_is r_in (ap (λ z. has_joined z sid f.receiver) (sym (first_kept sha ps course is_course.right who past its_past)) ∙ ap (λ z. has_joined past.first z f.receiver) (sym of_sid_) ∙ aw.not_first j) h)
         not_joined j (inr h) = h
 
-        no_end : (xs : List Item) (i : Item) → xs ++ i ∷ [] ≡ [] → ⊥
-        no_end [] i e = absurd (cc)
-        no_end (x ∷ xs) i e = absurd (cc)
-
         not_first : ((role_at (shape first.program.graph) 0 == f.receiver) ≡ true) ⊎ ((role_at (shape first.program.graph) 0 == f.receiver) ≡ false) → has by_role f.receiver (honest_items sid (run_of sha ps course).log) ≡ false → (role_at (shape first.program.graph) 0 == f.receiver) ≡ false
         not_first (inr h) n' = h
-        not_first (inl h) n' = absurd (no_end (honest_items sid sp.0) fo.item (sym done_is ∙ begins_by (honest_items sid (run_of sha ps course).log) flown.steps n'))
+        not_first (inl h) n' = absurd (right_empty (honest_items sid sp.0) fo.item (sym done_is ∙ begins_by (honest_items sid (run_of sha ps course).log) flown.steps n'))
           where
             begins_by : (is' : List Item) → StepsOk sha keys sid first.cast targets first.program.graph is' → has by_role f.receiver is' ≡ false → is' ≡ []
             begins_by [] so q = refl

@@ -27,7 +27,6 @@ use Rattle.sg_law.specs.Run.{Turn}
 use Rattle.sg_law.specs.Values as V
 use Rattle.sg_law.specs.Values.{State, Commit, moved}
 use Rattle.sg_law.specs.Values.Move.{Writes}
-use Rattle.sg_law.proofs.Upto.{In}
 use Rattle.sg_protocol.proofs.Entries.{entry, entries, Roles}
 use Rattle.sg_protocol.proofs.Moves.{NoteOk, Matches, note_text}
 use Rattle.sg_model.specs.Lists.{keys_of}
@@ -37,16 +36,17 @@ use Rattle.sg_protocol.proofs.TextLaws.{kinds_differ}
 use Rattle.sg_protocol.specs.Accepted.{Accepted}
 use Rattle.sg_protocol.proofs.Gives.{item_sid, frame_sid, opened_values}
 use Rattle.sg_model.proofs.Small.{clash, same_bytes}
-use Rattle.sg_law.proofs.Members.{in_left, in_map, in_parts}
+use Rattle.sg_model.proofs.Members.{In, in_left, in_parts, in_map, map_in}
+use Rattle.sg_model.proofs.Finding.{find_passes, find_all}
 use Rattle.sg_protocol.specs.Node.{Node, session_with, program_for}
 use Rattle.sg_protocol.specs.NodeAfter.{goes_on, replace, still}
 use Rattle.sg_protocol.specs.Walk as Walk'
-use Rattle.sg_protocol.proofs.Isolation.{of_sid, replace-other, still-own, still-other}
 use Rattle.sg_protocol.proofs.KnownSession.{SessionOfCast}
 use Rattle.sg_protocol.proofs.Acts as C
-use Rattle.sg_protocol.proofs.Finding.{one_index, find_passes, find_all}
+use Rattle.sg_protocol.proofs.Finding.{one_index}
 use Rattle.sg_protocol.proofs.Calls.{transcript_in, sent_in, quiet_event, NodeOk, Out}
 use Rattle.sg_protocol.proofs.AfterCalls.{still_lengths, replace_lengths, event_other, kept_writes, transcript_step, goes_now, goes_status, other_status, nothing, the_session}
+use Rattle.sg_protocol.proofs.OfSid.{of_sid, replace-other, still-own, still-other}
 
 none_some : (t : Turn) → None ≡ Some t → ⊥
 none_some t e = absurd (cc)
@@ -103,7 +103,7 @@ module _ {sha : Hash} {programs : List Program} {sid : List ℕ} {cast : Cast} {
 
       items_of_frame : (o : Option Item) → In (option_map_or (λ (i : Item). map (λ t. note_of n.keys.me (principal x.cast t) (text_to p.graph x (transcript x) i t)) (targets_of p i.label)) o []) nt → NoteOk g sid st.log nt
       items_of_frame None j = absurd j
-      items_of_frame (Some i) j = let r = C.of_map (λ t. note_of n.keys.me (principal x.cast t) (text_to p.graph x (transcript x) i t)) (targets_of p i.label) nt j in subst (NoteOk g sid st.log) (sym r.1) (item_note i r.0)
+      items_of_frame (Some i) j = let r = map_in (λ t. note_of n.keys.me (principal x.cast t) (text_to p.graph x (transcript x) i t)) (targets_of p i.label) nt j in subst (NoteOk g sid st.log) (sym r.2) (item_note i r.0)
 
   module _ (sid0 : List ℕ) (label : ℕ) (values : Map Value) (F : ℕ × Value → List ℕ) (small : AllByRecursion (λ k. k < 256) (keys_of values)) (opens : AllByRecursion OpeningFits (openings_for values (map F values))) where
     abbrev os : List Opening

@@ -8,7 +8,7 @@ use Rattle.std.proofs.lemmas.Bool.{eqb-true, ne_eqb, and_parts, not-false}
 use Rattle.std.proofs.lemmas.Bool.Decides.{nat_tests}
 use Rattle.std.proofs.lemmas.List.{map-append}
 use Rattle.sg_model.specs.Last as A
-use Rattle.sg_model.specs.Last.{evidence_for, Map, has, last, last_or, last_of, after_last, up_to_last}
+use Rattle.sg_model.specs.Last.{evidence_for, Map, has, last, after_last, up_to_last}
 use Rattle.sg_model.specs.Lists.{below, first_some}
 use Rattle.sg_model.specs.Shape.{role_at, source, target, sender, receiver}
 use Rattle.sg_model.specs.Values.{Value, Opening, Code}
@@ -26,21 +26,19 @@ use Rattle.sg_protocol.specs.Notes.{Note, note_of, notes_of_sent}
 use Rattle.sg_protocol.specs.Walk.{is_typed_or_hidden}
 use Rattle.sg_protocol.specs.Schedule.{Schedule, is_honest, honest_role}
 use Rattle.sg_law.specs.Last as B
-use Rattle.sg_law.specs.Run.{RisesFrom, Turn}
+use Rattle.sg_law.specs.Run.{Turn}
 use Rattle.sg_law.specs.Run as R
 use Rattle.sg_law.specs.Values as V
-use Rattle.sg_law.specs.Values.{State, SentItem, transcript_with_item, com_of, Move, Commit, moved, MayTake, Tagged, Framed, Opened, own_part_of, is_variable, put}
-use Rattle.sg_law.specs.Values.Move.{Writes, Takes}
+use Rattle.sg_law.specs.Values.{State, SentItem, transcript_with_item, com_of, Commit, moved}
+use Rattle.sg_law.specs.Values.Move.{Writes}
 use Rattle.sg_law.proofs.Lists.{eqb_same}
-use Rattle.sg_law.proofs.Upto.{In}
-use Rattle.sg_law.proofs.Take.{contains_from_in}
 use Rattle.sg_law.proofs.Cut.{last-option_map}
 use Rattle.sg_protocol.proofs.Paths.{flat_map-append}
 use Rattle.sg_protocol.proofs.Entries.{entry, entries, entries-com, by, Roles, edges_same, evidence_for-ents, evidence_for-role, last_tags, shown-steps, shown-com, as_entry}
-use Rattle.sg_protocol.proofs.Moves.{step, FitItem, FitItems, NoteOk, Matches, row_none, map_none, note_text, fit-append, roles-append, are_held, writes_below}
+use Rattle.sg_protocol.proofs.Moves.{step, FitItem, FitItems, NoteOk, Matches, row_none, note_text, fit-append, roles-append, are_held, writes_below}
 use Rattle.sg_model.specs.Lists.{rises_from, keys_of, in_order}
-use Rattle.sg_model.proofs.Small.{none_parts, map_same}
-use Rattle.sg_law.proofs.Members.{in_parts}
+use Rattle.sg_model.proofs.Small.{none_parts, map_same, lt_of, map_none}
+use Rattle.sg_model.proofs.Members.{In, contains_from_in, in_parts, map_in, in_last}
 use Rattle.sg_law.specs.Values.{MayWrite}
 use Rattle.sg_law.proofs.Upto.{upto-at, last-after, after-more}
 use Rattle.sg_law.proofs.Cut.{cut_evidence, label_of}
@@ -52,15 +50,6 @@ use Rattle.sg_protocol.proofs.TextLaws.{one_item, one_frame, kinds_differ}
 use Rattle.sg_protocol.specs.Accepted.{Accepted}
 use Rattle.sg_protocol.proofs.Gives.{in_order-all, keys_are, typed_values, opened_keys, opened_values}
 
-pub of_map : {A B : Type 0} (f : A → B) (xs : List A) (m : B) → In (map f xs) m → (x : A) × (m ≡ f x)
-of_map f [] m i = absurd i
-of_map f (x ∷ xs) m (inl e) = (x, e)
-of_map f (x ∷ xs) m (inr i) = of_map f xs m i
-
-pub in_last : {A : Type 0} (xs : List A) (x : A) → In (xs ++ x ∷ []) x
-in_last [] x = inl refl
-in_last (y ∷ ys) x = inr (in_last ys x)
-
 commit_lengths : (sha : Hash) → IsHash sha → (sid : List ℕ) (os : List Opening) → AllByRecursion (λ (d : ℕ × List ℕ). length d.1 ≡ 32) (map (λ (o : Opening). (o.variable, commitment sha sid o)) os)
 commit_lengths sha hash sid [] = tt
 commit_lengths sha hash sid (o ∷ os) = ((hash (commitment_text_of sid o)).0, commit_lengths sha hash sid os)
@@ -68,9 +57,6 @@ commit_lengths sha hash sid (o ∷ os) = ((hash (commitment_text_of sid o)).0, c
 pub keys_of_commits : (sha : Hash) (sid : List ℕ) (os : List Opening) → keys_of (map (λ (o : Opening). (o.variable, commitment sha sid o)) os) ≡ map (λ (o : Opening). o.variable) os
 keys_of_commits sha sid [] = refl
 keys_of_commits sha sid (o ∷ os) = ap (λ l. o.variable ∷ l) (keys_of_commits sha sid os)
-
-pub lt_of : (a b : ℕ) → nat_lt a b ≡ true → a < b
-lt_of a b h = grind (arith, nat_tests)
 
 pub le_false : (a b : ℕ) → nat_le a b ≡ false → b < a
 le_false a b h = grind (arith, nat_tests)
@@ -317,8 +303,8 @@ module _ (sha : Hash) (hash : IsHash sha) (s : Schedule) (sid : List ℕ) (cast 
       item_note None e j = absurd j
       item_note (Some i) e j =
           let same : i ≡ gi = cc in
-          let r = of_map (λ t. note_of keys.me (principal x.cast t) (text_to g x (transcript x) i t)) (targets_of p i.label) n j in
-          subst (NoteOk g sid log_later) (sym (r.1 ∙ ap (λ (z : Item). note_of keys.me (principal x.cast r.0) (text_to g x (transcript x) z r.0)) same)) (item_ok keys.me (principal x.cast r.0) r.0)
+          let r = map_in (λ t. note_of keys.me (principal x.cast t) (text_to g x (transcript x) i t)) (targets_of p i.label) n j in
+          subst (NoteOk g sid log_later) (sym (r.2 ∙ ap (λ (z : Item). note_of keys.me (principal x.cast r.0) (text_to g x (transcript x) z r.0)) same)) (item_ok keys.me (principal x.cast r.0) r.0)
 
   pub values_typed : list_all (is_typed_or_hidden g) (V.values_of os) ≡ true
   values_typed = ap (list_all (is_typed_or_hidden g)) (opened_values F values) ∙ typed_values g is label values small rows.good

@@ -22,19 +22,19 @@ use Rattle.sg_law.specs.Last as B
 use Rattle.sg_law.specs.Run as R
 use Rattle.sg_law.specs.Values.{State, Commit, moved}
 use Rattle.sg_law.specs.Values.Move.{Writes, Takes}
-use Rattle.sg_law.proofs.Upto.{In}
 use Rattle.sg_protocol.proofs.Entries.{entry, entries, Roles}
 use Rattle.sg_protocol.proofs.Moves.{NoteOk, Matches}
 use Rattle.std.proofs.lemmas.List.Elements.{filter-append}
-use Rattle.sg_model.proofs.Small.{clash, all-append, same_bytes}
+use Rattle.sg_model.proofs.Small.{clash, all-append, same_bytes, lt_of}
+use Rattle.sg_model.proofs.Members.{In}
+use Rattle.sg_model.proofs.Finding.{find_head, find_nil, find_passes, find-filter}
 use Rattle.sg_protocol.specs.Node.{Node, is_cast, has_joined}
 use Rattle.sg_protocol.specs.NodeAfter.{node_after, joined, goes_on, replace, still, is_over}
 use Rattle.sg_protocol.proofs.Paths.{flat_map-append}
-use Rattle.sg_protocol.proofs.Isolation.{of_sid, find-filter, replace-own, still-own, still-other}
 use Rattle.sg_protocol.proofs.KnownSession.{SessionOfCast}
-use Rattle.sg_protocol.proofs.Acts as C
-use Rattle.sg_protocol.proofs.Finding.{one_index, joined_more, joined_now, find_head, find_nil, find_passes}
+use Rattle.sg_protocol.proofs.Finding.{one_index, joined_more, joined_now}
 use Rattle.sg_protocol.proofs.Calls.{Quiet, quiet_transcript, quiet_items, quiet_took, Untouched, Fresh, Here, Status, NodeOk, Kept, WasLeft, Out}
+use Rattle.sg_protocol.proofs.OfSid.{of_sid, replace-own, still-own, still-other}
 
 pub still_lengths : (ps : List Program) (x : Session) → length x.sid ≡ 32 → AllByRecursion (λ (x : Session). length x.sid ≡ 32) (still ps x)
 still_lengths ps x l = elim (cases_Bool (is_over ps x)) [ inl e ↦ rw e tt | inr e ↦ rw e (l, tt) ]
@@ -48,7 +48,7 @@ pub cast_parts : (keys : Keyring) (g' : Graph) (c : Cast) (r : ℕ) → is_cast 
 cast_parts keys g' c r h =
     let a = and_parts _ (bytes_eq (principal c r) keys.me) h in
     let b = and_parts _ (nat_lt r (length c.names)) a.0 in
-    (C.lt_of r (length c.names) b.1, same_bytes (principal c r) keys.me a.1)
+    (lt_of r (length c.names) b.1, same_bytes (principal c r) keys.me a.1)
 
 module _ (sid : List ℕ) where
   pub event_other : (e : Event) → bytes_eq (sid_of e) sid ≡ false → flat_map acts_of_event (filter (λ e. bytes_eq (sid_of e) sid) (e ∷ [])) ≡ []

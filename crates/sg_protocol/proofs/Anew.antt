@@ -1,37 +1,20 @@
 -- A principal that is begun anew is as one that has abandoned its live sessions, and joins no pair twice in its whole life.
-use Rattle.std.specs.Prelude.{◌≡◌, ℕ, List, [], ◌∷◌, map, bytes_eq, refl, Option, Some, None, Result, Ok, Err}
+use Rattle.std.specs.Prelude.{◌≡◌, List, [], ◌∷◌, map, bytes_eq, refl, Some}
 use Rattle.std.specs.Option.{option_map_or}
 use Rattle.std.proofs.Common.{sym, ◌∙◌, ap}
 use Rattle.sg_model.proofs.Small.{bytes_refl}
-use Rattle.sg_protocol.specs.Frame.{Cast, Frame}
-use Rattle.sg_protocol.specs.Reading.{read}
 use Rattle.sg_protocol.specs.Texts.{Hash}
-use Rattle.sg_protocol.specs.Session.{Session, Took, new_session, extended}
-use Rattle.sg_protocol.specs.Calls.{Call, Answer, Start, Act, Abandon, Deliver, Started, Received, Happened, Sends, Abandoned, NotAbandoned}
-use Rattle.sg_protocol.specs.Node.{Node, session_with, is_for}
+use Rattle.sg_protocol.specs.Session.{Session}
+use Rattle.sg_protocol.specs.Calls.{Abandon, Abandoned, NotAbandoned}
+use Rattle.sg_protocol.specs.Node.{Node, session_with}
 use Rattle.sg_protocol.specs.Acting.{answer}
-use Rattle.sg_protocol.specs.NodeAfter.{node_after, takes_read, joined, goes_on, replace, still}
+use Rattle.sg_protocol.specs.NodeAfter.{node_after, replace}
 use Rattle.sg_protocol.specs.Past.{AnsweredCall, Past, node_of, new_node, node_after_all, past_after, answers}
 use Rattle.sg_protocol.specs.Restarts.{begun_anew, past_after_all, abandonments, RestartsAbandon}
-use Rattle.sg_protocol.proofs.Progressing.{node_more}
-use Rattle.sg_protocol.proofs.First.{programs_after}
+use Rattle.sg_protocol.proofs.Progressing.{node_next}
+use Rattle.sg_protocol.proofs.First.{programs_after, keys_after}
 
 -- ---- keys and programs stay
-
-takes_keys : (n : Node) (f : Frame) (o : Option Cast) → (option_map_or (λ c. joined n (extended (new_session f.sid c f.receiver) (Took f))) o (goes_on n (is_for f) (λ z. still n.programs (extended z (Took f))))).keys ≡ n.keys
-takes_keys n f None = refl
-takes_keys n f (Some c) = refl
-
-read_keys : (n : Node) (r : Result Frame ℕ) → (takes_read n r).keys ≡ n.keys
-read_keys n (Err at) = refl
-read_keys n (Ok f) = takes_keys n f f.join
-
-keys_after : (n : Node) (c : Call) (a : Answer) → (node_after n c a).keys ≡ n.keys
-keys_after n (Start c) (Happened (Started sid r)) = refl
-keys_after n (Act sid label values confounders) (Sends e to f) = refl
-keys_after n (Abandon sid) Abandoned = refl
-keys_after n (Deliver bs) (Happened (Received sid r label time values joins)) = read_keys n (read bs)
-keys_after n c other = refl
 
 pub keys_stay : (n : Node) (cs : List AnsweredCall) → (node_after_all n cs).keys ≡ n.keys
 keys_stay n [] = refl
@@ -61,9 +44,6 @@ first_left sha n x xs e =
     ap (node_after n (Abandon x.sid)) (first_answer sha n x xs e)
     ∙ ap (λ l. with_live n (replace (λ (s : Session). bytes_eq s.sid x.sid) (λ s. []) l)) e
     ∙ ap (with_live n) (let q : replace (λ (s : Session). bytes_eq s.sid x.sid) (λ s. []) (x ∷ xs) ≡ xs = rw (bytes_refl x.sid) refl in q)
-
-pub node_next : (sha : Hash) (past : Past) (c : Call) → node_of (past_after sha past c) ≡ node_after (node_of past) c (answer sha (node_of past) c)
-node_next sha past c = node_more (new_node past.keys past.programs past.first) past.calls (record { call = c; answer = answer sha (node_of past) c })
 
 -- ---- all of them
 

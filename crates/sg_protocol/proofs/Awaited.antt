@@ -1,5 +1,5 @@
 -- In a schedule's run a frame that is awaited is accepted, and a session is never stuck.
-use Rattle.std.specs.Prelude.{◌≡◌, ◌⊎◌, ℕ, zero, suc, ◌-◌, ◌+◌, ◌<◌, ◌≤◌, ◌==◌, if◌then◌else◌, ◌&&◌, All, true, List, [], ◌∷◌, ◌++◌, map, filter_map, length, bytes_eq, slice_get, refl, Some, None, option_map}
+use Rattle.std.specs.Prelude.{◌≡◌, ◌⊎◌, ℕ, zero, suc, ◌-◌, ◌+◌, ◌<◌, ◌≤◌, ◌==◌, if◌then◌else◌, ◌&&◌, All, true, List, [], ◌∷◌, ◌++◌, map, filter_map, length, bytes_eq, slice_get, Some, None, option_map}
 use Rattle.std.specs.List.{cons_option}
 use Rattle.std.specs.Option.{option_map_or}
 use Rattle.std.proofs.Common.{sym, ◌∙◌, ap, subst, inl, inr, arith}
@@ -8,10 +8,10 @@ use Rattle.std.proofs.lemmas.Bool.Decides.{nat_tests}
 use Rattle.std.proofs.lemmas.List.Elements.{filter_map-append}
 use Rattle.sg_model.specs.Lists.{below, range_from}
 use Rattle.sg_model.specs.Names.{Name}
-use Rattle.sg_model.proofs.Small.{bytes_same}
+use Rattle.sg_model.proofs.Small.{bytes_same, at_length}
+use Rattle.sg_model.proofs.Members.{In, in_from_Contains, in_map, in_flat, all_in, map_in, in_split}
+use Rattle.sg_model.proofs.Finding.{find_some}
 use Rattle.sg_law.proofs.Lists.{last-append}
-use Rattle.sg_law.proofs.Members.{all_in, in_flat, in_map}
-use Rattle.sg_law.proofs.Upto.{In, in_from_Contains}
 use Rattle.sg_model.specs.Last.{last}
 use Rattle.sg_protocol.specs.Graph.{Graph}
 use Rattle.sg_protocol.specs.Frame.{Cast, Frame}
@@ -34,13 +34,6 @@ use Rattle.sg_protocol.specs.GoesOn.{IsAtEnd, WasAbandoned, CanAct, IsUnderWay, 
 use Rattle.sg_protocol.proofs.Accepting.{LastFrame, is_accepted, never_stuck}
 use Rattle.sg_protocol.proofs.Courses.{as_begun, course, is_course, one_key_each, same_run}
 use Rattle.sg_protocol.proofs.Happenings.{run_of}
-use Rattle.sg_protocol.proofs.Splits.{in_split}
-use Rattle.sg_protocol.proofs.Whole.{find_some}
-
-in_map_back : {A B : Type 0} (f : A → B) (xs : List A) (y : B) → In (map f xs) y → (x : A) × In xs x × (f x ≡ y)
-in_map_back f [] y i = absurd i
-in_map_back f (x ∷ xs) y (inl e) = (x, inl refl, sym e)
-in_map_back f (x ∷ xs) y (inr i) = let r = in_map_back f xs y i in (r.0, inr r.1, r.2)
 
 in_below : (n x : ℕ) → x < n → In (below n) x
 in_below n x l = go 0 n (omega arith) (omega (arith, l))
@@ -51,10 +44,6 @@ in_below n x l = go 0 n (omega arith) (omega (arith, l))
 
 at_number : (w : World) (k : ℕ) → frame_at w (suc k) ≡ slice_get (frames w) k
 at_number w k = ap (λ b. if b then None else slice_get (frames w) (suc k - 1)) (ne_eqb (suc k) 0 (λ q. omega (arith, q))) ∙ ap (slice_get (frames w)) (let e : suc k - 1 ≡ k = omega arith in e)
-
-at_length : {A : Type 0} (xs : List A) (y : A) (ys : List A) → slice_get (xs ++ y ∷ ys) (length xs) ≡ Some y
-at_length [] y ys = refl
-at_length (x ∷ xs) y ys = at_length xs y ys
 
 -- a frame that was sent is recorded
 recorded_at : (w : World) (bs : List ℕ) (to : Name) (f : Frame) → IsSentTo w.log bs to f → (number : ℕ) × (frame_at w number ≡ Some bs)
@@ -69,10 +58,10 @@ recorded_at w bs to f sent =
 has_program : (sha : Hash) (s : Schedule) (programs : List Program) → AreCompiled sha s.graphs programs → (g : Graph) → In s.graphs g → (digest : List ℕ) → graph_digest sha g ≡ digest → (r : ℕ) → r < length g.roles → (p : Program) × (program_for programs digest r ≡ Some p)
 has_program sha s programs compiled g there digest d r l =
     let i : In (parts s.graphs) (g, r) = in_flat (λ (g : Graph). map (λ r. (g, r)) (below (length g.roles))) s.graphs g (g, r) there (in_map (λ r. (g, r)) (below (length g.roles)) r (in_below (length g.roles) r l)) in
-    let b = in_map_back (λ (p : Program). (p.graph, p.role)) programs (g, r) (subst (λ z. In z (g, r)) (sym compiled.all) i) in
+    let b = map_in (λ (p : Program). (p.graph, p.role)) programs (g, r) (subst (λ z. In z (g, r)) (sym compiled.all) i) in
     let ip : IsProgram sha b.0 = all_in (IsProgram sha) programs b.0 compiled.each b.1 in
     find_some (λ (p : Program). bytes_eq p.digest digest && (p.role == r)) programs b.0 b.1
-    (and_from (bytes_eq (b.0).digest digest) ((b.0).role == r) (bytes_same (b.0).digest digest (ip.digest ∙ ap (λ (y : Graph × ℕ). graph_digest sha y.0) b.2 ∙ d)) (eq-eqb (b.0).role r (ap (λ (y : Graph × ℕ). y.1) b.2)))
+    (and_from (bytes_eq (b.0).digest digest) ((b.0).role == r) (bytes_same (b.0).digest digest (ip.digest ∙ ap (λ (y : Graph × ℕ). graph_digest sha y.0) (sym b.2) ∙ d)) (eq-eqb (b.0).role r (ap (λ (y : Graph × ℕ). y.1) (sym b.2))))
 
 module _ (sha : Hash) (hash : IsHash sha) (programs : List Program) (s : Schedule) (compiled : AreCompiled sha s.graphs programs) (sched : IsSchedule sha s) where
   abbrev w : World

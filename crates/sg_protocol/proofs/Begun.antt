@@ -18,7 +18,6 @@ use Rattle.sg_protocol.specs.Keyring.{Keyring, Program}
 use Rattle.sg_protocol.specs.Session.{Session, Took, Gave, principal, extended, new_session}
 use Rattle.sg_protocol.specs.Calls.{Refusal, ActFault, Started, Call, Start, Act, Abandon, Deliver, Answer, Happened, Abandoned, NotStarted, NotActed, NotAbandoned, StartFault, UnknownGraph, UnknownSession, BadCast, BadSession, UnknownPeer, Joined, CacheFull, SessionsFull, events_of_answer, sid_of}
 use Rattle.sg_protocol.specs.Verdict.{row, rows_of_session, decided, receipt, verdict_on, rows_of_join, rows_of_next, join_rows, next_rows, rows}
-use Rattle.sg_law.proofs.Upto.{In}
 use Rattle.sg_protocol.proofs.Moves.{row_none}
 use Rattle.sg_protocol.specs.Sending.{frame_sent}
 use Rattle.sg_protocol.specs.Acting.{rows_of_act, openings_for, answer, started, acted, sent, rows_of_start}
@@ -26,23 +25,19 @@ use Rattle.sg_protocol.specs.Notes.{Notes, notes, notes_of_start, notes_of_read,
 use Rattle.std.specs.Prelude.{Result, Ok, Err, option_and_then}
 use Rattle.sg_model.specs.Bytes.{IsBytes}
 use Rattle.sg_model.proofs.Small.{same_bytes, none_parts}
-use Rattle.sg_law.proofs.Members.{in_left}
+use Rattle.sg_model.proofs.Members.{In, in_left}
+use Rattle.sg_model.proofs.Finding.{find_passes, found_in, nil_none, find-filter}
 use Rattle.sg_protocol.specs.Reading.{read}
 use Rattle.sg_protocol.specs.Node.{Node, is_for, is_cast, stranger, session_with, session_for, has_joined, program_for, starter}
 use Rattle.sg_protocol.specs.NodeAfter.{node_after, joined, goes_on, replace, still, takes_read}
 use Rattle.sg_protocol.specs.Frame as Frame'
-use Rattle.sg_protocol.proofs.Isolation.{of_sid, find-filter, replace-other, replace-own, still-other}
 use Rattle.sg_protocol.proofs.TextLaws.{cast_fits}
 use Rattle.sg_protocol.proofs.ReadBack.{read-SpellsFrame}
 use Rattle.sg_protocol.specs.Run.{cast_in}
 use Rattle.sg_protocol.proofs.Happenings.{IsGiven, cast_given}
-use Rattle.sg_protocol.proofs.Finding.{find_passes}
-use Rattle.sg_protocol.proofs.Whole.{found_in}
+use Rattle.sg_protocol.proofs.OfSid.{of_sid, replace-other, replace-own, still-other, for_sid}
 use Rattle.std.specs.Result.{result_ok}
 use Rattle.std.proofs.lemmas.List.Elements.{filter-append}
-
-nil_none : {A : Type 0} (p : A → Bool) (xs : List A) → xs ≡ [] → find p xs ≡ None
-nil_none p xs e = ap (find p) e
 
 module _ (sha : Hash) (sid : List ℕ) where
   pub record BegunBy (n : Node) (c : Call) (a : Answer) (nts : Notes) : Type 0 where
@@ -148,14 +143,11 @@ module _ (sha : Hash) (sid : List ℕ) where
             (by_program h x (same_bytes x.sid sid0 (find_passes (λ (z : Session). bytes_eq z.sid sid0) n.live x e)) (program_for n.programs x.cast.graph x.role))
 
     module _ (bs : List ℕ) (f : Frame) (spelled : HasSpelling f) (is_read : read bs ≡ Ok f) where
-      for_sid : (z : Session) → is_for f z ≡ true → z.sid ≡ f.sid
-      for_sid z e = same_bytes z.sid f.sid (and_parts _ (z.role == f.receiver) (and_parts _ (z.cast.version == f.version) e).0).0
-
       abbrev nexts : Option Cast → Node
       nexts o = option_map_or (λ c. joined n (extended (new_session f.sid c f.receiver) (Took f))) o (goes_on n (is_for f) (λ z. still n.programs (extended z (Took f))))
 
       other_quiet : bytes_eq f.sid sid ≡ false → (o : Option Cast) → filter (of_sid sid) (nexts o).live ≡ []
-      other_quiet h None = replace-other (is_for f) (λ z. still n.programs (extended z (Took f))) (λ z e. subst (λ y. bytes_eq y sid ≡ false) (sym (for_sid z e)) h) (λ z e. still-other sid n.programs (extended z (Took f)) (subst (λ y. bytes_eq y sid ≡ false) (sym (for_sid z e)) h)) n.live ∙ quiet
+      other_quiet h None = replace-other (is_for f) (λ z. still n.programs (extended z (Took f))) (λ z e. subst (λ y. bytes_eq y sid ≡ false) (sym (for_sid f z e)) h) (λ z e. still-other sid n.programs (extended z (Took f)) (subst (λ y. bytes_eq y sid ≡ false) (sym (for_sid f z e)) h)) n.live ∙ quiet
       other_quiet h (Some c) = filter-append (of_sid sid) n.live (still n.programs (extended (new_session f.sid c f.receiver) (Took f))) ∙ ap (λ l. l ++ filter (of_sid sid) (still n.programs (extended (new_session f.sid c f.receiver) (Took f)))) quiet ∙ still-other sid n.programs (extended (new_session f.sid c f.receiver) (Took f)) h
 
       join_first : first_some (rows sha n f) ≡ None → f.sid ≡ sid → (c : Cast) → f.join ≡ Some c → (p : Program) → program_for n.programs c.graph f.receiver ≡ Some p → first_some (rows_of_join sha n f c p) ≡ None → BegunBy n (Deliver bs) (Happened (receipt f)) (notes_of_read sha n (Ok f))
@@ -188,7 +180,7 @@ module _ (sha : Hash) (sid : List ℕ) where
 
       by_join : first_some (rows sha n f) ≡ None → f.sid ≡ sid → (o : Option Cast) → f.join ≡ o → BegunBy n (Deliver bs) (Happened (receipt f)) (notes_of_read sha n (Ok f))
       by_join e fs None jn =
-          (let none : session_for n.live f ≡ None = none_with (is_for f) (λ z w. (bytes_eq-Decides z.sid sid).1 (for_sid z w ∙ fs)) in
+          (let none : session_for n.live f ≡ None = none_with (is_for f) (λ z w. (bytes_eq-Decides z.sid sid).1 (for_sid f z w ∙ fs)) in
           let q : first_some (rows sha n f) ≡ Some UnknownSession = ap (λ o. first_some (option_map_or (join_rows sha n f) o (next_rows sha n f))) jn ∙ ap (λ o. first_some (option_map_or (λ z. option_map_or (rows_of_next sha n f z) (program_for n.programs z.cast.graph z.role) (Some UnknownSession ∷ [])) o (Some UnknownSession ∷ []))) none in absurd (cc))
       by_join e fs (Some c) jc = by_program e fs c jc (program_for n.programs c.graph f.receiver) refl
 

@@ -1,5 +1,5 @@
 -- How many items are shown, and how long the frames are that steps send.
-use Rattle.std.specs.Prelude.{◌≡◌, ◌≢◌, not, filter, ◌++◌, nat_lt, nat_le, AllPairs, ℕ, ◌*◌, ◌<◌, ◌≤◌, ◌==◌, true, false, if◌then◌else◌, List, [], ◌∷◌, map, length, take, flat_map, refl}
+use Rattle.std.specs.Prelude.{◌≡◌, ◌≢◌, not, filter, ◌++◌, nat_lt, nat_le, AllPairs, ℕ, ◌≤◌, ◌==◌, true, false, if◌then◌else◌, List, [], ◌∷◌, map, length, take, flat_map, refl, ◌+◌}
 use Rattle.std.specs.List.{AllByRecursion}
 use Rattle.std.proofs.Common.{sym, ◌∙◌, subst, inl, inr, arith}
 use Rattle.std.proofs.lemmas.Bool.{cases_Bool, eq-eqb, eqb-true, or_parts, and_parts}
@@ -10,21 +10,21 @@ use Rattle.std.proofs.lemmas.List.{length-append}
 use Rattle.sg_model.specs.Last.{Map, has, after_last}
 use Rattle.sg_model.specs.Last as A
 use Rattle.sg_model.specs.Values.{Opening}
-use Rattle.sg_model.specs.Bytes.{AreBytes}
 use Rattle.sg_law.proofs.Lists.{has-map}
 use Rattle.sg_protocol.specs.Frame.{Item, Frame, IsItem, IsOpening, tag_len}
 use Rattle.sg_protocol.specs.Spelling.{u8, u16, u32, pair_bytes, map_bytes, item_bytes, opening_bytes, join_bytes, join_code, magic, body, IsInRange, HasSpelling, spelling}
 use Rattle.sg_protocol.specs.Sending.{entry_of, item_of, tags_left, own_item, frame_sent}
 use Rattle.sg_protocol.specs.Graph.{Graph, shape, writes}
 use Rattle.sg_model.specs.Shape.{source, receiver}
-use Rattle.sg_model.proofs.Small.{take_most, length_map}
+use Rattle.sg_model.proofs.Small.{take_most, length_map, length-flat, all_weaker}
 use Rattle.sg_protocol.specs.Texts.{Hash, IsHash}
 use Rattle.sg_protocol.specs.Keyring.{Keyring, Program}
 use Rattle.sg_protocol.specs.Session.{Session, transcript, place, time, at_turn}
 use Rattle.sg_protocol.specs.IsSchedule.{IsProgram}
 use Rattle.sg_protocol.specs.Bounds.{ShownOnce, ShownAreFew, FramesAreShort, IsSession, IsShortFrame, SentAreShort}
 use Rattle.sg_protocol.proofs.Entries.{has-after_last}
-use Rattle.sg_protocol.proofs.Sent.{Ent, Dist, sent_spelled, all_transcript, dist_ev, has-ev, len_left, roles_below, evidence_fit, after_fit, ents_fit, pigeon, len_concat, flat33, flat1046, opening_len, join_len, item_len, flat1527}
+use Rattle.sg_protocol.proofs.Sent.{Ent, Dist, sent_spelled, all_transcript, dist_ev, has-ev, len_left, roles_below, evidence_fit, after_fit, ents_fit, pigeon, len_concat, join_len, items_len, openings_len, pairs_33}
+use Rattle.sg_protocol.proofs.TextLaws.{magic_long}
 
 -- ---- items
 
@@ -72,28 +72,16 @@ shown_are_few g v k is h a =
 
 -- ---- lengths
 
-flat1303 : {A : Type 0} (f : A → List ℕ) (xs : List A) → AllByRecursion (λ x. length (f x) ≤ 1303) xs → length (flat_map f xs) ≤ length xs * 1303
-flat1303 f [] a = omega arith
-flat1303 f (x ∷ xs) a = let l = length-append (f x) (flat_map f xs) in let m = flat1303 f xs a.1 in let h = a.0 in omega (arith, l, m, h)
-
-flat17 : {A : Type 0} (f : A → List ℕ) (xs : List A) → AllByRecursion (λ x. length (f x) ≤ 17) xs → length (flat_map f xs) ≤ length xs * 17
-flat17 f [] a = omega arith
-flat17 f (x ∷ xs) a = let l = length-append (f x) (flat_map f xs) in let m = flat17 f xs a.1 in let h = a.0 in omega (arith, l, m, h)
-
 -- an item of version 2
 short_item : (v : ℕ) (i : Item) → (v == 2) ≡ true → IsItem v i → length (item_bytes v i) ≤ 1303
 short_item v i two h =
     let c = len_concat (u8 i.role ∷ u16 i.label ∷ u32 i.time ∷ map_bytes (λ c. c) i.delta ∷ map_bytes (take (tag_len v)) i.tags ∷ []) in
-    let a = flat33 (pair_bytes (λ c. c)) i.delta (go32 i.delta h.delta) in
-    let b = flat17 (pair_bytes (take (tag_len v))) i.tags (go16 i.tags) in
+    let a = length-flat 33 (pair_bytes (λ c. c)) i.delta (pairs_33 i.delta h.delta) in
+    let b = length-flat 17 (pair_bytes (take (tag_len v))) i.tags (go16 i.tags) in
     let d = h.variables.0 in
     let e = h.roles.0 in
     omega (arith, c, a, b, d, e)
   where
-    go32 : (m : Map (List ℕ)) → AllByRecursion (λ (d : ℕ × List ℕ). (d.0 < 32) × AreBytes 32 d.1) m → AllByRecursion (λ (d : ℕ × List ℕ). length (pair_bytes (λ c. c) d) ≤ 33) m
-    go32 [] a = tt
-    go32 (d ∷ m) a = ((let l = a.0.1.0 in omega (arith, l)), go32 m a.1)
-
     sixteen : tag_len v ≡ 16
     sixteen = rw two refl
 
@@ -102,51 +90,34 @@ short_item v i two h =
     go16 (d ∷ m) = ((let k = take_most (tag_len v) d.1 in let s = sixteen in omega (arith, k, s)), go16 m)
 
 module _ (f : Frame) (h : IsInRange f) (few : length f.items ≤ 15) where
-  opens : (os : List Opening) → AllByRecursion IsOpening os → AllByRecursion (λ o. length (opening_bytes o) ≤ 1046) os
-  opens [] a = tt
-  opens (o ∷ os) a = (opening_len o a.0, opens os a.1)
-
-  four : (v : ℕ) → length (magic v) ≡ 4
-  four v = elim (cases_Bool (v == 2)) [ inl e ↦ rw e refl | inr e ↦ rw e refl ]
+  -- with items of n bytes and a tag of k at the most
+  within : (n k : ℕ) → length (flat_map (item_bytes f.version) f.items) ≤ n → tag_len f.version ≤ k → length (spelling f) ≤ n + k + 34091
+  within n k items_ tag_ =
+      let c = len_concat (magic f.version ∷ u8 (join_code f.join) ∷ f.sid ∷ u8 f.sender ∷ u8 f.receiver ∷ join_bytes f.join ∷ u16 (length f.items) ∷ flat_map (item_bytes f.version) f.items ∷ u8 (length f.openings) ∷ flat_map opening_bytes f.openings ∷ []) in
+      let d = length-append (body f) (take (tag_len f.version) f.tag) in
+      let e = take_most (tag_len f.version) f.tag in
+      let g = length-flat 1046 opening_bytes f.openings (openings_len f.openings h.openings) in
+      let i = join_len f.version f.join h.join in
+      let j = magic_long f.version in
+      let l = h.sid.0 in
+      let m = h.variables.0 in
+      omega (arith, c, d, e, g, i, j, l, m, items_, tag_)
 
   long : length (spelling f) ≤ 57028
   long =
-      let c = len_concat (magic f.version ∷ u8 (join_code f.join) ∷ f.sid ∷ u8 f.sender ∷ u8 f.receiver ∷ join_bytes f.join ∷ u16 (length f.items) ∷ flat_map (item_bytes f.version) f.items ∷ u8 (length f.openings) ∷ flat_map opening_bytes f.openings ∷ []) in
-      let d = length-append (body f) (take (tag_len f.version) f.tag) in
-      let e = most f.version in
-      let e' = take_most (tag_len f.version) f.tag in
-      let g = flat1527 (item_bytes f.version) f.items (go f.items h.items) in
-      let k = flat1046 opening_bytes f.openings (opens f.openings h.openings) in
-      let i = join_len f.version f.join h.join in
-      let j = four f.version in
-      let l = h.sid.0 in
-      let m = h.variables.0 in
-      omega (arith, c, d, e, e', g, k, i, j, l, m, few)
+      let g = length-flat 1527 (item_bytes f.version) f.items (items_len f.version f.items h.items) in
+      let a = within 22905 32 (omega (arith, g, few)) (most f.version) in
+      omega (arith, a)
     where
       most : (v : ℕ) → tag_len v ≤ 32
       most v = elim (cases_Bool (v == 2)) [ inl e ↦ rw e (omega arith) | inr e ↦ rw e (omega arith) ]
 
-      go : (is : List Item) → AllByRecursion (IsItem f.version) is → AllByRecursion (λ i. length (item_bytes f.version i) ≤ 1527) is
-      go [] a = tt
-      go (i ∷ is) a = (item_len f.version i a.0, go is a.1)
-
   short : (f.version == 2) ≡ true → length (spelling f) ≤ 53652
   short two =
-      let c = len_concat (magic f.version ∷ u8 (join_code f.join) ∷ f.sid ∷ u8 f.sender ∷ u8 f.receiver ∷ join_bytes f.join ∷ u16 (length f.items) ∷ flat_map (item_bytes f.version) f.items ∷ u8 (length f.openings) ∷ flat_map opening_bytes f.openings ∷ []) in
-      let d = length-append (body f) (take (tag_len f.version) f.tag) in
+      let g = length-flat 1303 (item_bytes f.version) f.items (all_weaker (IsItem f.version) (λ i. length (item_bytes f.version i) ≤ 1303) (λ i. short_item f.version i two) f.items h.items) in
       let e : tag_len f.version ≡ 16 = rw two refl in
-      let e' = take_most (tag_len f.version) f.tag in
-      let g = flat1303 (item_bytes f.version) f.items (go f.items h.items) in
-      let k = flat1046 opening_bytes f.openings (opens f.openings h.openings) in
-      let i = join_len f.version f.join h.join in
-      let j = four f.version in
-      let l = h.sid.0 in
-      let m = h.variables.0 in
-      omega (arith, c, d, e, e', g, k, i, j, l, m, few)
-    where
-      go : (is : List Item) → AllByRecursion (IsItem f.version) is → AllByRecursion (λ i. length (item_bytes f.version i) ≤ 1303) is
-      go [] a = tt
-      go (i ∷ is) a = (short_item f.version i two a.0, go is a.1)
+      let a = within 19545 16 (omega (arith, g, few)) (omega (arith, e)) in
+      omega (arith, a)
 
 pub frames_are_short : FramesAreShort
 frames_are_short f h few = elim (cases_Bool (f.version == 2)) [

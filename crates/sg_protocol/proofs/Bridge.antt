@@ -3,6 +3,7 @@ use Rattle.std.specs.Prelude.{◌≡◌, ℕ, suc, ◌==◌, ◌||◌, true, Lis
 use Rattle.std.proofs.Common.{sym, ◌∙◌, ap, subst, inl, inr, arith}
 use Rattle.std.proofs.lemmas.Slice.Eq.{bytes_eq-Decides}
 use Rattle.std.proofs.lemmas.Bool.{eqb-true, cases_Bool}
+use Rattle.std.proofs.lemmas.Simd.{map-map}
 use Rattle.sg_model.specs.Last.{has, last_of, after_last, up_to_last, Entry, evidence_for}
 use Rattle.sg_model.specs.Shape.{sender}
 use Rattle.sg_model.proofs.Small.{and_left, and_right}
@@ -27,10 +28,6 @@ steps-after_last {K = K} {A = A} role k (x ∷ xs) =
       | inl e ↦ rw e (steps-after_last role k xs)
       | inr e ↦ rw e (elim (cases_Bool (role x.step == k)) [ inl f ↦ rw f refl | inr f ↦ rw f refl ])
     ])
-
-map-map : {A B C : Type 0} (f : A → B) (h : B → C) (xs : List A) → map h (map f xs) ≡ map (λ x. h (f x)) xs
-map-map f h [] = refl
-map-map f h (x ∷ xs) = ap (λ l. h (f x) ∷ l) (map-map f h xs)
 
 steps-walked : (g : Graph) (es : List ℕ) → map (λ (y : Entry ℕ (Unit {0})). y.step) (walked g es) ≡ es
 steps-walked g [] = refl

@@ -1,63 +1,21 @@
 -- The first break of each assumption.
-use Rattle.std.specs.Prelude.{◌≡◌, ◌≢◌, ℕ, ◌<◌, ◌⊎◌, Bool, true, false, not, ◌&&◌, nat_lt, List, [], ◌∷◌, ◌++◌, map, flat_map, find, bytes_eq, refl, Option, Some, None, option_map, All}
+use Rattle.std.specs.Prelude.{◌≡◌, ◌≢◌, ℕ, ◌<◌, ◌⊎◌, Bool, true, false, not, ◌&&◌, nat_lt, List, [], ◌∷◌, ◌++◌, map, find, bytes_eq, refl, Option, Some, None, option_map}
 use Rattle.std.specs.List.{list_any}
 use Rattle.std.specs.Option.{option_or}
 use Rattle.std.proofs.Common.{sym, ◌∙◌, ap, subst, inl, inr, arith, append_assoc, append-nil}
 use Rattle.std.proofs.lemmas.Bool.{cases_Bool, and_from, and_parts, not-true}
 use Rattle.std.proofs.lemmas.Bool.Decides.{nat_tests}
-use Rattle.std.proofs.lemmas.List.Elements.{All-nil, All-cons}
 use Rattle.sg_model.proofs.Small.{clash, same_bytes, bytes_same}
-use Rattle.sg_law.proofs.Members.{in_left, in_right, in_parts, in_map, in_flat}
+use Rattle.sg_model.proofs.Members.{In, in_from_Contains, contains_from_in, in_left, in_right, in_parts, in_map, in_flat, map_in, flat_in, all_of}
+use Rattle.sg_model.proofs.Finding.{find_none, none_find, any_in, in_any}
 use Rattle.sg_protocol.specs.Texts.{Hash}
 use Rattle.sg_protocol.specs.Notes.{Note}
 use Rattle.sg_protocol.specs.Schedule.{Schedule, is_honest}
 use Rattle.sg_protocol.specs.World.{Logged, World}
 use Rattle.sg_protocol.specs.Premises.{MadeBefore, Unforged, CollisionFree}
 use Rattle.sg_protocol.specs.Broken.{same_note, was_made_before, is_forged, found_notes, first_forged, IsForged, IsFirstForged, ForgedIsFirst, collide, collision_after, first_collision, IsFirstCollision, CollisionIsFirst}
-use Rattle.sg_law.proofs.Upto.{In, in_from_Contains}
-use Rattle.sg_law.proofs.Take.{contains_from_in}
 
 -- ---- lists
-
-any_in : {A : Type 0} (p : A → Bool) (xs : List A) → list_any p xs ≡ true → (x : A) × In xs x × (p x ≡ true)
-any_in p [] h = absurd (let z : false ≡ true = h in cc)
-any_in p (x ∷ xs) h = elim (cases_Bool (p x)) [
-  | inl e ↦ (x, inl refl, e)
-  | inr e ↦ let r = any_in p xs (rw e at h) in (r.0, inr r.1, r.2)
-]
-
-in_any : {A : Type 0} (p : A → Bool) (xs : List A) (x : A) → In xs x → p x ≡ true → list_any p xs ≡ true
-in_any p [] x i h = absurd i
-in_any p (y ∷ xs) x (inl e) h = rw (ap p (sym e) ∙ h) refl
-in_any p (y ∷ xs) x (inr i) h = elim (cases_Bool (p y)) [ inl e ↦ rw e refl | inr e ↦ rw e (in_any p xs x i h) ]
-
-all_in : {A : Type 0} (P : A → Type 0) (xs : List A) → ((x : A) → In xs x → P x) → All P xs
-all_in P [] h = All-nil P
-all_in P (x ∷ xs) h = All-cons P x xs (h x (inl refl)) (all_in P xs (λ y i. h y (inr i)))
-
-map_in : {A B : Type 0} (f : A → B) (xs : List A) (y : B) → In (map f xs) y → (x : A) × In xs x × (y ≡ f x)
-map_in f [] y i = absurd i
-map_in f (x ∷ xs) y (inl e) = (x, inl refl, e)
-map_in f (x ∷ xs) y (inr i) = let r = map_in f xs y i in (r.0, inr r.1, r.2)
-
-flat_in : {A B : Type 0} (f : A → List B) (xs : List A) (y : B) → In (flat_map f xs) y → (x : A) × In xs x × In (f x) y
-flat_in f [] y i = absurd i
-flat_in f (x ∷ xs) y i = elim (in_parts (f x) (flat_map f xs) y i) [
-  | inl j ↦ (x, inl refl, j)
-  | inr j ↦ let r = flat_in f xs y j in (r.0, inr r.1, r.2)
-]
-
--- nothing passes
-find_none : {A : Type 0} (p : A → Bool) (xs : List A) (x : A) → find p xs ≡ None → In xs x → p x ≡ false
-find_none p [] x h i = absurd i
-find_none p (y ∷ xs) x h i = elim (cases_Bool (p y)) [
-  | inl e ↦ absurd (let z : Some y ≡ None = (rw e at h) in cc)
-  | inr e ↦ elim i [ inl q ↦ ap p q ∙ e | inr j ↦ find_none p xs x (rw e at h) j ]
-]
-
-none_find : {A : Type 0} (p : A → Bool) (xs : List A) → ((x : A) → In xs x → p x ≡ false) → find p xs ≡ None
-none_find p [] h = refl
-none_find p (y ∷ xs) h = rw (h y (inl refl)) (none_find p xs (λ x i. h x (inr i)))
 
 -- the first that passes, with what stands around it
 record Found {A : Type 0} (p : A → Bool) (xs : List A) (x : A) : Type 0 where
@@ -156,7 +114,7 @@ forged_is_first s w = ((forged_none s w, none_forged s w), first)
           after = r.after;
           is_found = r.parts;
           forged = forged_is s w step note r.passes;
-          first = all_in (λ (x : ℕ × Note). IsForged s w x.0 x.1 → ⊥) r.before (λ x i. unforged_is s w x.0 x.1 (r.first x i));
+          first = all_of (λ (x : ℕ × Note). IsForged s w x.0 x.1 → ⊥) r.before (λ x i. unforged_is s w x.0 x.1 (r.first x i));
         }
 
 -- ---- two texts with one hash
@@ -219,7 +177,7 @@ first_of sha before (b ∷ bs) free one other h = on (find (λ a. collide sha a 
               same = c.0;
               differ = c.1;
               later_first = subst (CollisionFree sha) r.parts free;
-              earlier_first = all_in (λ a. sha a ≡ sha b → a ≡ b) r.before (λ x i. collide_not sha x b (r.first x i));
+              earlier_first = all_of (λ a. sha a ≡ sha b → a ≡ b) r.before (λ x i. collide_not sha x b (r.first x i));
             }
 
 free_none : (sha : Hash) (texts : List (List ℕ)) → CollisionFree sha texts → first_collision sha texts ≡ None

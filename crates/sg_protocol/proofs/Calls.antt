@@ -27,26 +27,22 @@ use Rattle.sg_protocol.specs.LastSteps.{exchanges_of, sent_item}
 use Rattle.sg_law.specs.Run as R
 use Rattle.sg_law.specs.Values.{State, SentItem, Move, Commit}
 use Rattle.sg_law.specs.Values.Move.{Takes}
-use Rattle.sg_law.proofs.Upto.{In}
 use Rattle.sg_protocol.proofs.Entries.{entry, entries, Roles}
 use Rattle.sg_protocol.proofs.Moves.{step, NoteOk, Matches}
 use Rattle.sg_model.specs.Lists.{keys_of}
 use Rattle.sg_protocol.specs.Acting.{openings_for}
 use Rattle.std.specs.Prelude.{Ok}
-use Rattle.sg_model.proofs.Small.{clash}
+use Rattle.sg_model.proofs.Small.{clash, first_false}
+use Rattle.sg_model.proofs.Members.{In}
 use Rattle.sg_protocol.specs.Reading.{read}
 use Rattle.sg_protocol.specs.Node.{Node, has_joined, program_for, starter}
 use Rattle.sg_protocol.specs.NodeAfter.{node_after, still, is_over}
 use Rattle.sg_law.specs.Values.{AllMay, moved_all, deed_of, all_openings}
 use Rattle.sg_protocol.proofs.Paths.{acts_of, TypedDeed}
-use Rattle.sg_protocol.proofs.Isolation.{of_sid}
 use Rattle.sg_protocol.proofs.KnownSession.{SessionOfCast}
 use Rattle.sg_protocol.proofs.Takes as T
 use Rattle.sg_protocol.proofs.Acts as C
-
-of_quiet : (b : Bool) → (b || false) ≡ false → b ≡ false
-of_quiet true h = absurd (cc)
-of_quiet false h = refl
+use Rattle.sg_protocol.proofs.OfSid.{of_sid}
 
 module _ (sid : List ℕ) where
   -- the items of the session that role r took or gave in a call
@@ -65,12 +61,12 @@ module _ (sid : List ℕ) where
   quiet_event e h = rw h refl
 
   pub quiet_transcript : (r : ℕ) (c : Call) (a : Answer) → Quiet a → transcript_in r c a ≡ []
-  quiet_transcript r c (Happened e) q = rw (of_quiet (bytes_eq (sid_of e) sid) q) refl
-  quiet_transcript r c (Sends e to f) q = rw (of_quiet (bytes_eq (sid_of e) sid) q) refl
+  quiet_transcript r c (Happened e) q = rw (first_false (bytes_eq (sid_of e) sid) false q) refl
+  quiet_transcript r c (Sends e to f) q = rw (first_false (bytes_eq (sid_of e) sid) false q) refl
   quiet_transcript r c other q = refl
 
   pub quiet_items : (a : Answer) → Quiet a → sent_in a ≡ []
-  quiet_items (Sends e to f) q = rw (of_quiet (bytes_eq (sid_of e) sid) q) refl
+  quiet_items (Sends e to f) q = rw (first_false (bytes_eq (sid_of e) sid) false q) refl
   quiet_items other q = refl
 
   -- the call took a frame of the session
@@ -82,7 +78,7 @@ module _ (sid : List ℕ) where
     pub is_sid : f.sid ≡ sid
 
   pub quiet_took : (c : Call) (a : Answer) (f : Frame) → Quiet a → TookFrame c a f → ⊥
-  quiet_took c a f q t = clash (bytes_eq f.sid sid) ((bytes_eq-Decides f.sid sid).1 t.is_sid) (of_quiet (bytes_eq f.sid sid) (subst Quiet t.is_answer q))
+  quiet_took c a f q t = clash (bytes_eq f.sid sid) ((bytes_eq-Decides f.sid sid).1 t.is_sid) (first_false (bytes_eq f.sid sid) false (subst Quiet t.is_answer q))
 
   -- nothing became of the session
   pub record Unmoved (n n' : Node) (a : Answer) : Type 0 where

@@ -3,10 +3,8 @@ use Rattle.std.specs.Prelude.{◌≡◌, ◌≢◌, ℕ, ◌+◌, true, All, Lis
 use Rattle.std.specs.List.{AllByRecursion}
 use Rattle.std.specs.Option.{option_map_or}
 use Rattle.std.proofs.Common.{sym, ◌∙◌, ap, subst, inl, inr}
-use Rattle.std.proofs.lemmas.List.Elements.{All-head, All-tail, All-from_recursion, recursion_from_All}
+use Rattle.std.proofs.lemmas.List.Elements.{All-head, All-tail, recursion_from_All}
 use Rattle.sg_model.specs.Names.{Name}
-use Rattle.sg_law.proofs.Members.{all_in}
-use Rattle.sg_law.proofs.Upto.{In}
 use Rattle.sg_protocol.specs.Graph.{IsGraph}
 use Rattle.sg_protocol.specs.Spelling.{spelling}
 use Rattle.sg_protocol.specs.Texts.{Hash, IsHash}
@@ -18,11 +16,11 @@ use Rattle.sg_protocol.specs.World.{World, Crafted, NoFrame, keyring_of, past_of
 use Rattle.sg_protocol.specs.Run.{called, called_if, world_after, world_after_all, run}
 use Rattle.sg_protocol.specs.Crafted.{crafted}
 use Rattle.sg_protocol.specs.IsSchedule.{AreCompiled, IsPairKey, IsProgram, IsSchedule, IsStep}
-use Rattle.sg_protocol.proofs.Acts as C
 use Rattle.sg_protocol.proofs.Fits.{Fit, fit_new, fit_next, call_given}
 use Rattle.sg_protocol.proofs.Happenings.{Happening, Asked, Idle, IsCourse, IsGiven, IsRight, Own, HaveOneKey, happens, all_happen, key_at, key_kept, keep_course, pasts_kept, run_of}
 use Rattle.sg_protocol.proofs.LiveSessions.{key_same}
 use Rattle.sg_protocol.proofs.Whole.{first_past, has_past, new_past, program_graph}
+use Rattle.sg_model.proofs.Members.{In, all_in, map_in, all_of}
 
 -- ---- what happens at a step
 
@@ -109,8 +107,8 @@ module _ (sha : Hash) (hash : IsHash sha) (programs : List Program) (s : Schedul
   pub is_course : IsCourse sha s (new_world programs s).pasts (course_from sha s (new_world programs s) 1 s.steps)
   is_course = record {
     graphs = recursion_from_All IsGraph s.graphs sched.are_graphs;
-    own = λ p i. let r = C.of_map (new_past s.keys programs) s.honest p i in subst (λ (z : Past). Own sha s z.programs) (sym r.1) (own_programs programs (λ q j. j));
-    calls = λ p i. ap (λ (z : Past). z.calls) (C.of_map (new_past s.keys programs) s.honest p i).1;
+    own = λ p i. let r = map_in (new_past s.keys programs) s.honest p i in subst (λ (z : Past). Own sha s z.programs) (sym r.2) (own_programs programs (λ q j. j));
+    calls = λ p i. ap (λ (z : Past). z.calls) (map_in (new_past s.keys programs) s.honest p i).2;
     honest = λ who p e. (first_past s.keys programs s.honest who p e).1;
     there = has_past s.keys programs s.honest;
     right = all_right (new_world programs s) 1 s.steps (fit_new sha hash programs s compiled sched) (recursion_from_All (IsStep sha s) s.steps sched.steps);
@@ -137,11 +135,4 @@ module _ (sha : Hash) (hash : IsHash sha) (programs : List Program) (s : Schedul
   one_key a b h i = key_is a b h ∙ key_same s.keys (pairs_apart s.keys sched.keys) a b ∙ sym (key_is b a i)
 
   pub one_key_each : (names : List Name) → All (λ n. is_honest s n ≡ true) names → All (λ a. All (HaveOneKey (run_of sha (new_world programs s).pasts course) a) names) names
-  one_key_each names all = each names (λ a i. each names (λ b j. one_key a b (all_in (λ n. is_honest s n ≡ true) names a all i) (all_in (λ n. is_honest s n ≡ true) names b all j)))
-    where
-      each : {P : Name → Type 0} (xs : List Name) → ((x : Name) → In xs x → P x) → All P xs
-      each {P = P} xs f = All-from_recursion P xs (go xs f)
-        where
-          go : (ys : List Name) → ((x : Name) → In ys x → P x) → AllByRecursion P ys
-          go [] f = tt
-          go (y ∷ ys) f = (f y (inl refl), go ys (λ x i. f x (inr i)))
+  one_key_each names all = all_of _ names (λ a i. all_of _ names (λ b j. one_key a b (all_in (λ n. is_honest s n ≡ true) names a all i) (all_in (λ n. is_honest s n ≡ true) names b all j)))

@@ -31,7 +31,6 @@ use Rattle.sg_law.specs.Values as V
 use Rattle.sg_law.specs.Values.{State, Commit, moved, MayTake}
 use Rattle.sg_law.specs.Values.Move.{Takes}
 use Rattle.sg_law.specs.Values.Deed.{ReadAlong}
-use Rattle.sg_law.proofs.Upto.{In}
 use Rattle.sg_law.proofs.Cut.{last-option_map}
 use Rattle.sg_protocol.proofs.Bridge.{has_view-Contains}
 use Rattle.sg_protocol.proofs.Entries.{entry, entries, Roles}
@@ -40,22 +39,23 @@ use Rattle.sg_protocol.specs.Acting.{answer}
 use Rattle.std.specs.Prelude.{Result, Ok, Err, option_and_then}
 use Rattle.sg_model.specs.Bytes.{IsBytes}
 use Rattle.sg_model.proofs.Small.{none_parts, same_bytes}
-use Rattle.sg_law.proofs.Members.{in_left, in_right, in_map}
+use Rattle.sg_model.proofs.Members.{In, in_left, in_right, in_map}
+use Rattle.sg_model.proofs.Finding.{find_passes}
 use Rattle.sg_protocol.specs.Reading.{read}
 use Rattle.sg_protocol.specs.Node.{Node, is_for, is_cast, stranger, session_for, has_joined, program_for}
 use Rattle.sg_protocol.specs.NodeAfter.{node_after, joined, goes_on, still, takes_read}
 use Rattle.sg_protocol.specs.Walk as Walk'
 use Rattle.sg_protocol.specs.Frame as Frame'
 use Rattle.sg_protocol.proofs.Paths.{acts_of}
-use Rattle.sg_protocol.proofs.Isolation.{of_sid, replace-other, still-own, still-other}
 use Rattle.sg_protocol.proofs.TextLaws.{cast_fits, opening_fits}
 use Rattle.sg_protocol.proofs.ReadBack.{read-SpellsFrame}
 use Rattle.sg_protocol.proofs.Entries.{not_start}
 use Rattle.sg_protocol.proofs.KnownSession.{SessionOfCast}
 use Rattle.sg_protocol.proofs.Takes as T
-use Rattle.sg_protocol.proofs.Finding.{one_index, joined_more, joined_less, joined_now, find_passes}
+use Rattle.sg_protocol.proofs.Finding.{one_index, joined_more, joined_less, joined_now}
 use Rattle.sg_protocol.proofs.Calls.{transcript_in, quiet_event, Fresh, NodeOk, TakesFrame, Out}
 use Rattle.sg_protocol.proofs.AfterCalls.{still_lengths, replace_lengths, cast_parts, event_other, joined_other, kept_takes, new_matches, transcript_step, join_now, goes_now, join_status, goes_status, other_status, nothing, no_two, joined_ok, other_joined, the_session}
+use Rattle.sg_protocol.proofs.OfSid.{of_sid, replace-other, still-own, still-other, for_sid}
 
 ok_same : (r : Result Frame ℕ) (f f' : Frame) → r ≡ Ok f → r ≡ Ok f' → f ≡ f'
 ok_same r f f' a b = cc
@@ -247,21 +247,18 @@ module _ {sha : Hash} {programs : List Program} {sid : List ℕ} {cast : Cast} {
       abbrev nexts : Option Cast → Node
       nexts o = option_map_or (λ c. joined n (extended (new_session f.sid c f.receiver) (Took f))) o (goes_on n (is_for f) took)
 
-      for_sid : (z : Session) → is_for f z ≡ true → z.sid ≡ f.sid
-      for_sid z e = same_bytes z.sid f.sid (and_parts _ (z.role == f.receiver) (and_parts _ (z.cast.version == f.version) e).0).0
-
       other_node : bytes_eq f.sid sid ≡ false → (o : Option Cast) → NodeOk known s LeftBy st who (nexts o)
       other_node h (Some c) = other_joined known s LeftBy st who n ok (extended (new_session f.sid c f.receiver) (Took f)) h spelled.fields.sid.0
       other_node h None = record {
         me = ok.me;
         has_programs = ok.has_programs;
         lengths = replace_lengths (is_for f) took n.live (λ z l. still_lengths n.programs (extended z (Took f)) l) ok.lengths;
-        status = other_status known s LeftBy st who n (goes_on n (is_for f) took) (replace-other (is_for f) took (λ z e. subst (λ y. bytes_eq y sid ≡ false) (sym (for_sid z e)) h) (λ z e. still-other sid n.programs (extended z (Took f)) (subst (λ y. bytes_eq y sid ≡ false) (sym (for_sid z e)) h)) n.live) (λ r j. j) ok.status;
+        status = other_status known s LeftBy st who n (goes_on n (is_for f) took) (replace-other (is_for f) took (λ z e. subst (λ y. bytes_eq y sid ≡ false) (sym (for_sid f z e)) h) (λ z e. still-other sid n.programs (extended z (Took f)) (subst (λ y. bytes_eq y sid ≡ false) (sym (for_sid f z e)) h)) n.live) (λ r j. j) ok.status;
       }
 
       other_live : bytes_eq f.sid sid ≡ false → (o : Option Cast) → filter (of_sid sid) (nexts o).live ≡ filter (of_sid sid) n.live
       other_live h (Some c) = joined_other sid n (extended (new_session f.sid c f.receiver) (Took f)) h
-      other_live h None = replace-other (is_for f) took (λ z e. subst (λ y. bytes_eq y sid ≡ false) (sym (for_sid z e)) h) (λ z e. still-other sid n.programs (extended z (Took f)) (subst (λ y. bytes_eq y sid ≡ false) (sym (for_sid z e)) h)) n.live
+      other_live h None = replace-other (is_for f) took (λ z e. subst (λ y. bytes_eq y sid ≡ false) (sym (for_sid f z e)) h) (λ z e. still-other sid n.programs (extended z (Took f)) (subst (λ y. bytes_eq y sid ≡ false) (sym (for_sid f z e)) h)) n.live
 
       other_joins : (r : ℕ) → has_joined n.joins sid r ≡ true → (o : Option Cast) → has_joined (nexts o).joins sid r ≡ true
       other_joins r j (Some c) = joined_more n.joins (f.sid, f.receiver) sid r j
@@ -323,7 +320,7 @@ module _ {sha : Hash} {programs : List Program} {sid : List ℕ} {cast : Cast} {
 
       next_done : first_some (rows sha n f) ≡ None → f.sid ≡ sid → f.join ≡ None → (x : Session) → session_for n.live f ≡ Some x → (p : Program) → program_for n.programs x.cast.graph x.role ≡ Some p → first_some (rows_of_next sha n f x p) ≡ None → Out known s LeftBy st who n (Deliver bs) (Happened (receipt f)) (notes_of_read sha n (Ok f))
       next_done e fs jn x sx p px rn =
-          let own : (z : Session) → is_for f z ≡ true → of_sid sid z ≡ true = λ z w. (bytes_eq-Decides z.sid sid).1 (for_sid z w ∙ fs) in
+          let own : (z : Session) → is_for f z ≡ true → of_sid sid z ≡ true = λ z w. (bytes_eq-Decides z.sid sid).1 (for_sid f z w ∙ fs) in
           let h = the_session known s LeftBy st who n ok (is_for f) own x sx in
           let m : Matches g sid cast st who x = subst (Matches g sid cast st who) (sym h.1) (h.0).matches in
           let pr = prog x.role p (subst (λ ps. program_for ps cast.graph x.role ≡ Some p) ok.has_programs (subst (λ (c : Cast). program_for n.programs c.graph x.role ≡ Some p) m.same_cast px)) in
@@ -352,15 +349,12 @@ module _ {sha : Hash} {programs : List Program} {sid : List ℕ} {cast : Cast} {
       join_program e fs c jc None pc = (let q : first_some (rows sha n f) ≡ Some UnknownGraph = ap (λ o. first_some (option_map_or (join_rows sha n f) o (next_rows sha n f))) jc ∙ ap (λ o. first_some (option_map_or (rows_of_join sha n f c) o (Some UnknownGraph ∷ []))) pc in absurd (cc))
       join_program e fs c jc (Some p) pc = join_done e fs c jc p pc (sym (ap (λ o. first_some (option_map_or (join_rows sha n f) o (next_rows sha n f))) jc ∙ ap (λ o. first_some (option_map_or (rows_of_join sha n f c) o (Some UnknownGraph ∷ []))) pc) ∙ e)
 
+      next_rows_are : (x : Session) → f.join ≡ None → session_for n.live f ≡ Some x → first_some (rows sha n f) ≡ first_some (option_map_or (rows_of_next sha n f x) (program_for n.programs x.cast.graph x.role) (Some UnknownSession ∷ []))
+      next_rows_are x jn sx = ap (λ o. first_some (option_map_or (join_rows sha n f) o (next_rows sha n f))) jn ∙ ap (λ o. first_some (option_map_or (λ z. option_map_or (rows_of_next sha n f z) (program_for n.programs z.cast.graph z.role) (Some UnknownSession ∷ [])) o (Some UnknownSession ∷ []))) sx
+
       next_program : first_some (rows sha n f) ≡ None → f.sid ≡ sid → f.join ≡ None → (x : Session) → session_for n.live f ≡ Some x → (o : Option Program) → program_for n.programs x.cast.graph x.role ≡ o → Out known s LeftBy st who n (Deliver bs) (Happened (receipt f)) (notes_of_read sha n (Ok f))
       next_program e fs jn x sx None px = (let q : first_some (rows sha n f) ≡ Some UnknownSession = next_rows_are x jn sx ∙ ap (λ o. first_some (option_map_or (rows_of_next sha n f x) o (Some UnknownSession ∷ []))) px in absurd (cc))
-        where
-          next_rows_are : (x : Session) → f.join ≡ None → session_for n.live f ≡ Some x → first_some (rows sha n f) ≡ first_some (option_map_or (rows_of_next sha n f x) (program_for n.programs x.cast.graph x.role) (Some UnknownSession ∷ []))
-          next_rows_are x jn sx = ap (λ o. first_some (option_map_or (join_rows sha n f) o (next_rows sha n f))) jn ∙ ap (λ o. first_some (option_map_or (λ z. option_map_or (rows_of_next sha n f z) (program_for n.programs z.cast.graph z.role) (Some UnknownSession ∷ [])) o (Some UnknownSession ∷ []))) sx
       next_program e fs jn x sx (Some p) px = next_done e fs jn x sx p px (sym (next_rows_are x jn sx ∙ ap (λ o. first_some (option_map_or (rows_of_next sha n f x) o (Some UnknownSession ∷ []))) px) ∙ e)
-        where
-          next_rows_are : (x : Session) → f.join ≡ None → session_for n.live f ≡ Some x → first_some (rows sha n f) ≡ first_some (option_map_or (rows_of_next sha n f x) (program_for n.programs x.cast.graph x.role) (Some UnknownSession ∷ []))
-          next_rows_are x jn sx = ap (λ o. first_some (option_map_or (join_rows sha n f) o (next_rows sha n f))) jn ∙ ap (λ o. first_some (option_map_or (λ z. option_map_or (rows_of_next sha n f z) (program_for n.programs z.cast.graph z.role) (Some UnknownSession ∷ [])) o (Some UnknownSession ∷ []))) sx
 
       next_session : first_some (rows sha n f) ≡ None → f.sid ≡ sid → f.join ≡ None → (o : Option Session) → session_for n.live f ≡ o → Out known s LeftBy st who n (Deliver bs) (Happened (receipt f)) (notes_of_read sha n (Ok f))
       next_session e fs jn None sx = (let q : first_some (rows sha n f) ≡ Some UnknownSession = ap (λ o. first_some (option_map_or (join_rows sha n f) o (next_rows sha n f))) jn ∙ ap (λ o. first_some (option_map_or (λ z. option_map_or (rows_of_next sha n f z) (program_for n.programs z.cast.graph z.role) (Some UnknownSession ∷ [])) o (Some UnknownSession ∷ []))) sx in absurd (cc))

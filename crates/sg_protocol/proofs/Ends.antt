@@ -3,10 +3,9 @@ use Rattle.std.specs.Prelude.{◌≡◌, ℕ, ◌<◌, ◌==◌, ◌⊎◌, true
 use Rattle.std.specs.Option.{option_or}
 use Rattle.std.proofs.Common.{sym, ◌∙◌, ap, subst, inl, inr, arith}
 use Rattle.std.proofs.lemmas.Bool.{cases_Bool}
-use Rattle.sg_model.specs.Last.{Map, has, last, last_or, last_of, after_last, up_to_last}
+use Rattle.sg_model.specs.Last.{Map, has, last, last_or, after_last}
 use Rattle.sg_model.specs.Lists.{value_at, in_order, below}
 use Rattle.sg_model.specs.Shape.{end_of, target}
-use Rattle.sg_model.specs.Values.{Opening}
 use Rattle.sg_protocol.specs.Graph.{Graph, shape}
 use Rattle.sg_protocol.specs.Frame.{Item}
 use Rattle.sg_protocol.specs.Session.{Session, Exchange, openings_of, transcript, time, place, last_label, last_time, committed, commitments, opening_in, last_opening}
@@ -17,6 +16,7 @@ use Rattle.sg_model.proofs.Small.{cases_Option, no_last, range_same}
 use Rattle.sg_law.proofs.Upto as Upto'
 use Rattle.sg_law.proofs.Cut.{split_end}
 use Rattle.sg_law.proofs.Walks.{end_of-last}
+use Rattle.sg_law.proofs.Com.{option_or-none, option_or-assoc}
 use Rattle.sg_protocol.proofs.Reduced.{by_role, tags_but, lead, left_by, reduced, has-reduced, committed_reduced}
 
 pub tags_all : (ts : Map (List ℕ)) → tags_but [] ts ≡ ts
@@ -27,28 +27,12 @@ pub below_same : {A : Type 0} (f h : ℕ → A) (n : ℕ) → ((x : ℕ) → x <
 below_same f h n e = range_same f h 0 n (λ x l. e x (omega (arith, l)))
 
 pub committed-append : (x : ℕ) (xs ys : List Item) → committed x (xs ++ ys) ≡ option_or (committed x ys) (committed x xs)
-committed-append x [] ys = go (committed x ys)
-  where
-    go : (o : Option (List ℕ)) → o ≡ option_or o None
-    go None = refl
-    go (Some c) = refl
-committed-append x (i ∷ xs) ys = ap (λ o. option_or o (value_at i.delta x)) (committed-append x xs ys) ∙ assoc (committed x ys) (committed x xs) (value_at i.delta x)
-  where
-    assoc : (a b c : Option (List ℕ)) → option_or (option_or a b) c ≡ option_or a (option_or b c)
-    assoc None b c = refl
-    assoc (Some a) b c = refl
+committed-append x [] ys = sym (option_or-none (committed x ys))
+committed-append x (i ∷ xs) ys = ap (λ o. option_or o (value_at i.delta x)) (committed-append x xs ys) ∙ option_or-assoc (committed x ys) (committed x xs) (value_at i.delta x)
 
 pub last_opening-append : (x : ℕ) (es : List Exchange) (e : Exchange) → last_opening x (es ++ e ∷ []) ≡ option_or (opening_in (openings_of e) x) (last_opening x es)
-last_opening-append x [] e = go (opening_in (openings_of e) x)
-  where
-    go : (o : Option Opening) → o ≡ option_or o None
-    go None = refl
-    go (Some c) = refl
-last_opening-append x (d ∷ es) e = ap (λ o. option_or o (opening_in (openings_of d) x)) (last_opening-append x es e) ∙ assoc (opening_in (openings_of e) x) (last_opening x es) (opening_in (openings_of d) x)
-  where
-    assoc : (a b c : Option Opening) → option_or (option_or a b) c ≡ option_or a (option_or b c)
-    assoc None b c = refl
-    assoc (Some a) b c = refl
+last_opening-append x [] e = sym (option_or-none (opening_in (openings_of e) x))
+last_opening-append x (d ∷ es) e = ap (λ o. option_or o (opening_in (openings_of d) x)) (last_opening-append x es e) ∙ option_or-assoc (opening_in (openings_of e) x) (last_opening x es) (opening_in (openings_of d) x)
 
 -- the labels of items
 abbrev pub labels : List Item → List ℕ

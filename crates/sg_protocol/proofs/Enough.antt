@@ -9,9 +9,10 @@ use Rattle.sg_model.specs.Lists.{below, first_some, same_text, value_at}
 use Rattle.sg_model.specs.Shape.{sender, receiver, target, role_at, source}
 use Rattle.sg_model.specs.Values.{Value, Opening}
 use Rattle.sg_model.proofs.Evidence.{evidence_again, evidence_since, has-evidence}
-use Rattle.sg_model.proofs.Small.{same_bytes, range_same, range_at, or_true, or_false}
+use Rattle.sg_model.proofs.Small.{same_bytes, range_same, range_at, or_true, or_false, map_same, all_weaker}
+use Rattle.sg_model.proofs.Finding.{find_same}
 use Rattle.sg_law.proofs.Lists.{has-append, has-map, last-append}
-use Rattle.sg_law.proofs.Com.{option_or-assoc}
+use Rattle.sg_law.proofs.Com.{option_or-assoc, option_or-none}
 use Rattle.sg_protocol.specs.Graph.{Graph, IsGraph, shape, reads}
 use Rattle.sg_protocol.specs.Evidence.{has_view}
 use Rattle.sg_protocol.specs.Frame.{Cast, Item, Frame}
@@ -28,7 +29,7 @@ use Rattle.sg_protocol.specs.Node.{program_for}
 use Rattle.sg_protocol.specs.NodeAfter.{is_over}
 use Rattle.sg_protocol.specs.Notes.{Note, Notes, note_of, row_number, hashed_openings, notes_in_session, notes_of_sent}
 use Rattle.sg_protocol.specs.Enough.{KeepsSame, KeptIsEnough}
-use Rattle.sg_protocol.proofs.KeptLaws.{kept-kept, shown_to-kept, or_none}
+use Rattle.sg_protocol.proofs.KeptLaws.{kept-kept, shown_to-kept}
 use Rattle.sg_protocol.proofs.Moves.{row_none}
 use Rattle.sg_protocol.proofs.Paths.{flat_map-append}
 use Rattle.sg_protocol.proofs.Sent.{reads_in}
@@ -37,16 +38,8 @@ use Rattle.sg_protocol.proofs.Ends.{committed-append}
 -- ---- lists
 
 last_opening-append : (x : ℕ) (es fs : List Exchange) → last_opening x (es ++ fs) ≡ option_or (last_opening x fs) (last_opening x es)
-last_opening-append x [] fs = or_none (last_opening x fs)
+last_opening-append x [] fs = sym (option_or-none (last_opening x fs))
 last_opening-append x (e ∷ es) fs = ap (λ o. option_or o (opening_in (openings_of e) x)) (last_opening-append x es fs) ∙ option_or-assoc (last_opening x fs) (last_opening x es) (opening_in (openings_of e) x)
-
-map_all : {A B : Type 0} (f h : A → B) (xs : List A) → ((x : A) → f x ≡ h x) → map f xs ≡ map h xs
-map_all f h [] e = refl
-map_all f h (x ∷ xs) e = ap (λ y. y ∷ map f xs) (e x) ∙ ap (λ l. h x ∷ l) (map_all f h xs e)
-
-find_same : {A : Type 0} (p q : A → Bool) (xs : List A) → AllByRecursion (λ x. p x ≡ q x) xs → find p xs ≡ find q xs
-find_same p q [] a = refl
-find_same p q (x ∷ xs) a = elim (cases_Bool (q x)) [ inl e ↦ rw (a.0 ∙ e, e) refl | inr e ↦ rw (a.0 ∙ e, e) (find_same p q xs a.1) ]
 
 filter_map_below : {A : Type 0} (n : ℕ) (f h : ℕ → Option A) (xs : List ℕ) → AllByRecursion (λ x. x < n) xs → ((x : ℕ) → x < n → f x ≡ h x) → filter_map f xs ≡ filter_map h xs
 filter_map_below n f h [] a e = refl
@@ -177,7 +170,7 @@ module _ (g : Graph) (s t : Session) (k : KeepsSame g s t) where
         ∙ ap (λ z. record (plain_item sha s label written) { role = t.role; time = time t + 1; delta = map (λ (o : Opening). (o.variable, commitment sha z o)) written }) k.sid
 
     same_tagged : (i : Item) → tagged s i ≡ tagged t i
-    same_tagged i = ap (λ ts. record i { tags = ts }) (map_all _ _ (targets_of p label) (λ r.
+    same_tagged i = ap (λ ts. record i { tags = ts }) (map_same _ _ (targets_of p label) (λ r.
         ap (λ (c : Cast). (r, tag_for sha keys c r (text_to g s (transcript s) i r))) k.cast ∙ ap (λ z. (r, tag_for sha keys t.cast r z)) (said_same (transcript s) (transcript t) i r (commitments_more (i ∷ [])))))
 
     pub same_own : tagged s (plain_item sha s label written) ≡ tagged t (plain_item sha t label written)
@@ -254,10 +247,6 @@ below_reads n (o ∷ os) (x ∷ xs) e a =
     let tl : map (λ (o : Opening). o.variable) os ≡ xs = cc in
     (subst (λ z. z < n) (sym hd) a.0, below_reads n os xs tl a.1)
 
-all_below : {A : Type 0} (P Q : A → Type 0) (xs : List A) → AllByRecursion P xs → ((x : A) → P x → Q x) → AllByRecursion Q xs
-all_below P Q [] a f = tt
-all_below P Q (x ∷ xs) a f = (f x a.0, all_below P Q xs a.1 f)
-
 same_not : (a b : Bool) → not a ≡ not b → a ≡ b
 same_not true true e = refl
 same_not false false e = refl
@@ -306,8 +295,8 @@ module _ (sha : Hash) (keys : Keyring) (p : Program) (s t : Session) (f : Frame)
       let shown : is_shown p t f ≡ true = not-false (is_shown p t f) (row_none _ _ h) in
       let vars : map (λ (o : Opening). o.variable) f.openings ≡ option_map_or (reads p.graph) (last_label f.items) [] = same_bytes _ _ (and_parts _ _ shown).1 in
       ap (option_map (λ (o : Opening). BadOpening o.variable)) (find_same _ _ f.openings
-      (all_below (λ (o : Opening). o.variable < length p.graph.variables) (λ (o : Opening). not (is_right sha p.graph s f o) ≡ not (is_right sha p.graph t f o)) f.openings
-      (below_reads (length p.graph.variables) f.openings _ vars (reads_below (last_label f.items))) right_same))
+      (all_weaker (λ (o : Opening). o.variable < length p.graph.variables) (λ (o : Opening). not (is_right sha p.graph s f o) ≡ not (is_right sha p.graph t f o)) right_same f.openings
+      (below_reads (length p.graph.variables) f.openings _ vars (reads_below (last_label f.items)))))
 
   keeps_judging : first_some (rows_of_session sha keys p s f) ≡ first_some (rows_of_session sha keys p t f)
   keeps_judging =
@@ -339,8 +328,8 @@ module _ (sha : Hash) (keys : Keyring) (p : Program) (s t : Session) (f : Frame)
   all_right h =
       let shown : is_shown p t f ≡ true = not-false (is_shown p t f) (row_none _ _ h) in
       let vars : map (λ (o : Opening). o.variable) f.openings ≡ option_map_or (reads p.graph) (last_label f.items) [] = same_bytes _ _ (and_parts _ _ shown).1 in
-      all_below (λ (o : Opening). o.variable < length p.graph.variables) (λ (o : Opening). not (is_right sha p.graph s f o) ≡ not (is_right sha p.graph t f o)) f.openings
-      (below_reads (length p.graph.variables) f.openings _ vars (reads_below (last_label f.items))) right_same
+      all_weaker (λ (o : Opening). o.variable < length p.graph.variables) (λ (o : Opening). not (is_right sha p.graph s f o) ≡ not (is_right sha p.graph t f o)) right_same f.openings
+      (below_reads (length p.graph.variables) f.openings _ vars (reads_below (last_label f.items)))
 
   abbrev hashed_texts : Session → ℕ → List (List ℕ)
   hashed_texts u n = if nat_lt 14 n then map (commitment_text_of u.sid) (hashed_openings sha p.graph u f f.openings) else []
@@ -377,7 +366,7 @@ keeps_noting_sent keys p s t f written k =
 
     items_ : (o : Option Item) → tagged_ s o ≡ tagged_ t o
     items_ None = refl
-    items_ (Some i) = map_all _ _ (targets_of p i.label) (λ r.
+    items_ (Some i) = map_same _ _ (targets_of p i.label) (λ r.
         ap (λ (c : Cast). note_of keys.me (principal c r) (text_to p.graph s (transcript s) i r)) k.cast
         ∙ ap (note_of keys.me (principal t.cast r)) (said_same p.graph s t k (transcript s) (transcript t) i r (commitments_more p.graph s t k (i ∷ []))))
 

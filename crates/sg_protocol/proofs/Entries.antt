@@ -6,7 +6,7 @@ use Rattle.std.proofs.Common.{sym, ◌∙◌, ap, subst, inl, inr, arith}
 use Rattle.std.proofs.lemmas.Bool.{eqb-true, eq-eqb, cases_Bool}
 use Rattle.std.proofs.lemmas.Bool.Decides.{nat_tests}
 use Rattle.std.proofs.lemmas.List.{map-append}
-use Rattle.sg_model.specs.Last.{Map, merge, has, last, last_or, last_of, after_last, up_to_last, evidence_for}
+use Rattle.sg_model.specs.Last.{Map, merge, has, last, last_or, after_last, up_to_last, evidence_for}
 use Rattle.sg_model.specs.Last as A
 use Rattle.sg_model.specs.Lists.{is_in, value_at, keys_of, range_from, in_order}
 use Rattle.sg_model.specs.Shape.{Shape, Arrow, Walk, end_of, role_at, sender, target}
@@ -366,14 +366,16 @@ pub seen_labels : (items : List Item) → map (λ (s : Seen). s.label) (map seen
 seen_labels [] = refl
 seen_labels (i ∷ is) = ap (λ l. i.label ∷ l) (seen_labels is)
 
+-- the label of its last item is the last one since its role's own
+last_seen : (g : Graph) (h : ℕ) (v : View) (iv : IsView g h v) (items : List Item) (i : Item) → v.items ≡ map seen items → last items ≡ Some i → last (after_last (sender (shape g)) h iv.walk) ≡ Some i.label
+last_seen g h v iv items i l e =
+    sym (last-last_of (sender (shape g)) (after_last (sender (shape g)) h iv.walk)) ∙ ap last (sym (labels-view_of g h iv.walk) ∙ ap (λ (x : View). map (λ (s : Seen). s.label) x.items) iv.seen ∙ ap (map (λ (s : Seen). s.label)) l ∙ seen_labels items)
+    ∙ last-option_map (λ (i : Item). i.label) items ∙ ap (option_map (λ (i : Item). i.label)) e
+
 -- a view ends where its last item leads
 pub view_ends : (g : Graph) (h : ℕ) (v : View) (iv : IsView g h v) (items : List Item) (i : Item) → v.items ≡ map seen items → last items ≡ Some i → end_of (shape g) 0 iv.walk ≡ target (shape g) i.label
-view_ends g h v iv items i l e = go iv.walk (after_last (sender (shape g)) h iv.walk) refl at
+view_ends g h v iv items i l e = go iv.walk (after_last (sender (shape g)) h iv.walk) refl (last_seen g h v iv items i l e)
   where
-    at : last (after_last (sender (shape g)) h iv.walk) ≡ Some i.label
-    at = sym (last-last_of (sender (shape g)) (after_last (sender (shape g)) h iv.walk)) ∙ ap last (sym (labels-view_of g h iv.walk) ∙ ap (λ (x : View). map (λ (s : Seen). s.label) x.items) iv.seen ∙ ap (map (λ (s : Seen). s.label)) l ∙ seen_labels items)
-        ∙ last-option_map (λ (i : Item). i.label) items ∙ ap (option_map (λ (i : Item). i.label)) e
-
     ended : (w : List ℕ) (n : ℕ) → last w ≡ Some n → end_of (shape g) 0 w ≡ target (shape g) n
     ended [] n f = absurd (cc)
     ended (x ∷ xs) n f = let same : last_or x xs ≡ n = cc in end_of-last (shape g) 0 x xs ∙ ap (target (shape g)) same
@@ -407,12 +409,8 @@ edges_same g = go g.edges
 
 -- the last item is along an edge
 pub view_last_edge : (g : Graph) (h : ℕ) (v : View) (iv : IsView g h v) (items : List Item) (i : Item) → v.items ≡ map seen items → last items ≡ Some i → i.label < length g.edges
-view_last_edge g h v iv items i l e = go iv.walk (after_last (sender (shape g)) h iv.walk) refl at
+view_last_edge g h v iv items i l e = go iv.walk (after_last (sender (shape g)) h iv.walk) refl (last_seen g h v iv items i l e)
   where
-    at : last (after_last (sender (shape g)) h iv.walk) ≡ Some i.label
-    at = sym (last-last_of (sender (shape g)) (after_last (sender (shape g)) h iv.walk)) ∙ ap last (sym (labels-view_of g h iv.walk) ∙ ap (λ (x : View). map (λ (s : Seen). s.label) x.items) iv.seen ∙ ap (map (λ (s : Seen). s.label)) l ∙ seen_labels items)
-        ∙ last-option_map (λ (i : Item). i.label) items ∙ ap (option_map (λ (i : Item). i.label)) e
-
     inside : (m x : ℕ) (xs : List ℕ) → Walk (shape g) m (x ∷ xs) → last_or x xs < length (shape g).edges
     inside m x [] w = w.0
     inside m x (y ∷ ys) w = inside (target (shape g) x) y ys w.2
@@ -426,7 +424,7 @@ view_last_edge g h v iv items i l e = go iv.walk (after_last (sender (shape g)) 
     go w (y ∷ ys) f a = (let lt : i.label < length (shape g).edges = ended iv.walk i.label iv.follows (back w (y ∷ ys) f a) in omega (arith, lt, edges_same g))
       where
         back : (w ys : List ℕ) → after_last (sender (shape g)) h w ≡ ys → last (after_last (sender (shape g)) h w) ≡ Some i.label → last iv.walk ≡ Some i.label
-        back w ys f a = whole iv.walk (after_last (sender (shape g)) h iv.walk) refl at
+        back w ys f a = whole iv.walk (after_last (sender (shape g)) h iv.walk) refl (last_seen g h v iv items i l e)
           where
             whole : (w ys : List ℕ) → after_last (sender (shape g)) h w ≡ ys → last (after_last (sender (shape g)) h w) ≡ Some i.label → last w ≡ Some i.label
             whole w [] f a = (let b = rw f at a in absurd (cc))

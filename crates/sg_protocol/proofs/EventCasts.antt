@@ -7,9 +7,7 @@ use Rattle.std.proofs.lemmas.Bool.{not-false}
 use Rattle.sg_model.specs.Lists.{first_some}
 use Rattle.sg_model.specs.Names.{Name}
 use Rattle.sg_model.proofs.Small.{contradicts, none_parts}
-use Rattle.sg_law.proofs.Members.{rec_in}
-use Rattle.sg_law.proofs.Take.{contains_from_in}
-use Rattle.sg_law.proofs.Upto.{In}
+use Rattle.sg_model.proofs.Members.{In, contains_from_in, rec_in}
 use Rattle.sg_protocol.specs.Graph.{Graph}
 use Rattle.sg_protocol.specs.Frame.{Cast, Frame}
 use Rattle.sg_protocol.specs.Reading.{read}

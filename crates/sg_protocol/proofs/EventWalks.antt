@@ -8,7 +8,6 @@ use Rattle.sg_law.specs.Values as V
 use Rattle.sg_law.specs.Values.{AllMay, Binding, Commit, Move, all_openings, deed_of}
 use Rattle.sg_law.proofs.Follow.{made_follows}
 use Rattle.sg_law.proofs.Lists.{nil_from_map}
-use Rattle.sg_law.proofs.Upto.{In}
 use Rattle.sg_protocol.specs.Graph.{Graph, shape}
 use Rattle.sg_protocol.specs.Evidence.{IsView}
 use Rattle.sg_protocol.specs.Frame.{Cast, Frame}
@@ -34,12 +33,12 @@ use Rattle.sg_protocol.proofs.MadeWalks.{Explains, Made, Shown, explains_called,
 use Rattle.sg_protocol.proofs.Happenings.{Happening, IsCourse, Own, run_of, Asked, IsRight, suffix_asked}
 use Rattle.sg_model.specs.Last.{last}
 use Rattle.sg_model.specs.Names.{Name}
-use Rattle.sg_model.proofs.Small.{all-parts}
+use Rattle.sg_model.proofs.Small.{all-parts, not_empty}
+use Rattle.sg_model.proofs.Members.{In, in_last}
 use Rattle.sg_protocol.specs.Keyring.{Program}
 use Rattle.sg_protocol.specs.Session.{Session, origin}
 use Rattle.sg_protocol.specs.Acting.{answer}
 use Rattle.sg_protocol.specs.Notes.{session_of_frame}
-use Rattle.sg_protocol.proofs.Acts.{in_last}
 use Rattle.sg_protocol.proofs.Answered.{entry_of}
 use Rattle.sg_protocol.proofs.OneCasts.{has_events}
 use Rattle.sg_protocol.proofs.Progressing.{Suffix, in_after}
@@ -99,11 +98,7 @@ module _ (sha : Hash) (hash : IsHash sha) (s : Schedule) (ps : List Past) (cours
   all_shown = (with_all session (λ w p. Shown session its.is_graph its.accepted bound w)
       (λ w k p old who o fr e. shown_idle session its.is_graph its.accepted bound w k old who o fr)
       (λ w k p old who past its_past c good after out. shown_called session its.is_graph its.accepted bound w k p who past its_past c good after out old)
-      w0 1 (begun, λ before l after bs f e. absurd (nothing_before before l after e)) course is_course.right refl).1
-    where
-      nothing_before : (before : List Logged) (l : Logged) (after : List Logged) → [] ≡ before ++ l ∷ after → ⊥
-      nothing_before [] l after e = cc
-      nothing_before (b ∷ before) l after e = cc
+      w0 1 (begun, λ before l after bs f e. absurd (not_empty before l after (sym e))) course is_course.right refl).1
 
   -- the origin of the session in which a frame is taken is the last label that its receiver sent before
   origin_before : (hs gs : List Happening) (who : Name) (bs : List ℕ) (past : Past) (f : Frame) (q : Program) (x : Session) → course ≡ hs ++ Asked who (Deliver bs) ∷ gs → past_of (run_of sha ps hs) who ≡ Some past → read bs ≡ Ok f → answer sha (node_of past) (Deliver bs) ≡ Happened (receipt f) → f.sid ≡ sid

@@ -27,14 +27,13 @@ use Rattle.sg_protocol.specs.Run.{run}
 use Rattle.sg_protocol.specs.Premises.{hashed, Unforged, CollisionFree, Premises}
 use Rattle.sg_protocol.specs.IsSchedule.{IsProgram, AreCompiled, IsPairKey, IsDeclared, IsStep, IsSchedule}
 use Rattle.sg_protocol.specs.Broken.{first_forged, first_collision}
-use Rattle.sg_law.proofs.Upto.{In, in_from_Contains}
-use Rattle.sg_law.proofs.Take.{contains_from_in}
 use Rattle.sg_protocol.proofs.Broken.{forged_is_first, collision_is_first}
 use Rattle.std.specs.Prelude.{◌+◌, ◌*◌, ◌/◌, ◌%◌, ◌^◌, fold}
 use Rattle.std.specs.Int.{bytes_high_first, byte_at}
 use Rattle.sg_model.specs.Claims.{Claim, Bars, HoldsOnWalks}
 use Rattle.sg_model.proofs.OneBit.{confined_holds}
 use Rattle.sg_model.proofs.Small.{some_same}
+use Rattle.sg_model.proofs.Members.{In, in_from_Contains, contains_from_in}
 use Rattle.sg_protocol.specs.Frame.{Cast}
 use Rattle.sg_protocol.specs.Texts.{IsHash}
 use Rattle.sg_protocol.specs.Schedule.{graph_with, honest_role}

@@ -1,7 +1,6 @@
 -- Where names that differ stand, what was joined later, and what a search finds.
-use Rattle.std.specs.Prelude.{◌≡◌, ℕ, zero, suc, ◌<◌, ◌==◌, get_or, ◌&&◌, ◌⊎◌, Bool, true, false, not, cond, List, [], ◌∷◌, ◌++◌, length, find, bytes_eq, refl, Some, None}
-use Rattle.std.specs.List.{AllByRecursion}
-use Rattle.std.proofs.Common.{sym, ap, subst, inl, inr, arith}
+use Rattle.std.specs.Prelude.{◌≡◌, ℕ, zero, suc, ◌<◌, ◌==◌, get_or, ◌&&◌, true, false, not, List, [], ◌∷◌, ◌++◌, length, bytes_eq, refl}
+use Rattle.std.proofs.Common.{sym, ap, inl, inr, arith}
 use Rattle.std.proofs.lemmas.Bool.{eq-eqb, cases_Bool, and_parts, not-true}
 use Rattle.std.proofs.lemmas.Slice.Eq.{bytes_eq-Decides}
 use Rattle.sg_model.specs.Lists.{all_differ, has_text}
@@ -34,28 +33,3 @@ joined_less (i ∷ js) j sid r n h = elim (cases_Bool (bytes_eq i.0 sid && (i.1 
 pub joined_now : (js : List (List ℕ × ℕ)) (sid : List ℕ) (r : ℕ) → has_joined (js ++ (sid, r) ∷ []) sid r ≡ true
 joined_now [] sid r = rw ((bytes_eq-Decides sid sid).1 refl, eq-eqb r r refl) refl
 joined_now (j ∷ js) sid r = elim (cases_Bool (bytes_eq j.0 sid && (j.1 == r))) [ inl e ↦ rw e refl | inr e ↦ rw e (joined_now js sid r) ]
-
--- the head of a filtered list
-pub find_head : {A : Type 0} (p : A → Bool) (xs : List A) (x y : A) → xs ≡ x ∷ [] → find p xs ≡ Some y → y ≡ x
-find_head p xs x y e f = go (cases_Bool (p x)) (rw e at f)
-  where
-    go : (p x ≡ true) ⊎ (p x ≡ false) → cond (p x) (Some x) None ≡ Some y → y ≡ x
-    go (inl h) k = (let f : Some x ≡ Some y = rw h at k in cc)
-    go (inr h) k = (let f : None ≡ Some y = rw h at k in absurd (cc))
-
-pub find_nil : {A : Type 0} (p : A → Bool) (xs : List A) (y : A) → xs ≡ [] → find p xs ≡ Some y → ⊥
-find_nil p xs y e f = (let g : None ≡ Some y = rw e at f in absurd (cc))
-
-pub find_passes : {A : Type 0} (p : A → Bool) (xs : List A) (y : A) → find p xs ≡ Some y → p y ≡ true
-find_passes p [] y e = absurd (cc)
-find_passes p (x ∷ xs) y e = elim (cases_Bool (p x)) [
-  | inl h ↦ (let f : Some x ≡ Some y = rw h at e in let s : x ≡ y = cc in subst (λ z. p z ≡ true) s h)
-  | inr h ↦ find_passes p xs y (rw h at e)
-]
-
-pub find_all : {A : Type 0} (p : A → Bool) (P : A → Type 0) (xs : List A) (y : A) → AllByRecursion P xs → find p xs ≡ Some y → P y
-find_all p P [] y a e = absurd (cc)
-find_all p P (x ∷ xs) y a e = elim (cases_Bool (p x)) [
-  | inl h ↦ (let f : Some x ≡ Some y = rw h at e in let s : x ≡ y = cc in subst P s a.0)
-  | inr h ↦ find_all p P xs y a.1 (rw h at e)
-]

@@ -6,10 +6,7 @@ use Rattle.std.proofs.Common.{sym, ◌∙◌, ap, subst, inl, inr, arith}
 use Rattle.std.proofs.lemmas.List.Elements.{All-take, All-from_recursion, recursion_from_All}
 use Rattle.sg_model.specs.Last.{last}
 use Rattle.sg_model.specs.Names.{Name}
-use Rattle.sg_law.proofs.Members.{in_left, in_right, in_flat, in_parts}
 use Rattle.sg_law.proofs.Lists.{last-append}
-use Rattle.sg_law.proofs.Upto.{In, in_from_Contains}
-use Rattle.sg_law.proofs.Take.{contains_from_in}
 use Rattle.sg_protocol.specs.Frame.{Frame}
 use Rattle.sg_protocol.specs.Spelling.{spelling}
 use Rattle.sg_protocol.specs.Texts.{Hash, graph_text_of}
@@ -22,8 +19,10 @@ use Rattle.sg_protocol.specs.Run.{called_if, uncalled, world_after, world_after_
 use Rattle.sg_protocol.specs.Premises.{MadeBefore, hashed, Premises}
 use Rattle.sg_protocol.specs.IsSchedule.{IsSchedule, IsStep}
 use Rattle.sg_protocol.specs.Beginnings.{first_steps, IsLogUpTo, RunsGoOn, PremisesHoldBefore}
-use Rattle.sg_protocol.proofs.OtherSteps.{crafted_same, all_on}
+use Rattle.sg_protocol.proofs.OtherSteps.{crafted_same, all_on, with_steps}
 use Rattle.sg_protocol.proofs.Progressing.{Suffix, suffix_refl, suffix_all, in_before, in_after}
+use Rattle.sg_model.proofs.Small.{take_most}
+use Rattle.sg_model.proofs.Members.{In, in_from_Contains, contains_from_in, in_left, in_right, in_parts, in_flat}
 
 -- if the assumptions hold of a world they hold of one before
 pub premises_earlier : (sha : Hash) (s : Schedule) (n : ℕ) (wb wf : World) → Suffix n wb.log wf.log → ((l : Logged) → In wb.log l → l.number < n) → Premises sha s wf → Premises sha s wb
@@ -65,29 +64,27 @@ module _ (sha : Hash) (s : Schedule) (n : ℕ) where
 
   -- a schedule's first steps are a schedule
   pub first_sched : IsSchedule sha s → IsSchedule sha (first_steps n s)
-  first_sched h = record {
-    are_graphs = h.are_graphs;
-    graph_names = h.graph_names;
-    honest_names = h.honest_names;
-    keys = h.keys;
-    pairs = h.pairs;
-    sessions = h.sessions;
-    steps = All-from_recursion (IsStep sha (first_steps n s)) (take n s.steps) (all_on sha s (take n s.steps) (take n s.steps) (recursion_from_All (IsStep sha s) (take n s.steps) (All-take (IsStep sha s) n s.steps h.steps)));
-  }
+  first_sched h = with_steps sha s (take n s.steps) h (all_on sha s (take n s.steps) (take n s.steps) (recursion_from_All (IsStep sha s) (take n s.steps) (All-take (IsStep sha s) n s.steps h.steps)))
 
 pub run_first : (sha : Hash) (programs : List Program) (s : Schedule) (n : ℕ) → run sha programs (first_steps n s) ≡ world_after_all sha s (new_world programs s) 1 (take n s.steps)
 run_first sha programs s n = all_same sha s n (new_world programs s) 1 (take n s.steps)
 
 -- ---- the logs
 
-pub take_few : {A : Type 0} (n : ℕ) (xs : List A) → length (take n xs) ≤ n
-take_few zero xs = omega arith
-take_few (suc n) [] = omega arith
-take_few (suc n) (x ∷ xs) = (let h = take_few n xs in omega (arith, h))
-
 -- one entry is added at most, with this number
 abbrev pub OneMore : ℕ → List Logged → List Logged → Type 0
 OneMore k log log' = (log' ≡ log) ⊎ ((l : Logged) × (log' ≡ log ++ l ∷ []) × (l.number ≡ k))
+
+-- numbers are below this one
+abbrev pub AreBelow : ℕ → List Logged → Type 0
+AreBelow k log = (l : Logged) → In log l → l.number < k
+
+pub below_more : (k : ℕ) (log log' : List Logged) → OneMore k log log' → AreBelow k log → AreBelow (k + 1) log'
+below_more k log log' (inl e) a l i = (let h = a l (subst (λ z. In z l) e i) in omega (arith, h))
+below_more k log log' (inr m) a l i = elim (in_parts log (m.0 ∷ []) l (subst (λ z. In z l) m.1 i)) [
+  | inl j ↦ (let h = a l j in omega (arith, h))
+  | inr j ↦ elim j [ inl q ↦ (let h = ap (λ (z : Logged). z.number) q ∙ m.2 in omega (arith, h)) | inr q ↦ absurd q ]
+]
 
 -- worlds to which one thing after another adds one entry at most
 module _ {A : Type 0} (next : World → ℕ → A → World) (all : World → ℕ → List A → World) (none : (w : World) (k : ℕ) → all w k [] ≡ w) (more : (w : World) (k : ℕ) (x : A) (xs : List A) → all w k (x ∷ xs) ≡ all (next w k x) (k + 1) xs)
@@ -105,16 +102,9 @@ module _ {A : Type 0} (next : World → ℕ → A → World) (all : World → �
       (suffix_at (k + 1 + n) (k + suc n) (all (next w k x) (k + 1) (take n xs)).log (all (next w k x) (k + 1) xs).log (omega arith) (begins_so n xs (next w k x) (k + 1))))
 
   -- numbers are below the next one
-  pub numbers_below : (xs : List A) (w : World) (k : ℕ) → ((l : Logged) → In w.log l → l.number < k) → (l : Logged) → In (all w k xs).log l → l.number < k + length xs
+  pub numbers_below : (xs : List A) (w : World) (k : ℕ) → AreBelow k w.log → AreBelow (k + length xs) (all w k xs).log
   numbers_below [] w k a l i = (let h = a l (subst (λ (z : World). In z.log l) (none w k) i) in omega (arith, h))
-  numbers_below (x ∷ xs) w k a l i = (let h = numbers_below xs (next w k x) (k + 1) (now (one_more_ w k x)) l (subst (λ (z : World). In z.log l) (more w k x xs) i) in omega (arith, h))
-    where
-      now : OneMore k w.log (next w k x).log → (l : Logged) → In (next w k x).log l → l.number < k + 1
-      now (inl e) l i = (let h = a l (subst (λ z. In z l) e i) in omega (arith, h))
-      now (inr m) l i = elim (in_parts w.log (m.0 ∷ []) l (subst (λ z. In z l) m.1 i)) [
-        | inl j ↦ (let h = a l j in omega (arith, h))
-        | inr j ↦ elim j [ inl q ↦ (let h = ap (λ (z : Logged). z.number) q ∙ m.2 in omega (arith, h)) | inr q ↦ absurd q ]
-      ]
+  numbers_below (x ∷ xs) w k a l i = (let h = numbers_below xs (next w k x) (k + 1) (below_more k w.log (next w k x).log (one_more_ w k x) a) l (subst (λ (z : World). In z.log l) (more w k x xs) i) in omega (arith, h))
 
   -- an entry that was added is the last one when it was
   pub last_so : (xs : List A) (w : World) (k : ℕ) (l : Logged) → In (all w k xs).log l → In w.log l ⊎ ((i : ℕ) × (l.number ≡ k + i) × (last (all w k (take (suc i) xs)).log ≡ Some l))
@@ -160,7 +150,7 @@ module _ (sha : Hash) (programs : List Program) (s : Schedule) (n : ℕ) where
   pub up_to : (l : Logged) → In (run sha programs (first_steps n s)).log l → l.number ≤ n
   up_to l i =
       let h = numbers_below (world_after sha s) (world_after_all sha s) (λ w k. refl) (λ w k x xs. refl) (one_more sha s) (suffix_all sha s) (take n s.steps) (new_world programs s) 1 (λ l i. absurd i) l (subst (λ (z : World). In z.log l) (run_first sha programs s n) i) in
-      let k = take_few n s.steps in
+      let k = take_most n s.steps in
       omega (arith, h, k)
 
   all_from_in : (P : Logged → Type 0) (xs : List Logged) → ((l : Logged) → In xs l → P l) → AllByRecursion P xs

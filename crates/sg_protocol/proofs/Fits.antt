@@ -36,9 +36,9 @@ use Rattle.sg_protocol.specs.World as World'
 use Rattle.sg_protocol.specs.Schedule as Schedule'
 use Rattle.sg_protocol.specs.Crafted as Crafted'
 use Rattle.sg_protocol.specs.IsSchedule.{IsSchedule, IsStep, IsDeclared, AreCompiled, IsProgram}
-use Rattle.sg_protocol.proofs.Finding.{find_passes}
 use Rattle.sg_model.specs.Names.{is_name}
 use Rattle.sg_model.proofs.Small.{same_bytes, all-append}
+use Rattle.sg_model.proofs.Finding.{find_passes}
 use Rattle.sg_protocol.proofs.Happenings.{IsGiven, IsStarted, given_in_range, given_sends}
 use Rattle.sg_protocol.proofs.Progressing.{past_called, next_past, node_more}
 use Rattle.sg_protocol.proofs.Whole.{first_past}

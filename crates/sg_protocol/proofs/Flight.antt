@@ -1,5 +1,5 @@
 -- In a session of honest principals, each frame but the last one was taken, and each role holds what was done until its last step or receipt.
-use Rattle.std.specs.Prelude.{◌||◌, ◌&&◌, ◌≡◌, ◌≢◌, ℕ, ◌+◌, ◌<◌, ◌==◌, ◌⊎◌, Bool, true, false, not, if◌then◌else◌, List, [], ◌∷◌, ◌++◌, map, filter, flat_map, find, length, bytes_eq, refl, Option, Some, None, option_map, IfSome, Ok}
+use Rattle.std.specs.Prelude.{◌&&◌, ◌≡◌, ◌≢◌, ℕ, ◌+◌, ◌<◌, ◌==◌, ◌⊎◌, Bool, true, false, not, if◌then◌else◌, List, [], ◌∷◌, ◌++◌, map, filter, flat_map, find, length, bytes_eq, refl, Option, Some, None, option_map, IfSome, Ok}
 use Rattle.std.specs.List.{AllByRecursion, cons_option, list_any}
 use Rattle.std.proofs.Common.{sym, ◌∙◌, ap, subst, inl, inr, arith, append-nil, append_assoc}
 use Rattle.std.proofs.lemmas.Bool.{cases_Bool, eqb-true, eq-eqb, ne_eqb, not-true, and_from, and_parts}
@@ -10,8 +10,9 @@ use Rattle.sg_model.specs.Lists.{first_some}
 use Rattle.sg_model.specs.Shape.{end_of, role_at, source, sender, receiver}
 use Rattle.sg_model.specs.Values.{Opening}
 use Rattle.sg_model.specs.Names.{Name}
-use Rattle.sg_model.proofs.Small.{clash, same_bytes, bytes_same, or_true, all_weaker}
-use Rattle.sg_law.proofs.Members.{in_left, in_parts}
+use Rattle.sg_model.proofs.Small.{clash, same_bytes, bytes_same, or_true, all_weaker, first_false, lt_of, not_empty}
+use Rattle.sg_model.proofs.Members.{In, in_from_Contains, contains_from_in, in_left, in_parts, in_last, split_at_end, in_split, split_in, two_splits}
+use Rattle.sg_model.proofs.Finding.{find_passes, found_in, find_some, find-filter}
 use Rattle.sg_protocol.specs.Graph.{Graph, IsGraph, shape, reads}
 use Rattle.sg_protocol.specs.Accepted.{Accepted}
 use Rattle.sg_protocol.specs.Frame.{Cast, Frame, Item}
@@ -27,7 +28,7 @@ use Rattle.sg_protocol.specs.NodeAfter.{node_after, still, is_over}
 use Rattle.sg_protocol.specs.Acting.{answer, openings_for}
 use Rattle.sg_protocol.specs.Verdict.{receipt, decided, rows, rows_of_join, rows_of_next, join_rows, next_rows, verdict_on}
 use Rattle.sg_protocol.specs.Notes.{no_notes, notes}
-use Rattle.sg_protocol.specs.Past.{Past, node_of, new_node, past_after}
+use Rattle.sg_protocol.specs.Past.{Past, node_of, past_after}
 use Rattle.sg_protocol.specs.Schedule.{Schedule, PairKey, honest_role}
 use Rattle.sg_protocol.specs.World.{World, Logged, Outcome, Answered, past_of, keyring_of}
 use Rattle.sg_protocol.specs.Run.{called, uncalled, frame_in, events_of_outcome, events_of}
@@ -35,16 +36,13 @@ use Rattle.sg_protocol.specs.Premises.{hashed}
 use Rattle.sg_protocol.specs.Receipts.{IsTaken, WasSent}
 use Rattle.sg_protocol.specs.LastSteps.{Bare, bare, sent_item, honest_items}
 use Rattle.sg_law.specs.Run as R
-use Rattle.sg_law.proofs.Upto.{In, in_from_Contains}
 use Rattle.sg_law.proofs.Upto as Upto'
-use Rattle.sg_law.proofs.Take.{contains_from_in}
 use Rattle.sg_law.proofs.Cut as Cut'
 use Rattle.sg_law.proofs.Lists.{last-append}
-use Rattle.sg_protocol.proofs.Isolation.{of_sid, find-filter}
 use Rattle.sg_protocol.proofs.Paths.{flat_map-append}
 use Rattle.sg_protocol.proofs.ReadLaws.{read-spelling}
 use Rattle.sg_protocol.proofs.Entries.{Roles}
-use Rattle.sg_protocol.proofs.Moves.{step}
+use Rattle.sg_protocol.proofs.Moves.{step, sender_last}
 use Rattle.sg_protocol.proofs.Acts as C
 use Rattle.sg_protocol.proofs.Reduced.{by_role, has-both, reduced}
 use Rattle.sg_protocol.proofs.Ends.{labels}
@@ -53,19 +51,21 @@ use Rattle.sg_protocol.proofs.RelayGives as Y
 use Rattle.sg_protocol.proofs.Entries as Entries'
 use Rattle.sg_protocol.proofs.Keys as Keys'
 use Rattle.std.specs.Option.{option_map_or}
-use Rattle.std.proofs.lemmas.List.Elements.{filter-append, filter_map-append}
-use Rattle.sg_protocol.proofs.Finding.{one_index, find_passes}
+use Rattle.std.proofs.lemmas.List.Elements.{filter-append}
+use Rattle.sg_protocol.proofs.Finding.{one_index}
 use Rattle.sg_protocol.proofs.Calls.{Unmoved, WasLeft, HasStarted, HasTaken, HasGiven, TakesFrame}
 use Rattle.sg_protocol.proofs.KnownSession.{SessionOfCast}
-use Rattle.sg_protocol.proofs.Progressing.{Suffix, past_called, next_past, node_more, in_after, in_before, suffix_trans, suffix_one}
-use Rattle.sg_protocol.proofs.Whole.{found_in, find_some}
+use Rattle.sg_protocol.proofs.Progressing.{Suffix, past_called, next_past, in_after, in_before, suffix_trans, suffix_one, node_next}
 use Rattle.sg_protocol.proofs.Going.{SessionInRun, Progress, Left}
-use Rattle.sg_protocol.proofs.Agreeing.{MovesAgree, Outs, With, agree_called, agree_idle, with_all}
+use Rattle.sg_protocol.proofs.Agreeing.{MovesAgree, Outs, With, agree_called, agree_idle, with_all, honest_items-append}
 use Rattle.sg_protocol.proofs.HeldKeys.{SameFor, in_at, own_item_same, frame_same}
 use Rattle.sg_protocol.proofs.Happenings.{Happening, IsGiven, IsRight, all_happen, pasts_kept}
 use Rattle.sg_protocol.proofs.Senders.{decided_none}
 use Rattle.sg_protocol.proofs.Showing.{SessionFacts, shows_called}
-use Rattle.sg_protocol.proofs.Splits.{split_at_end, in_split, split_in, two_splits, rises_mid, role_small}
+use Rattle.sg_protocol.proofs.Splits.{rises_mid, role_small}
+use Rattle.sg_protocol.proofs.First.{keys_after}
+use Rattle.sg_protocol.proofs.LiveSessions.{sends_sid}
+use Rattle.sg_protocol.proofs.OfSid.{of_sid}
 
 next_programs : (sha : Hash) (who : Name) (c : Call) (p : Past) → (next_past sha who c p).programs ≡ p.programs
 next_programs sha who c p = elim (cases_Bool (bytes_eq p.keys.me who)) [ inl e ↦ rw e refl | inr e ↦ rw e refl ]
@@ -79,9 +79,7 @@ pub record HonestSession (sha : Hash) (s : Schedule) (sid : List ℕ) (cast : Ca
   pub other_targets : (e : ℕ) → e < length g.edges → AllByRecursion (λ t. (t < length g.roles) × (t ≢ sender (shape g) e)) (targets e)
   pub same_key : (a b : ℕ) → a < length cast.names → b < length cast.names → a ≢ b → key_of (keyring_of keys (principal cast a)) (principal cast b) ≡ Key (principal cast a) (principal cast b)
   pub was_sent : (l : Logged) (who : Name) (bs : List ℕ) (f : Frame) → IsTaken wf l who bs f → f.sid ≡ sid → honest_role s cast f.sender ≡ true → In cast.names who → In cast.names (principal cast f.sender) → WasSent wf l.number (principal cast f.sender) bs f
-  pub keys_kept : (n : Node) (c : Call) (a : Answer) → (node_after n c a).keys ≡ n.keys
   pub starts : (xs : List Program) → Own xs → (p : Program) → starter xs cast.graph ≡ Some p → role_at (shape g) 0 ≡ p.role
-  pub sends_sid : (n : Node) (c : Call) (e : Event) (to : Name) (f : Frame) → answer sha n c ≡ Sends e to f → sid_of e ≡ f.sid
 
 module _ {sha : Hash} {s : Schedule} {sid : List ℕ} {cast : Cast} {g : Graph} {wf : World} {Own : List Program → Type 0} {keys : List PairKey} {targets : ℕ → List ℕ} {Key : Name → Name → Option (List ℕ)} {First : Name → List (List ℕ × ℕ)} (known : HonestSession sha s sid cast g wf Own keys targets Key First) where
   abbrev is : IsGraph g
@@ -89,9 +87,6 @@ module _ {sha : Hash} {s : Schedule} {sid : List ℕ} {cast : Cast} {g : Graph} 
 
   abbrev acc : Accepted g
   acc = known.facts.accepted
-
-  abbrev pub honest : ℕ → Bool
-  honest k = honest_role s cast k
 
   abbrev pub Prog : World → Type 0
   Prog w = Progress known.of_run w
@@ -234,9 +229,6 @@ module _ {sha : Hash} {s : Schedule} {sid : List ℕ} {cast : Cast} {g : Graph} 
   taken_more : (log : List Logged) (l0 : Logged) (to : Name) (f : Frame) → WasReceived log to f → WasReceived (log ++ l0 ∷ []) to f
   taken_more log l0 to f t = (t.0, in_left log (l0 ∷ []) t.0 t.1, t.2, t.3, t.4)
 
-  items-append : (xs ys : List Logged) → honest_items sid (xs ++ ys) ≡ honest_items sid xs ++ honest_items sid ys
-  items-append xs ys = filter_map-append (λ (l : Logged). sent_item sid l.outcome) xs ys
-
   -- a log with one more entry that sends nothing in the session
   abbrev Silent : Logged → Type 0
   Silent l = (e : Event) (to : Name) (f : Frame) → l.outcome ≡ Answered (Sends e to f) → sid_of e ≡ sid → ⊥
@@ -253,7 +245,7 @@ module _ {sha : Hash} {s : Schedule} {sid : List ℕ} {cast : Cast} {g : Graph} 
       go other h = refl
 
   same_items : (log : List Logged) (l0 : Logged) → Silent l0 → honest_items sid (log ++ l0 ∷ []) ≡ honest_items sid log
-  same_items log l0 q = items-append log (l0 ∷ []) ∙ ap (λ o. honest_items sid log ++ cons_option o []) (silent_item l0 q) ∙ append-nil (honest_items sid log)
+  same_items log l0 q = honest_items-append sid log (l0 ∷ []) ∙ ap (λ o. honest_items sid log ++ cons_option o []) (silent_item l0 q) ∙ append-nil (honest_items sid log)
 
   all_taken_more : (log : List Logged) (l0 : Logged) → Silent l0 → AllReceived log → AllReceived (log ++ l0 ∷ [])
   all_taken_more log l0 q a l e to f i o h = elim (in_parts log (l0 ∷ []) l i) [
@@ -402,12 +394,8 @@ module _ {sha : Hash} {s : Schedule} {sid : List ℕ} {cast : Cast} {g : Graph} 
 
   pub split_items : (before : List Logged) (l : Logged) (after : List Logged) (e : Event) (to : Name) (f : Frame) (item : Item) → l.outcome ≡ Answered (Sends e to f) → sid_of e ≡ sid → last f.items ≡ Some item → honest_items sid (before ++ l ∷ after) ≡ honest_items sid before ++ item ∷ honest_items sid after
   split_items before l after e to f item o i q =
-      items-append before (l ∷ after)
+      honest_items-append sid before (l ∷ after)
       ∙ ap (λ z. honest_items sid before ++ cons_option z (honest_items sid after)) (ap (sent_item sid) o ∙ sent_is e to f i ∙ q)
-
-  not_empty : (xs : List Item) (i : Item) (ys : List Item) → xs ++ i ∷ ys ≡ [] → ⊥
-  not_empty [] i ys e = absurd (cc)
-  not_empty (x ∷ xs) i ys e = absurd (cc)
 
   in_items : (log : List Logged) (l : Logged) (e : Event) (to : Name) (f : Frame) (item : Item) → In log l → l.outcome ≡ Answered (Sends e to f) → sid_of e ≡ sid → last f.items ≡ Some item → honest_items sid log ≡ [] → ⊥
   in_items log l e to f item i o h q n =
@@ -494,7 +482,7 @@ module _ {sha : Hash} {s : Schedule} {sid : List ℕ} {cast : Cast} {g : Graph} 
     assemble so mine others frames_ = record {
       sids = λ l e to f i h. elim (in_parts w.log (l0 ∷ []) l i) [
         | inl j ↦ fl.sids l e to f j h
-        | inr j ↦ elim j [ inl q ↦ (let z : Answered (answer sha (node_of past) c) ≡ Answered (Sends e to f) = ap (λ (z : Logged). z.outcome) (sym q) ∙ h in known.sends_sid (node_of past) c e to f (cc)) | inr q ↦ absurd q ]
+        | inr j ↦ elim j [ inl q ↦ (let z : Answered (answer sha (node_of past) c) ≡ Answered (Sends e to f) = ap (λ (z : Logged). z.outcome) (sym q) ∙ h in sends_sid sha (node_of past) c e to f (cc)) | inr q ↦ absurd q ]
       ];
       keys_are = λ me p' e other. (pasts_kept sha w k who past its_past c After after_mine after_others me p' e).0 other;
       steps = so;
@@ -506,11 +494,11 @@ module _ {sha : Hash} {s : Schedule} {sid : List ℕ} {cast : Cast} {g : Graph} 
         After me y = ((other : Name) → key_of (node_of y).keys other ≡ Key me other) × Track log' me y.programs (node_of y)
 
         node_is : node_of (past_after sha past c) ≡ n'
-        node_is = node_more (new_node past.keys past.programs past.first) past.calls (record { call = c; answer = answer sha (node_of past) c })
+        node_is = node_next sha past c
 
         after_mine : After who (past_after sha past c)
         after_mine = (
-          λ other. ap (λ (z : Keyring). key_of z other) (ap (λ (m : Node). m.keys) node_is ∙ known.keys_kept (node_of past) c (answer sha (node_of past) c)) ∙ fl.keys_are who past its_past other,
+          λ other. ap (λ (z : Keyring). key_of z other) (ap (λ (m : Node). m.keys) node_is ∙ keys_after (node_of past) c (answer sha (node_of past) c)) ∙ fl.keys_are who past its_past other,
           subst (Track log' who past.programs) (sym node_is) mine,
         )
 
@@ -537,7 +525,7 @@ module _ {sha : Hash} {s : Schedule} {sid : List ℕ} {cast : Cast} {g : Graph} 
         let same : y ≡ past = cc in
         let is_me : y.keys.me ≡ who = same_bytes y.keys.me who (find_passes (λ (z : Past). bytes_eq z.keys.me who) w.pasts y q) in
         let here : bytes_eq y.keys.me who ≡ true = (bytes_eq-Decides y.keys.me who).1 is_me in
-        ap node_of (ap (λ b. if b then past_after sha y c else y) here) ∙ ap (λ z. node_of (past_after sha z c)) same ∙ node_more (new_node past.keys past.programs past.first) past.calls (record { call = c; answer = answer sha (node_of past) c })
+        ap node_of (ap (λ b. if b then past_after sha y c else y) here) ∙ ap (λ z. node_of (past_after sha z c)) same ∙ node_next sha past c
 
     -- who had the turn has it still, if the call changes nothing in the session
     holder_more : filter (of_sid sid) n'.live ≡ filter (of_sid sid) n.live → Holder w → Holder (called sha w k who c past)
@@ -581,53 +569,30 @@ module _ {sha : Hash} {s : Schedule} {sid : List ℕ} {cast : Cast} {g : Graph} 
     happened_silent : (ev : Event) → a ≡ Happened ev → Silent l0
     happened_silent ev e1 e to f o i = (let z : Answered (Happened ev) ≡ Answered (Sends e to f) = ap (λ z. Answered z) (sym e1) ∙ o in absurd (cc))
 
-    on_unmoved : Unmoved_ n n' a → Flight (called sha w k who c past)
-    on_unmoved u = assemble_silent quiet (track_more w.log l0 who past.programs n n' quiet u.same out.more_joins u.fewer (fl.tracks who past its_past))
-      where
-        of_quiet : (b : Bool) → (b || false) ≡ false → b ≡ false
-        of_quiet true h = absurd (cc)
-        of_quiet false h = refl
+    -- an answer without an event of the session
+    quiet_silent : list_any (λ e. bytes_eq (sid_of e) sid) (events_of_answer a) ≡ false → Silent l0
+    quiet_silent u e to f o i =
+        let z : answer sha (node_of past) c ≡ Sends e to f = cc in
+        clash (bytes_eq (sid_of e) sid) ((bytes_eq-Decides (sid_of e) sid).1 i) (first_false (bytes_eq (sid_of e) sid) false (subst (λ (b : Answer). list_any (λ e. bytes_eq (sid_of e) sid) (events_of_answer b) ≡ false) z u))
 
-        quiet : Silent l0
-        quiet e to f o i =
-            let z : answer sha (node_of past) c ≡ Sends e to f = cc in
-            clash (bytes_eq (sid_of e) sid) ((bytes_eq-Decides (sid_of e) sid).1 i) (of_quiet (bytes_eq (sid_of e) sid) (subst (λ (b : Answer). list_any (λ e. bytes_eq (sid_of e) sid) (events_of_answer b) ≡ false) z u.quiet))
+    on_unmoved : Unmoved_ n n' a → Flight (called sha w k who c past)
+    on_unmoved u = assemble_silent (quiet_silent u.quiet) (track_more w.log l0 who past.programs n n' (quiet_silent u.quiet) u.same out.more_joins u.fewer (fl.tracks who past its_past))
 
     on_left : WasLeft_ who n n' a → Flight (called sha w k who c past)
     on_left u = assemble_silent quiet (left (fl.tracks who past its_past))
       where
-        of_quiet : (b : Bool) → (b || false) ≡ false → b ≡ false
-        of_quiet true h = absurd (cc)
-        of_quiet false h = refl
-
         quiet : Silent l0
-        quiet e to f o i =
-            let z : answer sha (node_of past) c ≡ Sends e to f = cc in
-            clash (bytes_eq (sid_of e) sid) ((bytes_eq-Decides (sid_of e) sid).1 i) (of_quiet (bytes_eq (sid_of e) sid) (subst (λ (b : Answer). list_any (λ e. bytes_eq (sid_of e) sid) (events_of_answer b) ≡ false) z u.quiet))
+        quiet = quiet_silent u.quiet
 
         left : Track w.log who past.programs n → Track log' who past.programs n'
         left (inl t) = inl record { alone = u.none; none = λ r a b. ap (has by_role r) (same_items w.log l0 quiet) ∙ t.none r a b; unjoined = λ r a b f h. t.unjoined r a b f (u.fewer r h) }
         left (inr (inl t)) = inr (inr record { x = t.x; alone = u.none; ok = sess_more w.log l0 who t.x quiet t.ok; was_joined = out.more_joins (t.x).role t.was_joined; why = inr u.by })
         left (inr (inr t)) = inr (inr record { x = t.x; alone = u.none; ok = sess_more w.log l0 who t.x quiet t.ok; was_joined = out.more_joins (t.x).role t.was_joined; why = t.why })
 
-    -- an answer without an event of the session
-    quiet_silent : list_any (λ e. bytes_eq (sid_of e) sid) (events_of_answer a) ≡ false → Silent l0
-    quiet_silent u e to f o i =
-        let z : answer sha (node_of past) c ≡ Sends e to f = cc in
-        clash (bytes_eq (sid_of e) sid) ((bytes_eq-Decides (sid_of e) sid).1 i) (alone_ (bytes_eq (sid_of e) sid) (subst (λ (b : Answer). list_any (λ e. bytes_eq (sid_of e) sid) (events_of_answer b) ≡ false) z u))
-      where
-        alone_ : (b : Bool) → (b || false) ≡ false → b ≡ false
-        alone_ true h = absurd (cc)
-        alone_ false h = refl
-
     quiet_take : list_any (λ e. bytes_eq (sid_of e) sid) (events_of_answer a) ≡ false → NoTake l0
     quiet_take u f i o =
         let z : answer sha (node_of past) c ≡ Happened (receipt f) = cc in
-        clash (bytes_eq f.sid sid) ((bytes_eq-Decides f.sid sid).1 i) (alone_ (bytes_eq f.sid sid) (subst (λ (b : Answer). list_any (λ e. bytes_eq (sid_of e) sid) (events_of_answer b) ≡ false) z u))
-      where
-        alone_ : (b : Bool) → (b || false) ≡ false → b ≡ false
-        alone_ true h = absurd (cc)
-        alone_ false h = refl
+        clash (bytes_eq f.sid sid) ((bytes_eq-Decides f.sid sid).1 i) (first_false (bytes_eq f.sid sid) false (subst (λ (b : Answer). list_any (λ e. bytes_eq (sid_of e) sid) (events_of_answer b) ≡ false) z u))
 
     unmoved_baton : Baton w → Unmoved_ n n' a → Baton (called sha w k who c past)
     unmoved_baton b u = baton_more w.log l0 (Holder w) (Holder (called sha w k who c past)) (quiet_silent u.quiet) (quiet_take u.quiet) (none_filter (λ e. bytes_eq (sid_of e) sid) (events_of_answer a) u.quiet) (holder_more u.same) b
@@ -696,23 +661,19 @@ module _ {sha : Hash} {s : Schedule} {sid : List ℕ} {cast : Cast} {g : Graph} 
       silent_ = happened_silent (receipt h.f) h.took.is_answer
 
       here_wf : In wf.log l0
-      here_wf = in_after (k + 1) (called sha w k who c past).log wf.log after l0 (C.in_last w.log l0)
+      here_wf = in_after (k + 1) (called sha w k who c past).log wf.log after l0 (in_last w.log l0)
 
       taken_wf : IsTaken wf l0 who h.took.bs h.f
       taken_wf = (contains_from_in wf.log l0 here_wf, refl, ap (λ z. Some z) h.took.is_call, h.took.is_read, ap (λ z. Answered z) h.took.is_answer)
 
       taken_now : IsTaken (called sha w k who c past) l0 who h.took.bs h.f
-      taken_now = (contains_from_in log' l0 (C.in_last w.log l0), refl, ap (λ z. Some z) h.took.is_call, h.took.is_read, ap (λ z. Answered z) h.took.is_answer)
+      taken_now = (contains_from_in log' l0 (in_last w.log l0), refl, ap (λ z. Some z) h.took.is_call, h.took.is_read, ap (λ z. Answered z) h.took.is_answer)
 
       tf : TakesFrame its s LeftBy_ who out.moves h.f
       tf = out.took h.f h.took
 
       last_item : (i : Item) × (last f.items ≡ Some i) × (i.role ≡ f.sender)
-      last_item = go (last f.items) refl h.rows.by_sender
-        where
-          go : (o : Option Item) → last f.items ≡ o → option_map_or (λ (i : Item). i.role == f.sender) o false ≡ true → (i : Item) × (last f.items ≡ Some i) × (i.role ≡ f.sender)
-          go None e q = absurd (cc)
-          go (Some i) e q = (i, e, eqb-true i.role f.sender q)
+      last_item = sender_last f h.rows.by_sender
 
       sender_honest : honest_role s cast f.sender ≡ true
       sender_honest =
@@ -777,7 +738,7 @@ module _ {sha : Hash} {s : Schedule} {sid : List ℕ} {cast : Cast} {g : Graph} 
       to_who = fo.to_is ∙ ap (principal cast) h.same_role ∙ h.is_who
 
       taken_this : WasReceived log' ws.2 h.f
-      taken_this = (l0, C.in_last w.log l0, ap (λ z. Some z) (sym to_who), ap (λ z. Some z) (h.took.is_call ∙ ap (λ z. Deliver z) bytes_are), ap (λ z. Answered z) h.took.is_answer)
+      taken_this = (l0, in_last w.log l0, ap (λ z. Some z) (sym to_who), ap (λ z. Some z) (h.took.is_call ∙ ap (λ z. Deliver z) bytes_are), ap (λ z. Answered z) h.took.is_answer)
 
       all_taken : AllReceived log'
       all_taken l e to f2 i o hs = elim (in_parts w.log (l0 ∷ []) l i) [
@@ -917,7 +878,7 @@ module _ {sha : Hash} {s : Schedule} {sid : List ℕ} {cast : Cast} {g : Graph} 
       by_x = ap (role_at (shape g)) h.rows.leaves ∙ eqb-true (role_at (shape g) (place g h.x)) (h.x).role h.rows.turn
 
       in_edges : h.label < length g.edges
-      in_edges = C.lt_of h.label (length g.edges) h.rows.edge
+      in_edges = lt_of h.label (length g.edges) h.rows.edge
 
       -- for another of the cast the principal holds what the list of pairs says
       holds : (t : ℕ) → t < length g.roles → t ≢ (h.x).role → SameFor n.keys mine (h.x).cast t

@@ -1,5 +1,5 @@
 -- What a role keeps follows a walk, without an assumption of honesty.
-use Rattle.std.specs.Prelude.{◌≡◌, ◌≢◌, ℕ, zero, suc, ◌+◌, ◌<◌, ◌==◌, nat_lt, ◌||◌, ◌&&◌, ◌⊎◌, Bool, true, false, List, [], ◌∷◌, ◌++◌, map, length, get_or, refl, Option, Some, None, option_map, unwrap_or, IfSome}
+use Rattle.std.specs.Prelude.{◌≡◌, ◌≢◌, ℕ, zero, suc, ◌+◌, ◌<◌, ◌==◌, nat_lt, ◌||◌, ◌&&◌, ◌⊎◌, Bool, true, false, List, [], ◌∷◌, ◌++◌, map, length, get_or, refl, Some, None, option_map, unwrap_or, IfSome}
 use Rattle.std.specs.List.{AllByRecursion, list_any}
 use Rattle.std.specs.Option.{option_or, option_map_or}
 use Rattle.std.proofs.Common.{sym, ◌∙◌, ap, subst, inl, inr, arith, append-nil}
@@ -9,7 +9,7 @@ use Rattle.sg_model.specs.Last.{Map, has, last, last_of, after_last, up_to_last,
 use Rattle.sg_model.specs.Lists.{is_in, below, range_from, keys_of, value_at, from_last}
 use Rattle.sg_model.specs.Shape.{Walk, end_of, role_at, source, target, sender, receiver}
 use Rattle.sg_model.specs.Values.{Opening}
-use Rattle.sg_model.proofs.Small.{same_bytes, all_tests}
+use Rattle.sg_model.proofs.Small.{same_bytes, all_tests, keys_of_pairs}
 use Rattle.sg_model.proofs.Numbers.{below_in}
 use Rattle.sg_law.proofs.Lists.{has-last_of, last-append, last-append_some}
 use Rattle.sg_law.proofs.Upto.{upto-at, upto-more}
@@ -32,7 +32,7 @@ use Rattle.sg_protocol.specs.Following.{IsOpened, FollowsWalk, IsFollowed, IsOpe
 use Rattle.sg_protocol.proofs.Paths.{flat_map-append}
 use Rattle.sg_protocol.proofs.Bridge.{labels-view_of, has_view-Contains, up_to_last-after}
 use Rattle.sg_protocol.proofs.Entries.{Wal, Roles, view_ends, seen_labels, has-after_last, walked_after, edges_same}
-use Rattle.sg_protocol.proofs.Moves.{writes_below}
+use Rattle.sg_protocol.proofs.Moves.{writes_below, sender_last}
 use Rattle.sg_protocol.proofs.Takes.{Rows, rows_of, all_roles, same_some}
 use Rattle.sg_protocol.proofs.SeenItems.{in_merge, in_rising}
 use Rattle.sg_protocol.proofs.Ends.{committed-append, last_opening-append}
@@ -225,15 +225,11 @@ evidence_unwritten x role (e ∷ es) a = elim (cases_Bool (has (λ (y : Wal). ro
   | inr d ↦ rw d (a.0, evidence_unwritten x role es a.1)
 ]
 
-unit_keys : (xs : List ℕ) → keys_of {A = Unit {0}} (map (λ x. (x, tt)) xs) ≡ xs
-unit_keys [] = refl
-unit_keys (x ∷ xs) = ap (λ l. x ∷ l) (unit_keys xs)
-
 walked_unwritten : (g : Graph) (x : ℕ) (es : List ℕ) → list_any (λ e. is_in x (writes g e)) es ≡ false → AllByRecursion (Unwritten x) (walked g es)
 walked_unwritten g x [] h = tt
 walked_unwritten g x (e ∷ es) h = elim (cases_Bool (is_in x (writes g e))) [
   | inl d ↦ absurd (let f : true ≡ false = rw d at h in cc)
-  | inr d ↦ (ap (is_in x) (unit_keys (writes g e)) ∙ d, walked_unwritten g x es (rw d at h))
+  | inr d ↦ (ap (is_in x) (keys_of_pairs (λ x. tt) (writes g e)) ∙ d, walked_unwritten g x es (rw d at h))
 ]
 
 none_seen : (n x : ℕ) → x < n → (is : List Item) (ws : List Wal) → map seen is ≡ map (λ (w : Wal). record { label = w.step; delta = rising n (keys_of w.writes) }) ws → AllByRecursion (Unwritten x) ws → committed x is ≡ None
@@ -278,11 +274,7 @@ module _ (sha : Hash) (keys : Keyring) (p : Program) (ip : IsProgram sha p) (s :
   no_own = has-after_last (sender (shape g')) s.role viewed.walk
 
   last_item : (i : Item) × (last f.items ≡ Some i) × (i.role ≡ f.sender)
-  last_item = go (last f.items) refl rows.by_sender
-    where
-      go : (o : Option Item) → last f.items ≡ o → option_map_or (λ (i : Item). i.role == f.sender) o false ≡ true → (i : Item) × (last f.items ≡ Some i) × (i.role ≡ f.sender)
-      go None e h = absurd (cc)
-      go (Some i) e h = (i, e, eqb-true i.role f.sender h)
+  last_item = sender_last f rows.by_sender
 
   labels_seen : map (λ (i : Item). i.label) f.items ≡ last_of (sender (shape g')) since
   labels_seen = sym (seen_labels f.items) ∙ ap (λ (z : View). map (λ (s : Seen). s.label) z.items) (sym viewed.seen) ∙ labels-view_of g' s.role viewed.walk

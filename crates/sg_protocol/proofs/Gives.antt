@@ -13,15 +13,12 @@ use Rattle.sg_protocol.specs.Frame.{Frame}
 use Rattle.sg_protocol.specs.Texts.{item_text_of, frame_text_of}
 use Rattle.sg_protocol.specs.Walk.{is_typed_or_hidden, shown}
 use Rattle.sg_law.specs.Values as V
-use Rattle.sg_law.specs.Values.{State, SentItem, transcript_with_item, com_of, Move, Commit, moved, MayTake, Tagged, Framed, Opened, own_part_of, is_variable, put}
-use Rattle.sg_law.specs.Values.Move.{Writes, Takes}
 use Rattle.sg_protocol.proofs.Moves.{writes_below}
 use Rattle.sg_model.specs.Lists.{rises_from, keys_of, in_order}
-use Rattle.sg_model.proofs.Small.{clash}
-use Rattle.sg_law.specs.Values.{MayWrite}
+use Rattle.sg_model.proofs.Small.{clash, lt_of}
 use Rattle.sg_protocol.specs.Acting.{is_bad, is_typed, is_out_of_order, openings_for}
 use Rattle.sg_protocol.proofs.Paths.{writes_rise}
-use Rattle.sg_protocol.proofs.TextLaws.{parts}
+use Rattle.sg_protocol.proofs.TextLaws.{parts, magic_long, item_word, frame_word}
 
 -- ---- maps in order
 
@@ -74,26 +71,17 @@ in_order-all n m r b = picks_all m 0 n r (subst (λ z. AllByRecursion (λ x. x <
 -- ---- the sids of texts
 
 word_item : (v w : ℕ) (a b : List ℕ) → (if v == 2 then codes "sg-item-2" else codes "sg-item-1") ++ a ≡ (if w == 2 then codes "sg-item-2" else codes "sg-item-1") ++ b → a ≡ b
-word_item v w a b e = (parts (if v == 2 then codes "sg-item-2" else codes "sg-item-1") (if w == 2 then codes "sg-item-2" else codes "sg-item-1") a b (nine v ∙ sym (nine w)) e).1
-  where
-    nine : (v : ℕ) → length (if v == 2 then codes "sg-item-2" else codes "sg-item-1") ≡ 9
-    nine v = elim (cases_Bool (v == 2)) [ inl e ↦ rw e refl | inr e ↦ rw e refl ]
+word_item v w a b e = (parts (if v == 2 then codes "sg-item-2" else codes "sg-item-1") (if w == 2 then codes "sg-item-2" else codes "sg-item-1") a b (item_word v ∙ sym (item_word w)) e).1
 
 pub item_sid : (v w : ℕ) (s t : List ℕ) (a b c d l m i j : ℕ) (h k : List (Option (List ℕ))) → length s ≡ 32 → length t ≡ 32 → item_text_of v s a c l i h ≡ item_text_of w t b d m j k → s ≡ t
 item_sid v w s t a b c d l m i j h k x y e = (parts s t _ _ (x ∙ sym y) (word_item v w _ _ e)).0
 
 word_frame : (v w : ℕ) (a b : List ℕ) → frame_text_of v a ≡ frame_text_of w b → a ≡ b
-word_frame v w a b e = (parts (if v == 2 then codes "sg-frame-2" else codes "sg-frame-1") (if w == 2 then codes "sg-frame-2" else codes "sg-frame-1") a b (ten v ∙ sym (ten w)) e).1
-  where
-    ten : (v : ℕ) → length (if v == 2 then codes "sg-frame-2" else codes "sg-frame-1") ≡ 10
-    ten v = elim (cases_Bool (v == 2)) [ inl e ↦ rw e refl | inr e ↦ rw e refl ]
+word_frame v w a b e = (parts (if v == 2 then codes "sg-frame-2" else codes "sg-frame-1") (if w == 2 then codes "sg-frame-2" else codes "sg-frame-1") a b (frame_word v ∙ sym (frame_word w)) e).1
 
 pub frame_sid : (v w : ℕ) (f g : Frame) → length f.sid ≡ 32 → length g.sid ≡ 32 → frame_text_of v (body f) ≡ frame_text_of w (body g) → f.sid ≡ g.sid
-frame_sid v w f g x y e = (parts f.sid g.sid _ _ (x ∙ sym y) (tl (join_code f.join) (join_code g.join) _ _ (parts (magic f.version) (magic g.version) _ _ (four f.version ∙ sym (four g.version)) (word_frame v w (body f) (body g) e)).1)).0
+frame_sid v w f g x y e = (parts f.sid g.sid _ _ (x ∙ sym y) (tl (join_code f.join) (join_code g.join) _ _ (parts (magic f.version) (magic g.version) _ _ (magic_long f.version ∙ sym (magic_long g.version)) (word_frame v w (body f) (body g) e)).1)).0
   where
-    four : (v : ℕ) → length (magic v) ≡ 4
-    four v = elim (cases_Bool (v == 2)) [ inl e ↦ rw e refl | inr e ↦ rw e refl ]
-
     tl : (a b : ℕ) (as_ bs : List ℕ) → a ∷ as_ ≡ b ∷ bs → as_ ≡ bs
     tl a b as_ bs e = cc
 
@@ -178,9 +166,6 @@ same_rising (x ∷ xs) (y ∷ ys) n r q s t f =
           ]
         ]
       where
-        lt_of : (a b : ℕ) → nat_lt a b ≡ true → a < b
-        lt_of a b h = grind (arith, nat_tests)
-
         eq_of : (a b : ℕ) → nat_lt a b ≡ false → nat_lt b a ≡ false → a ≡ b
         eq_of a b h k = grind (arith, nat_tests)
 

@@ -11,11 +11,10 @@ use Rattle.sg_model.specs.Names.{Name}
 use Rattle.sg_model.specs.Values.{Value, Opening}
 use Rattle.sg_model.proofs.Numbers.{absent}
 use Rattle.sg_model.proofs.Small.{all-append, all_weaker}
+use Rattle.sg_model.proofs.Members.{In, in_from_Contains, contains_from_in, in_right, in_parts, in_flat, in_last}
+use Rattle.sg_model.proofs.Finding.{find_all}
 use Rattle.sg_law.specs.Values as V
 use Rattle.sg_law.specs.Values.{State, Move, Commit, AllMay, moved_all, deed_of, all_openings}
-use Rattle.sg_law.proofs.Members.{in_right, in_flat, in_parts}
-use Rattle.sg_law.proofs.Take.{contains_from_in}
-use Rattle.sg_law.proofs.Upto.{In, in_from_Contains}
 use Rattle.sg_protocol.specs.Graph.{Graph, shape}
 use Rattle.sg_protocol.specs.Frame.{Cast, Frame, IsOpening}
 use Rattle.sg_protocol.specs.Spelling.{HasSpelling}
@@ -29,7 +28,7 @@ use Rattle.sg_protocol.specs.Node.{Node, session_with, program_for}
 use Rattle.sg_protocol.specs.NodeAfter.{node_after}
 use Rattle.sg_protocol.specs.Acting.{answer, answer_act, acted, sent, rows_of_act, openings_for}
 use Rattle.sg_protocol.specs.Notes.{Note, notes, notes_of_act, no_notes}
-use Rattle.sg_protocol.specs.Past.{Past, node_of, new_node, past_after}
+use Rattle.sg_protocol.specs.Past.{Past, node_of, past_after}
 use Rattle.sg_protocol.specs.Walk.{acts_of_event}
 use Rattle.sg_protocol.specs.Schedule.{Schedule, is_honest, honest_role}
 use Rattle.sg_protocol.specs.World.{World, Logged, Outcome, Answered, past_of}
@@ -44,9 +43,8 @@ use Rattle.sg_protocol.proofs.AfterCalls.{nothing, node_kept}
 use Rattle.sg_protocol.proofs.AbandonCall.{abandon_out}
 use Rattle.sg_protocol.proofs.ActCall.{act_out}
 use Rattle.sg_protocol.proofs.Calls.{NodeOk, Out}
-use Rattle.sg_protocol.proofs.Progressing.{Suffix, suffix_one, suffix_trans, in_before, in_after, node_more, moved-append, may-append, openings-append, events-append, note_more, small_values}
+use Rattle.sg_protocol.proofs.Progressing.{Suffix, suffix_one, suffix_trans, in_before, in_after, moved-append, may-append, openings-append, events-append, note_more, small_values, node_next}
 use Rattle.sg_protocol.proofs.DeliverCall.{deliver_out}
-use Rattle.sg_protocol.proofs.Finding.{find_all}
 use Rattle.sg_protocol.proofs.Gives.{keys_are}
 use Rattle.sg_protocol.proofs.KnownSession.{SessionOfCast}
 use Rattle.sg_protocol.proofs.Moves.{NoteOk}
@@ -199,7 +197,7 @@ module _ {sha : Hash} {s : Schedule} {sid : List ℕ} {cast : Cast} {g : Graph} 
     -- any call
     module _ (c : Call) (range : IsGiven c) (after : Suffix (k + 1) (called sha w k who c past).log wf.log) where
       in_end : In wf.log (entry_ c)
-      in_end = in_after (k + 1) (called sha w k who c past).log wf.log after (entry_ c) (C.in_last w.log (entry_ c))
+      in_end = in_after (k + 1) (called sha w k who c past).log wf.log after (entry_ c) (in_last w.log (entry_ c))
 
       founds : (nt : Note) → In (notes sha n c).found nt → is_honest s nt.one ≡ true → is_honest s nt.two ≡ true → NoteOk g sid st.log nt
       founds nt i h1 h2 =
@@ -236,7 +234,7 @@ module _ {sha : Hash} {s : Schedule} {sid : List ℕ} {cast : Cast} {g : Graph} 
     }
       where
         node_is : node_of (past_after sha past c) ≡ node_after n c (answer sha n c)
-        node_is = node_more (new_node past.keys past.programs past.first) past.calls (record { call = c; answer = answer sha n c })
+        node_is = node_next sha past c
 
         called_fits : Fits (moved_all commit st out.moves) who (past_after sha past c)
         called_fits = record {

@@ -1,5 +1,5 @@
 -- What happens in a run, one after another, whether a schedule says it or principals run apart.
-use Rattle.std.specs.Prelude.{◌≡◌, ℕ, suc, ◌+◌, ◌==◌, nat_lt, ◌&&◌, IsTrue, true, List, [], ◌∷◌, ◌++◌, find, length, bytes_eq, refl, Option, Some, None, option_map, option_and_then, All, ⊤}
+use Rattle.std.specs.Prelude.{◌≡◌, ℕ, suc, ◌+◌, ◌==◌, nat_lt, ◌&&◌, IsTrue, true, List, [], ◌∷◌, ◌++◌, find, length, bytes_eq, refl, Option, Some, None, option_map, option_and_then, All, ⊤, map}
 use Rattle.std.specs.List.{AllByRecursion}
 use Rattle.std.specs.Option.{option_map_or}
 use Rattle.std.proofs.Common.{sym, ◌∙◌, ap, subst, inl, inr, arith, append-nil}
@@ -10,7 +10,8 @@ use Rattle.sg_model.specs.Lists.{all_differ}
 use Rattle.sg_model.specs.Names.{Name, is_name}
 use Rattle.sg_model.specs.Shape.{role_at}
 use Rattle.sg_model.proofs.Small.{all_weaker, clash, same_bytes}
-use Rattle.sg_law.proofs.Upto.{In}
+use Rattle.sg_model.proofs.Members.{In}
+use Rattle.sg_model.proofs.Finding.{find_all}
 use Rattle.sg_protocol.specs.Graph.{IsGraph, shape}
 use Rattle.sg_protocol.specs.Frame.{Cast, Frame}
 use Rattle.sg_protocol.specs.Texts.{Hash, IsHash, session_id, session_text_of}
@@ -28,9 +29,8 @@ use Rattle.sg_protocol.specs.Run.{called, uncalled, events_of_outcome}
 use Rattle.sg_protocol.specs.IsSchedule.{IsProgram}
 use Rattle.sg_protocol.specs.Ranges.{AreValues, IsCallInRange}
 use Rattle.sg_protocol.specs.Bounds.{IsSession, IsShortFrame}
-use Rattle.sg_protocol.proofs.Finding.{find_all, find_passes}
 use Rattle.sg_protocol.proofs.Nodes.{start_all, start_sends}
-use Rattle.sg_protocol.proofs.Progressing.{Suffix, suffix_refl, suffix_one, suffix_trans, next_past, past_called}
+use Rattle.sg_protocol.proofs.Progressing.{Suffix, suffix_refl, suffix_one, suffix_trans, next_past, past_called, past_called_at}
 use Rattle.sg_protocol.proofs.Ranges.{new_in_range, node_in_range, sent_in_range}
 
 -- a principal is asked, or an entry without a call is logged
@@ -177,29 +177,33 @@ module _ (sha : Hash) (wf : World) (P : World → Type 0)
   keep_course w k p hs right e = subst P e (keep_prefix w k p hs [] right (ap (all_happen sha w k) (append-nil hs) ∙ e))
 
 -- the pasts after a call
-module _ (sha : Hash) (w : World) (k : ℕ) (who : Name) (past : Past) (its_past : past_of w who ≡ Some past) (c : Call) (Q : Name → Past → Type 0) (mine : Q who (past_after sha past c)) (others : (me : Name) (y : Past) → (me ≡ who → ⊥) → past_of w me ≡ Some y → Q me y) where
-  go : (me : Name) (p' : Past) (o : Option Past) → past_of w me ≡ o → option_map (next_past sha who c) o ≡ Some p' → Q me p'
-  go me p' None q e = absurd (cc)
-  go me p' (Some y) q e =
-      let r : next_past sha who c y ≡ p' = cc in
-      let is_me : y.keys.me ≡ me = same_bytes y.keys.me me (find_passes (λ (z : Past). bytes_eq z.keys.me me) w.pasts y q) in
-      elim (cases_Bool (bytes_eq y.keys.me who)) [
-        | inl h ↦
-            let same : me ≡ who = sym is_me ∙ same_bytes y.keys.me who h in
-            let two : Some y ≡ Some past = sym q ∙ ap (past_of w) same ∙ its_past in
-            let y_past : y ≡ past = cc in
-            let after_ : past_after sha past c ≡ p' = ap (λ z. past_after sha z c) (sym y_past) ∙ (rw h at r) in
-            subst (λ z. Q z p') (sym same) (subst (Q who) after_ mine)
-        | inr h ↦
-            let r' : y ≡ p' = rw h at r in
-            subst (Q me) r' (others me y (λ z. clash (bytes_eq y.keys.me who) ((bytes_eq-Decides y.keys.me who).1 (is_me ∙ z)) h) q)
-      ]
+pub pasts_kept : (sha : Hash) (w : World) (k : ℕ) (who : Name) (past : Past) → past_of w who ≡ Some past → (c : Call) (Q : Name → Past → Type 0) → Q who (past_after sha past c) → ((me : Name) (y : Past) → (me ≡ who → ⊥) → past_of w me ≡ Some y → Q me y)
+    → (me : Name) (p' : Past) → past_of (called sha w k who c past) me ≡ Some p' → Q me p'
+pasts_kept sha w k who past its_past c Q mine others me p' e = elim (past_called_at sha w k who past its_past c me) [
+  | inl r ↦
+      let after : Some (past_after sha past c) ≡ Some p' = sym r.2 ∙ e in
+      let next : past_after sha past c ≡ p' = cc in
+      subst (λ z. Q z p') (sym (same_bytes me who r.0)) (subst (Q who) next mine)
+  | inr r ↦ others me p' (λ z. clash (bytes_eq me who) ((bytes_eq-Decides me who).1 z) r.0) (sym r.1 ∙ e)
+]
 
-  pub pasts_kept : (me : Name) (p' : Past) → past_of (called sha w k who c past) me ≡ Some p' → Q me p'
-  pasts_kept me p' e = go me p' (past_of w me) refl (sym (past_called sha w k who c past me) ∙ e)
+-- what each past keeps through a call holds of all pasts
+module _ (sha : Hash) (P : Past → Type 0) (keeps : (p : Past) (c : Call) → P p → P (past_after sha p c)) where
+  recorded : (who : Name) (c : Call) (ps : List Past) → AllByRecursion P ps → AllByRecursion P (map (next_past sha who c) ps)
+  recorded who c [] a = tt
+  recorded who c (p ∷ ps) a = (elim (cases_Bool (bytes_eq p.keys.me who)) [ inl e ↦ rw e (keeps p c a.0) | inr e ↦ rw e a.0 ], recorded who c ps a.1)
+
+  if_there : (w : World) (k : ℕ) (who : Name) (c : Call) (o : Option Past) → AllByRecursion P w.pasts → AllByRecursion P (option_map_or (called sha w k who c) o w).pasts
+  if_there w k who c None a = a
+  if_there w k who c (Some past) a = recorded who c w.pasts a
+
+  pub all_pasts : (w : World) (k : ℕ) (hs : List Happening) → AllByRecursion P w.pasts → AllByRecursion P (all_happen sha w k hs).pasts
+  all_pasts w k [] a = a
+  all_pasts w k (Asked who c ∷ hs) a = all_pasts (happens sha w k (Asked who c)) (k + 1) hs (if_there w k who c (past_of w who) a)
+  all_pasts w k (Idle who o fr ∷ hs) a = all_pasts (uncalled w k who o fr) (k + 1) hs a
 
 -- the key that a principal holds for another stays the same
-next_keys : (sha : Hash) (who : Name) (c : Call) (p : Past) → (next_past sha who c p).keys ≡ p.keys
+pub next_keys : (sha : Hash) (who : Name) (c : Call) (p : Past) → (next_past sha who c p).keys ≡ p.keys
 next_keys sha who c p = elim (cases_Bool (bytes_eq p.keys.me who)) [ inl e ↦ rw e refl | inr e ↦ rw e refl ]
 
 pub key_called : (sha : Hash) (w : World) (k : ℕ) (who : Name) (c : Call) (past : Past) (a b : Name) → key_at (called sha w k who c past) a b ≡ key_at w a b

@@ -9,8 +9,7 @@ use Rattle.sg_model.specs.Names.{Name}
 use Rattle.sg_model.specs.Shape.{receiver, sender}
 use Rattle.sg_model.specs.Values.{Opening}
 use Rattle.sg_model.proofs.Small.{same_bytes, bytes_same, clash, all-append}
-use Rattle.sg_law.proofs.Members.{in_flat}
-use Rattle.sg_law.proofs.Upto.{In}
+use Rattle.sg_model.proofs.Members.{In, in_flat}
 use Rattle.sg_protocol.specs.Graph.{Graph, shape}
 use Rattle.sg_protocol.specs.Targets.{IsTargetTable}
 use Rattle.sg_protocol.specs.Frame.{Cast, Frame, Item}

@@ -1,6 +1,5 @@
 -- Sessions do not disturb each other.
-use Rattle.std.specs.Prelude.{◌≡◌, ℕ, ◌≤◌, ◌==◌, ◌||◌, ◌&&◌, ◌⊎◌, nat_le, Bool, true, false, List, [], ◌∷◌, ◌++◌, map, filter, find, length, refl, Option, Some, None, bytes_eq, Result, Ok, Err, All, IfSome, ⊤}
-use Rattle.std.specs.List.{list_any}
+use Rattle.std.specs.Prelude.{◌≡◌, ℕ, ◌≤◌, ◌==◌, ◌&&◌, ◌⊎◌, nat_le, Bool, true, false, List, [], ◌∷◌, map, filter, length, refl, Option, Some, None, bytes_eq, Result, Ok, Err, All, IfSome, ⊤}
 use Rattle.std.specs.Option.{option_map_or}
 use Rattle.std.proofs.Common.{sym, ◌∙◌, ap, subst, inl, inr, arith}
 use Rattle.std.proofs.lemmas.List.Elements.{All-head, All-tail, filter-append}
@@ -9,7 +8,8 @@ use Rattle.sg_model.specs.Last.{last, Map}
 use Rattle.sg_model.specs.Lists.{first_some}
 use Rattle.sg_protocol.specs.Frame.{Frame, Cast, Item}
 use Rattle.sg_model.specs.Values.{Opening, Value}
-use Rattle.sg_model.proofs.Small.{and_left, clash, same_bytes, length_filter, length-more, or_assoc}
+use Rattle.sg_model.proofs.Small.{and_left, clash, same_bytes, length_filter, length-more}
+use Rattle.sg_model.proofs.Finding.{find-filter, any-append}
 use Rattle.sg_protocol.specs.Reading.{read}
 use Rattle.sg_protocol.specs.Texts.{Hash, session_id}
 use Rattle.sg_protocol.specs.Session.{Session, Took, Gave, extended, new_session}
@@ -18,39 +18,14 @@ use Rattle.sg_protocol.specs.Node.{Node, is_for, session_with, session_for, has_
 use Rattle.sg_protocol.specs.Calls.{Event, Received, Call, Start, Act, Abandon, Deliver, Answer, Happened, Sends, Abandoned, NotStarted, NotDelivered, Refusal, StartFault, UnknownGraph, CacheFull, SessionsFull}
 use Rattle.sg_protocol.specs.Verdict.{row, decided, rows_of_join, join_rows, next_rows, rows_of_session, rows, receipt, verdict_on}
 use Rattle.sg_protocol.specs.Acting.{started, rows_of_start, answer, openings_for}
-use Rattle.sg_protocol.specs.NodeAfter.{node_after, takes_read, joined, goes_on, replace, still, is_over}
+use Rattle.sg_protocol.specs.NodeAfter.{node_after, takes_read, joined, goes_on, still}
 use Rattle.sg_protocol.specs.Past.{AnsweredCall, AreAnswers, calls_of_session, is_call_of, is_frame_of, answers, new_node}
-use Rattle.sg_protocol.specs.Isolation.{is_for_room, SessionsAreIsolated}
+use Rattle.sg_protocol.specs.Isolation.{is_for_room, SessionsAreIsolated, IsLeft}
+use Rattle.sg_protocol.proofs.OfSid.{of_sid, replace-own, still-own}
+use Rattle.sg_protocol.proofs.PerCall.{calls_leave_others, joined_with}
+use Rattle.sg_protocol.proofs.First.{joins_grow}
 
 -- ---- look-ups in a part of a list
-
-pub find-filter : {A : Type 0} (p q : A → Bool) → ((x : A) → p x ≡ true → q x ≡ true) → (xs : List A) → find p (filter q xs) ≡ find p xs
-find-filter p q h [] = refl
-find-filter p q h (x ∷ xs) = elim (cases_Bool (q x)) [
-  | inl e ↦ rw e (elim (cases_Bool (p x)) [ inl f ↦ rw f refl | inr f ↦ rw f (find-filter p q h xs) ])
-  | inr e ↦ rw e (elim (cases_Bool (p x)) [ inl f ↦ clash (q x) (h x f) e | inr f ↦ rw f (find-filter p q h xs) ])
-]
-
-any-append : {A : Type 0} (p : A → Bool) (xs ys zs : List A) → list_any p xs ≡ list_any p ys → list_any p (xs ++ zs) ≡ list_any p (ys ++ zs)
-any-append {A = A} p xs ys zs h = split xs ∙ ap (λ b. b || list_any p zs) h ∙ sym (split ys)
-  where
-    split : (xs : List A) → list_any p (xs ++ zs) ≡ (list_any p xs || list_any p zs)
-    split [] = refl
-    split (x ∷ xs) = ap (λ b. p x || b) (split xs) ∙ or_assoc (p x) (list_any p xs) (list_any p zs)
-
-pub replace-other : {q : Session → Bool} (which : Session → Bool) (now : Session → List Session) → ((s : Session) → which s ≡ true → q s ≡ false) → ((s : Session) → which s ≡ true → filter q (now s) ≡ []) → (ss : List Session) → filter q (replace which now ss) ≡ filter q ss
-replace-other which now h k [] = refl
-replace-other {q = q} which now h k (s ∷ ss) = elim (cases_Bool (which s)) [
-  | inl e ↦ rw (e, filter-append q (now s) ss, k s e, h s e) refl
-  | inr e ↦ rw e (elim (cases_Bool (q s)) [ inl f ↦ rw f (ap (λ l. s ∷ l) (replace-other which now h k ss)) | inr f ↦ rw f (replace-other which now h k ss) ])
-]
-
-pub replace-own : {q : Session → Bool} (which : Session → Bool) (now : Session → List Session) → ((s : Session) → which s ≡ true → q s ≡ true) → ((s : Session) → which s ≡ true → filter q (now s) ≡ now s) → (ss : List Session) → replace which now (filter q ss) ≡ filter q (replace which now ss)
-replace-own which now h k [] = refl
-replace-own {q = q} which now h k (s ∷ ss) = elim (cases_Bool (which s)) [
-  | inl e ↦ rw (h s e, e, filter-append q (now s) ss, k s e) refl
-  | inr e ↦ elim (cases_Bool (q s)) [ inl f ↦ rw (f, e) (rw f (ap (λ l. s ∷ l) (replace-own which now h k ss))) | inr f ↦ rw (f, e) (rw f (replace-own which now h k ss)) ]
-]
 
 -- ---- the first row that holds, with and without the rows of refusals because there was no room
 
@@ -85,9 +60,6 @@ fewer_full : (k m n : ℕ) → m ≤ n → nat_le k m ≡ true → nat_le k n �
 fewer_full k m n le h = le-leb k n (omega (arith, le, leb-true k m h))
 
 -- ---- a node, and one that gets the calls of a session alone
-
-abbrev pub of_sid : List ℕ → Session → Bool
-of_sid sid s = bytes_eq s.sid sid
 
 record Beside (sid : List ℕ) (n n' : Node) : Type 0 where
   keys : n'.keys ≡ n.keys
@@ -183,20 +155,6 @@ module _ (sha : Hash) (sid : List ℕ) (n n' : Node) (b : Beside sid n n') where
 
 -- ---- the nodes after a call
 
-any-snoc : {A : Type 0} (p : A → Bool) (xs : List A) (x : A) → p x ≡ false → list_any p (xs ++ x ∷ []) ≡ list_any p xs
-any-snoc p [] x h = rw h refl
-any-snoc p (y ∷ ys) x h = ap (λ b. p y || b) (any-snoc p ys x h)
-
--- what is left of a session has its sid
-pub still-own : (sid : List ℕ) (ps : List Program) (s : Session) → bytes_eq s.sid sid ≡ true → filter (of_sid sid) (still ps s) ≡ still ps s
-still-own sid ps s h = elim (cases_Bool (is_over ps s)) [ inl e ↦ rw e refl | inr e ↦ rw e (rw h refl) ]
-
-pub still-other : (sid : List ℕ) (ps : List Program) (s : Session) → bytes_eq s.sid sid ≡ false → filter (of_sid sid) (still ps s) ≡ []
-still-other sid ps s h = elim (cases_Bool (is_over ps s)) [ inl e ↦ rw e refl | inr e ↦ rw e (rw h refl) ]
-
-pub both_false : (s sid t : List ℕ) → bytes_eq s sid ≡ false → bytes_eq t sid ≡ true → bytes_eq s t ≡ false
-both_false s sid t h k = elim (cases_Bool (bytes_eq s t)) [ inl e ↦ clash (bytes_eq s sid) (subst (λ y. bytes_eq y sid ≡ true) (sym (same_bytes s t e)) k) h | inr e ↦ e ]
-
 -- what an act leaves of a session
 abbrev given : List Opening → List Program → Option Item → Session → List Session
 given os ps o x = option_map_or (λ i. still ps (extended x (Gave i os))) o (x ∷ [])
@@ -212,19 +170,6 @@ module _ (sid : List ℕ) (n n' : Node) (b : Beside sid n n') where
     fewer = omega (arith, b.fewer, length-more n.joins (s.sid, s.role), length-more n'.joins (s.sid, s.role));
   }
 
-  other_joined : (s : Session) → bytes_eq s.sid sid ≡ false → Beside sid (joined n s) n'
-  other_joined s h = record {
-    keys = b.keys;
-    programs = b.programs;
-    live = rw (filter-append (of_sid sid) n.live (still n.programs s), still-other sid n.programs s h, b.live) (sym (append-nil (filter (of_sid sid) n.live)));
-    joins = λ t r k. b.joins t r k ∙ sym (any-snoc (λ j. bytes_eq j.0 t && (j.1 == r)) n.joins (s.sid, s.role) (rw (both_false s.sid sid t h k) refl));
-    fewer = omega (arith, b.fewer, length-more n.joins (s.sid, s.role));
-  }
-    where
-      append-nil : {A : Type 0} (xs : List A) → xs ++ [] ≡ xs
-      append-nil [] = refl
-      append-nil (x ∷ xs) = ap (λ l. x ∷ l) (append-nil xs)
-
   -- a session goes on
   own_goes_on : (which : Session → Bool) (now : Session → List Session) → ((s : Session) → which s ≡ true → of_sid sid s ≡ true) → ((s : Session) → which s ≡ true → filter (of_sid sid) (now s) ≡ now s) → Beside sid (goes_on n which now) (goes_on n' which now)
   own_goes_on which now h k = record {
@@ -235,21 +180,9 @@ module _ (sid : List ℕ) (n n' : Node) (b : Beside sid n n') where
     fewer = b.fewer;
   }
 
-  other_goes_on : (which : Session → Bool) (now : Session → List Session) → ((s : Session) → which s ≡ true → of_sid sid s ≡ false) → ((s : Session) → which s ≡ true → filter (of_sid sid) (now s) ≡ []) → Beside sid (goes_on n which now) n'
-  other_goes_on which now h k = record {
-    keys = b.keys;
-    programs = b.programs;
-    live = rw b.live (sym (replace-other which now h k n.live));
-    joins = b.joins;
-    fewer = b.fewer;
-  }
-
   -- a frame was accepted
   for_own : (f : Frame) (s : Session) → bytes_eq f.sid sid ≡ true → is_for f s ≡ true → bytes_eq s.sid sid ≡ true
   for_own f s h e = subst (λ y. bytes_eq y sid ≡ true) (sym (same_bytes s.sid f.sid (and_left _ _ (and_left _ _ e)))) h
-
-  for_other : (f : Frame) (s : Session) → bytes_eq f.sid sid ≡ false → is_for f s ≡ true → bytes_eq s.sid sid ≡ false
-  for_other f s h e = subst (λ y. bytes_eq y sid ≡ false) (sym (same_bytes s.sid f.sid (and_left _ _ (and_left _ _ e)))) h
 
   own_takes : (f : Frame) (o : Option Cast) → bytes_eq f.sid sid ≡ true →
       Beside sid (option_map_or (λ c. joined n (extended (new_session f.sid c f.receiver) (Took f))) o (goes_on n (is_for f) (λ s. still n.programs (extended s (Took f)))))
@@ -257,34 +190,17 @@ module _ (sid : List ℕ) (n n' : Node) (b : Beside sid n n') where
   own_takes f None h = subst (λ ps. Beside sid (goes_on n (is_for f) (λ s. still n.programs (extended s (Took f)))) (goes_on n' (is_for f) (λ s. still ps (extended s (Took f))))) (sym b.programs) (own_goes_on (is_for f) (λ s. still n.programs (extended s (Took f))) (λ s e. for_own f s h e) (λ s e. still-own sid n.programs (extended s (Took f)) (for_own f s h e)))
   own_takes f (Some c) h = own_joined (extended (new_session f.sid c f.receiver) (Took f)) h
 
-  other_takes : (f : Frame) (o : Option Cast) → bytes_eq f.sid sid ≡ false →
-      Beside sid (option_map_or (λ c. joined n (extended (new_session f.sid c f.receiver) (Took f))) o (goes_on n (is_for f) (λ s. still n.programs (extended s (Took f))))) n'
-  other_takes f None h = other_goes_on (is_for f) (λ s. still n.programs (extended s (Took f))) (λ s e. for_other f s h e) (λ s e. still-other sid n.programs (extended s (Took f)) (for_other f s h e))
-  other_takes f (Some c) h = other_joined (extended (new_session f.sid c f.receiver) (Took f)) h
-
   own_read : (r : Result Frame ℕ) → is_frame_of sid r ≡ true → Beside sid (takes_read n r) (takes_read n' r)
   own_read (Err at) h = b
   own_read (Ok f) h = own_takes f f.join h
-
-  other_read : (r : Result Frame ℕ) → is_frame_of sid r ≡ false → Beside sid (takes_read n r) n'
-  other_read (Err at) h = b
-  other_read (Ok f) h = other_takes f f.join h
 
   own_deliver : (bs : List ℕ) (a : Answer) → is_frame_of sid (read bs) ≡ true → Beside sid (node_after n (Deliver bs) a) (node_after n' (Deliver bs) a)
   own_deliver bs (Happened (Received s r label time values joins)) h = own_read (read bs) h
   own_deliver bs other h = b
 
-  other_deliver : (bs : List ℕ) (a : Answer) → is_frame_of sid (read bs) ≡ false → Beside sid (node_after n (Deliver bs) a) n'
-  other_deliver bs (Happened (Received s r label time values joins)) h = other_read (read bs) h
-  other_deliver bs other h = b
-
   own_abandon : (s : List ℕ) (a : Answer) → bytes_eq s sid ≡ true → Beside sid (node_after n (Abandon s) a) (node_after n' (Abandon s) a)
   own_abandon s Abandoned h = own_goes_on (λ x. bytes_eq x.sid s) (λ x. []) (λ x e. subst (λ y. bytes_eq y sid ≡ true) (sym (same_bytes x.sid s e)) h) (λ x e. refl)
   own_abandon s other h = b
-
-  other_abandon : (s : List ℕ) (a : Answer) → bytes_eq s sid ≡ false → Beside sid (node_after n (Abandon s) a) n'
-  other_abandon s Abandoned h = other_goes_on (λ x. bytes_eq x.sid s) (λ x. []) (λ x e. subst (λ y. bytes_eq y sid ≡ false) (sym (same_bytes x.sid s e)) h) (λ x e. refl)
-  other_abandon s other h = b
 
   own_act : (s : List ℕ) (label : ℕ) (values : Map Value) (confounders : List (List ℕ)) (a : Answer) → bytes_eq s sid ≡ true → Beside sid (node_after n (Act s label values confounders) a) (node_after n' (Act s label values confounders) a)
   own_act s label values confounders (Sends e to f) h =
@@ -298,36 +214,16 @@ module _ (sid : List ℕ) (n n' : Node) (b : Beside sid n n') where
       on_last (Some i) = own_goes_on (λ x. bytes_eq x.sid s) (λ x. still n.programs (extended x (Gave i (openings_for values confounders)))) mine (λ x e. still-own sid n.programs (extended x (Gave i (openings_for values confounders))) (mine x e))
   own_act s label values confounders other h = b
 
-  other_act : (s : List ℕ) (label : ℕ) (values : Map Value) (confounders : List (List ℕ)) (a : Answer) → bytes_eq s sid ≡ false → Beside sid (node_after n (Act s label values confounders) a) n'
-  other_act s label values confounders (Sends e to f) h = on_last (last f.items)
-    where
-      theirs : (x : Session) → bytes_eq x.sid s ≡ true → bytes_eq x.sid sid ≡ false
-      theirs x e = subst (λ y. bytes_eq y sid ≡ false) (sym (same_bytes x.sid s e)) h
-
-      on_last : (o : Option Item) → Beside sid (goes_on n (λ x. bytes_eq x.sid s) (λ x. option_map_or (λ i. still n.programs (extended x (Gave i (openings_for values confounders)))) o (x ∷ []))) n'
-      on_last None = other_goes_on (λ x. bytes_eq x.sid s) (λ x. x ∷ []) theirs (λ x e. rw (theirs x e) refl)
-      on_last (Some i) = other_goes_on (λ x. bytes_eq x.sid s) (λ x. still n.programs (extended x (Gave i (openings_for values confounders)))) theirs (λ x e. still-other sid n.programs (extended x (Gave i (openings_for values confounders))) (theirs x e))
-  other_act s label values confounders other h = b
-
 module _ (sha : Hash) (sid : List ℕ) (n n' : Node) (b : Beside sid n n') where
   own_started : (c : Cast) (r : ℕ) (o : Option StartFault) → bytes_eq (session_id sha c) sid ≡ true → Beside sid (node_after n (Start c) (started (session_id sha c) r o)) (node_after n' (Start c) (started (session_id sha c) r o))
   own_started c r None h = own_joined sid n n' b (new_session (session_id sha c) c r) h
   own_started c r (Some fault) h = b
-
-  other_started : (c : Cast) (r : ℕ) (o : Option StartFault) → bytes_eq (session_id sha c) sid ≡ false → Beside sid (node_after n (Start c) (started (session_id sha c) r o)) n'
-  other_started c r None h = other_joined sid n n' b (new_session (session_id sha c) c r) h
-  other_started c r (Some fault) h = b
 
   own_start : (c : Cast) (o : Option Program) → bytes_eq (session_id sha c) sid ≡ true →
       let a : Answer = option_map_or (λ p. started (session_id sha c) p.role (first_some (rows_of_start n p (session_id sha c) c))) o (NotStarted StartFault.UnknownGraph) in
       Beside sid (node_after n (Start c) a) (node_after n' (Start c) a)
   own_start c None h = b
   own_start c (Some p) h = own_started c p.role (first_some (rows_of_start n p (session_id sha c) c)) h
-
-  other_start : (c : Cast) (o : Option Program) → bytes_eq (session_id sha c) sid ≡ false →
-      Beside sid (node_after n (Start c) (option_map_or (λ p. started (session_id sha c) p.role (first_some (rows_of_start n p (session_id sha c) c))) o (NotStarted StartFault.UnknownGraph))) n'
-  other_start c None h = b
-  other_start c (Some p) h = other_started c p.role (first_some (rows_of_start n p (session_id sha c) c)) h
 
   own_after : (c : Call) → is_call_of sha sid c ≡ true → Beside sid (node_after n c (answer sha n c)) (node_after n' c (answer sha n c))
   own_after (Start c) h = own_start c (starter n.programs c.graph) h
@@ -336,10 +232,15 @@ module _ (sha : Hash) (sid : List ℕ) (n n' : Node) (b : Beside sid n n') where
   own_after (Deliver bs) h = own_deliver sid n n' b bs (answer sha n (Deliver bs)) h
 
   other_after : (c : Call) → is_call_of sha sid c ≡ false → Beside sid (node_after n c (answer sha n c)) n'
-  other_after (Start c) h = other_start c (starter n.programs c.graph) h
-  other_after (Act s label values confounders) h = other_act sid n n' b s label values confounders (answer sha n (Act s label values confounders)) h
-  other_after (Abandon s) h = other_abandon sid n n' b s (answer sha n (Abandon s)) h
-  other_after (Deliver bs) h = other_deliver sid n n' b bs (answer sha n (Deliver bs)) h
+  other_after c h =
+      let l : IsLeft sid n (node_after n c (answer sha n c)) = calls_leave_others sha sid n c h in
+      record {
+        keys = b.keys ∙ sym l.keys;
+        programs = b.programs ∙ sym l.programs;
+        live = b.live ∙ sym l.live;
+        joins = λ s r k. b.joins s r k ∙ sym (joined_with (node_after n c (answer sha n c)).joins n.joins sid l.joins s r k);
+        fewer = (let f = b.fewer in let m = joins_grow n c (answer sha n c) in omega (arith, f, m));
+      }
 
 -- ---- whole pasts
 

@@ -1,8 +1,8 @@
 -- No pair of session and role is joined twice.
-use Rattle.std.specs.Prelude.{◌≡◌, ℕ, ◌+◌, ◌==◌, ◌||◌, ◌&&◌, Bool, true, false, cond, not, if◌then◌else◌, List, [], ◌∷◌, ◌++◌, map, flat_map, find, refl, Option, Some, None, unwrap_or, bytes_eq, Result, Ok, Err, All}
+use Rattle.std.specs.Prelude.{◌≡◌, ℕ, ◌+◌, ◌==◌, ◌||◌, ◌&&◌, Bool, true, false, cond, not, List, [], ◌∷◌, ◌++◌, map, flat_map, find, refl, Option, Some, None, unwrap_or, bytes_eq, Result, Ok, Err, All, IsTrue}
 use Rattle.std.specs.List.{list_any, list_all, AllByRecursion}
 use Rattle.std.specs.Option.{option_map_or}
-use Rattle.std.proofs.Common.{ap, sym, subst, inl, inr}
+use Rattle.std.proofs.Common.{sym, subst, inl, inr}
 use Rattle.std.proofs.lemmas.Bool.{eqb-true, eq-eqb, cases_Bool, and_from, or_right}
 use Rattle.sg_model.specs.Last.{last, Map}
 use Rattle.sg_model.specs.Lists.{first_some}
@@ -17,25 +17,24 @@ use Rattle.sg_protocol.specs.Calls.{Event, Started, Received, Call, Start, Act, 
 use Rattle.sg_protocol.specs.Verdict.{decided, rows_of_join, rows_of_next, join_rows, next_rows, rows, receipt, verdict_on}
 use Rattle.sg_protocol.specs.Acting.{started, acted, sent, rows_of_start, rows_of_act, answer, openings_for}
 use Rattle.sg_protocol.specs.NodeAfter.{node_after, takes_read, joined, goes_on, replace, still, is_over}
-use Rattle.sg_protocol.specs.Past.{AnsweredCall, Past, AreAnswers, joins_once, pairs_differ, JoinedOnce, new_node, node_after_all, past_after}
+use Rattle.sg_protocol.specs.Past.{AnsweredCall, Past, AreAnswers, joins_once, pairs_differ, JoinedOnce, new_node, node_after_all}
 use Rattle.sg_model.specs.Names.{Name}
-use Rattle.sg_model.proofs.Small.{and_left, and_right, same_bytes, bytes_refl, none_parts}
-use Rattle.sg_protocol.specs.Schedule.{Schedule, PairKey, Step, StartStep, ActStep, AbandonStep, DeliverStep, CraftStep}
-use Rattle.sg_protocol.specs.World.{World, new_world, keyring_of, call_of, past_of}
-use Rattle.sg_protocol.specs.Run.{run, world_after, world_after_all, called_if}
+use Rattle.sg_model.proofs.Small.{and_left, and_right, same_bytes, bytes_refl, none_parts, some_same}
+use Rattle.sg_protocol.specs.Schedule.{PairKey}
+use Rattle.sg_protocol.specs.World.{World, new_world}
 use Rattle.sg_protocol.specs.Headline.{NoneJoinsTwice, NodesJoinOnce}
 use Rattle.sg_protocol.proofs.Moves.{row_none}
+use Rattle.sg_protocol.proofs.Happenings.{Happening, all_pasts, run_of}
+use Rattle.sg_protocol.proofs.Courses.{all_same, course_from}
+use Rattle.sg_protocol.proofs.Whole.{new_past}
 use Rattle.std.proofs.lemmas.List.Elements.{All-nil, All-cons}
 
 found : {A : Type 0} (p q : A → Bool) (xs : List A) (x : A) → find p xs ≡ Some x → list_all q xs ≡ true → (p x ≡ true) × (q x ≡ true)
 found p q [] x e h = cc
 found p q (y ∷ ys) x e h = elim (cases_Bool (p y)) [
-  | inl f ↦ subst (λ z. (p z ≡ true) × (q z ≡ true)) (some_same y x (subst (λ b. cond b (Some y) (find p ys) ≡ Some x) f e)) (f, and_left (q y) (list_all q ys) h)
+  | inl f ↦ subst (λ z. (p z ≡ true) × (q z ≡ true)) (some_same {x = y} {y = x} (subst (λ b. cond b (Some y) (find p ys) ≡ Some x) f e)) (f, and_left (q y) (list_all q ys) h)
   | inr f ↦ found p q ys x (subst (λ b. cond b (Some y) (find p ys) ≡ Some x) f e) (and_right (q y) (list_all q ys) h)
 ]
-  where
-    some_same : {A : Type 0} (a b : A) → Some a ≡ Some b → a ≡ b
-    some_same a b h = cc
 
 -- ---- the pair of each live session was joined
 
@@ -207,50 +206,25 @@ nodes_join_once sha past d a = record { first = d; events = once sha (new_node p
 -- ---- whole runs
 
 abbrev pub Right : Hash → Past → Type 0
-Right sha past = AreAnswers sha (new_node past.keys past.programs past.first) past.calls × (past.first ≡ [])
+Right sha p = AreAnswers sha (new_node p.keys p.programs p.first) p.calls × IsTrue (pairs_differ p.first)
 
-answers_more : (sha : Hash) (n : Node) (cs : List AnsweredCall) (c : Call) → AreAnswers sha n cs → AreAnswers sha n (cs ++ record { call = c; answer = answer sha (node_after_all n cs) c } ∷ [])
+pub answers_more : (sha : Hash) (n : Node) (cs : List AnsweredCall) (c : Call) → AreAnswers sha n cs → AreAnswers sha n (cs ++ record { call = c; answer = answer sha (node_after_all n cs) c } ∷ [])
 answers_more sha n [] c a = (refl, tt)
 answers_more sha n (d ∷ cs) c a = (a.0, answers_more sha (node_after n d.call d.answer) cs c a.1)
 
-right_after : (sha : Hash) (past : Past) (c : Call) → Right sha past → Right sha (past_after sha past c)
-right_after sha past c a = (answers_more sha (new_node past.keys past.programs past.first) past.calls c a.0, a.1)
+all_once : (sha : Hash) (ps : List Past) → AllByRecursion (Right sha) ps → All JoinedOnce ps
+all_once sha [] a = All-nil JoinedOnce
+all_once sha (p ∷ ps) a = All-cons JoinedOnce p ps (nodes_join_once sha p (a.0).1 (a.0).0) (all_once sha ps a.1)
 
-right_recorded : (sha : Hash) (who : Name) (c : Call) (ps : List Past) → AllByRecursion (Right sha) ps → AllByRecursion (Right sha) (map (λ p. if bytes_eq p.keys.me who then past_after sha p c else p) ps)
-right_recorded sha who c [] a = tt
-right_recorded sha who c (p ∷ ps) a = (elim (cases_Bool (bytes_eq p.keys.me who)) [ inl e ↦ rw e (right_after sha p c a.0) | inr e ↦ rw e a.0 ], right_recorded sha who c ps a.1)
+-- whatever happens
+pub joined_once : (sha : Hash) (ps : List Past) (course : List Happening) → AllByRecursion (Right sha) ps → All JoinedOnce (run_of sha ps course).pasts
+joined_once sha ps course a = all_once sha (run_of sha ps course).pasts (all_pasts sha (Right sha) (λ p c r. (answers_more sha (new_node p.keys p.programs p.first) p.calls c r.0, r.1)) (record { pasts = ps; log = [] }) 1 course a)
 
-module _ (sha : Hash) (s : Schedule) (w : World) (k : ℕ) (a : AllByRecursion (Right sha) w.pasts) where
-  right_called : (who : Name) (o : Option Call) (past : Past) → AllByRecursion (Right sha) (called_if sha w k who o past).pasts
-  right_called who None past = a
-  right_called who (Some c) past = right_recorded sha who c w.pasts a
-
-  right_past : (who : Name) (c : Option Call) (o : Option Past) → AllByRecursion (Right sha) (option_map_or (called_if sha w k who c) o w).pasts
-  right_past who c None = a
-  right_past who c (Some past) = right_called who c past
-
-  right_call : (c : Option Call) (o : Option Name) → AllByRecursion (Right sha) (option_map_or (λ who. option_map_or (called_if sha w k who c) (past_of w who) w) o w).pasts
-  right_call c None = a
-  right_call c (Some who) = right_past who c (past_of w who)
-
-  right_step : (x : Step) → AllByRecursion (Right sha) (world_after sha s w k x).pasts
-  right_step (CraftStep c) = a
-  right_step (StartStep who n) = right_call (call_of sha s w k (StartStep who n)) (Some who)
-  right_step (ActStep who n label values) = right_call (call_of sha s w k (ActStep who n label values)) (Some who)
-  right_step (AbandonStep who n) = right_call (call_of sha s w k (AbandonStep who n)) (Some who)
-  right_step (DeliverStep who what) = right_call (call_of sha s w k (DeliverStep who what)) (Some who)
-
-pub right_all : (sha : Hash) (s : Schedule) (w : World) (k : ℕ) (xs : List Step) → AllByRecursion (Right sha) w.pasts → AllByRecursion (Right sha) (world_after_all sha s w k xs).pasts
-right_all sha s w k [] a = a
-right_all sha s w k (x ∷ xs) a = right_all sha s (world_after sha s w k x) (k + 1) xs (right_step sha s w k a x)
-
-pub right_new : (sha : Hash) (keys : List PairKey) (programs : List Program) (names : List Name) → AllByRecursion (Right sha) (map (λ me. record { keys = keyring_of keys me; programs = programs; first = []; calls = [] }) names)
+right_new : (sha : Hash) (keys : List PairKey) (programs : List Program) (names : List Name) → AllByRecursion (Right sha) (map (new_past keys programs) names)
 right_new sha keys programs [] = tt
 right_new sha keys programs (n ∷ ns) = ((tt, refl), right_new sha keys programs ns)
 
-all_once : (sha : Hash) (ps : List Past) → AllByRecursion (Right sha) ps → All JoinedOnce ps
-all_once sha [] a = All-nil JoinedOnce
-all_once sha (p ∷ ps) a = All-cons JoinedOnce p ps (nodes_join_once sha p (ap pairs_differ (a.0).1) (a.0).0) (all_once sha ps a.1)
-
 pub none_joins_twice : (sha : Hash) → NoneJoinsTwice sha
-none_joins_twice sha programs s = all_once sha (run sha programs s).pasts (right_all sha s (new_world programs s) 1 s.steps (right_new sha s.keys programs s.honest))
+none_joins_twice sha programs s =
+    subst (λ (w : World). All JoinedOnce w.pasts) (all_same sha s (new_world programs s) 1 s.steps)
+    (joined_once sha (new_world programs s).pasts (course_from sha s (new_world programs s) 1 s.steps) (right_new sha s.keys programs s.honest))

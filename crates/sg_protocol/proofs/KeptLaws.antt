@@ -1,5 +1,5 @@
 -- What a role keeps says as much as its transcript.
-use Rattle.std.specs.Prelude.{◌≡◌, ℕ, zero, suc, ◌+◌, ◌<◌, ◌≤◌, ◌==◌, ◌||◌, ◌⊎◌, true, false, List, [], ◌∷◌, ◌++◌, map, filter_map, length, refl, Option, Some, None, option_map}
+use Rattle.std.specs.Prelude.{◌≡◌, ℕ, zero, suc, ◌+◌, ◌<◌, ◌≤◌, ◌==◌, ◌||◌, ◌⊎◌, true, false, List, [], ◌∷◌, ◌++◌, map, filter_map, length, refl, Some, None, option_map}
 use Rattle.std.specs.List.{cons_option}
 use Rattle.std.specs.Option.{option_or}
 use Rattle.std.proofs.Common.{sym, ◌∙◌, ap, subst, inl, inr, arith}
@@ -65,10 +65,6 @@ pub in_order-in_order : {A : Type 0} (n : ℕ) (m : Map A) → in_order n (in_or
 in_order-in_order n m = in_order-same n (in_order n m) m (λ x h. value_at-in_order n m x h)
 
 -- ---- merged maps
-
-pub or_none : {A : Type 0} (o : Option A) → o ≡ option_or o None
-or_none None = refl
-or_none (Some x) = refl
 
 in_order-merge : {A : Type 0} (n : ℕ) (a a' b b' : Map A) → in_order n a ≡ in_order n a' → in_order n b ≡ in_order n b' → in_order n (merge a b) ≡ in_order n (merge a' b')
 in_order-merge n a a' b b' e f = in_order-same n (merge a b) (merge a' b') (λ x h.

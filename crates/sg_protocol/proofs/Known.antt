@@ -1,5 +1,5 @@
 -- What a role knows on a walk, and what opens it.
-use Rattle.std.specs.Prelude.{◌≡◌, ℕ, ◌==◌, ◌||◌, ◌&&◌, ◌⊎◌, Bool, true, false, if◌then◌else◌, List, [], ◌∷◌, ◌++◌, map, refl, Some, None, option_map, IfSome}
+use Rattle.std.specs.Prelude.{◌≡◌, ℕ, ◌==◌, ◌||◌, ◌⊎◌, Bool, true, false, if◌then◌else◌, List, [], ◌∷◌, ◌++◌, map, refl, Some, None, option_map, IfSome}
 use Rattle.std.specs.List.{AllByRecursion, list_any}
 use Rattle.std.proofs.Common.{sym, ◌∙◌, ap, subst, inl, inr, append_assoc, append-nil}
 use Rattle.std.proofs.lemmas.Bool.{cases_Bool, eqb-true}
@@ -7,7 +7,7 @@ use Rattle.sg_model.specs.Last.{Map, has, last}
 use Rattle.sg_model.specs.Lists.{value_at, keys_of, is_in, from_last}
 use Rattle.sg_model.specs.Shape.{Walk, role_at, target, sender, receiver}
 use Rattle.sg_model.specs.Values.{Opening}
-use Rattle.sg_model.proofs.Small.{clash, or_false, or_assoc, first_false, second_false}
+use Rattle.sg_model.proofs.Small.{clash, or_false, or_assoc, first_false, second_false, and_false}
 use Rattle.sg_protocol.specs.Graph.{Graph, shape, writes, reads}
 use Rattle.sg_protocol.specs.Knowledge.{learns, knows}
 use Rattle.sg_protocol.specs.Frame.{Item}
@@ -66,28 +66,12 @@ module _ (g : Graph) (r v : ℕ) where
   -- a role that sends none of the steps learns only from the last one
   pub unlearned : (m : ℕ) (es : List ℕ) → Walk (shape g) m es → has (sender (shape g)) r es ≡ false → IfSome (last es) (λ e. is_in v (reads g e) ≡ false) → list_any (learns g r v) es ≡ false
   unlearned m [] w n l = refl
-  unlearned m (e ∷ []) w n l = (let s : (sender (shape g) e == r) ≡ false = first (sender (shape g) e == r) false n in rw (s, l) (ap (λ b. b || false) (none (receiver (shape g) e == r))))
-    where
-      first : (a b : Bool) → (a || b) ≡ false → a ≡ false
-      first true b h = absurd (cc)
-      first false b h = refl
-
-      none : (b : Bool) → (b && false) ≡ false
-      none true = refl
-      none false = refl
+  unlearned m (e ∷ []) w n l = (let s : (sender (shape g) e == r) ≡ false = first_false (sender (shape g) e == r) false n in rw (s, l) (ap (λ b. b || false) (and_false (receiver (shape g) e == r))))
   unlearned m (e ∷ f ∷ es) w n l =
-      let s : (sender (shape g) e == r) ≡ false = first (sender (shape g) e == r) (has (sender (shape g)) r (f ∷ es)) n in
-      let n' : has (sender (shape g)) r (f ∷ es) ≡ false = rest (sender (shape g) e == r) (has (sender (shape g)) r (f ∷ es)) n in
-      let s' : (receiver (shape g) e == r) ≡ false = ap (λ k. role_at (shape g) k == r) (sym w.2.1) ∙ first (sender (shape g) f == r) (has (sender (shape g)) r es) n' in
+      let s : (sender (shape g) e == r) ≡ false = first_false (sender (shape g) e == r) (has (sender (shape g)) r (f ∷ es)) n in
+      let n' : has (sender (shape g)) r (f ∷ es) ≡ false = second_false (sender (shape g) e == r) (has (sender (shape g)) r (f ∷ es)) n in
+      let s' : (receiver (shape g) e == r) ≡ false = ap (λ k. role_at (shape g) k == r) (sym w.2.1) ∙ first_false (sender (shape g) f == r) (has (sender (shape g)) r es) n' in
       rw (s, s') (unlearned (target (shape g) e) (f ∷ es) w.2 n' l)
-    where
-      first : (a b : Bool) → (a || b) ≡ false → a ≡ false
-      first true b h = absurd (cc)
-      first false b h = refl
-
-      rest : (a b : Bool) → (a || b) ≡ false → b ≡ false
-      rest true b h = absurd (cc)
-      rest false b h = h
 
 -- ---- openings
 

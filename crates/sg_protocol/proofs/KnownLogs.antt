@@ -3,9 +3,9 @@ use Rattle.std.specs.Prelude.{◌≡◌, ℕ, ◌+◌, ◌⊎◌, true, List, []
 use Rattle.std.specs.List.{AllByRecursion}
 use Rattle.std.proofs.Common.{sym, ◌∙◌, ap, subst, inl, inr, arith}
 use Rattle.sg_model.specs.Names.{Name}
-use Rattle.sg_model.proofs.Small.{same_bytes}
-use Rattle.sg_law.proofs.Members.{in_right, in_flat, in_parts}
-use Rattle.sg_law.proofs.Upto.{In}
+use Rattle.sg_model.proofs.Small.{same_bytes, all-parts}
+use Rattle.sg_model.proofs.Members.{In, in_right, in_parts, in_flat, in_last}
+use Rattle.sg_model.proofs.Finding.{find_passes, found_in}
 use Rattle.sg_protocol.specs.Texts.{Hash, IsHash, graph_text_of}
 use Rattle.sg_protocol.specs.Calls.{Call}
 use Rattle.sg_protocol.specs.Node.{Node}
@@ -16,14 +16,11 @@ use Rattle.sg_protocol.specs.Past.{Past, new_node, node_of, past_after}
 use Rattle.sg_protocol.specs.Schedule.{Schedule, is_honest}
 use Rattle.sg_protocol.specs.World.{World, Logged, Outcome, Answered, past_of}
 use Rattle.sg_protocol.specs.Run.{called, uncalled, events_of_outcome, frame_in}
-use Rattle.sg_protocol.proofs.Acts as C
-use Rattle.sg_protocol.proofs.Progressing.{Suffix, in_after, node_more}
-use Rattle.sg_protocol.proofs.Finding.{find_passes}
-use Rattle.sg_protocol.proofs.Whole.{found_in}
+use Rattle.sg_protocol.proofs.Progressing.{Suffix, in_after, node_next}
 use Rattle.sg_protocol.proofs.OneWalk.{node_begins}
 use Rattle.sg_protocol.proofs.KnownNodes.{KnownNode, Hashed, node_known}
 use Rattle.sg_protocol.proofs.Happenings.{Happening, IsCourse, IsGiven, IsRight, keep_course, keep_prefix, key_at, key_called, pasts_kept, run_of}
-use Rattle.sg_protocol.proofs.LiveSessions.{keys_after}
+use Rattle.sg_protocol.proofs.First.{keys_after}
 use Rattle.sg_protocol.specs.Keyring.{key_of}
 use Rattle.sg_protocol.specs.Notes.{no_notes}
 
@@ -72,7 +69,7 @@ module _ (sha : Hash) (hash : IsHash sha) (s : Schedule) (ps : List Past) (cours
     at = q.nodes who past its_past
 
     hs : (t : List ℕ) → In (notes sha (node_of past) c).hashed t → Hashed sha hash s wf t
-    hs t i = in_right (map graph_text_of s.graphs) (flat_map (λ (l : Logged). l.notes.hashed) wf.log) t (in_flat (λ (l : Logged). l.notes.hashed) wf.log entry_ t (in_after (k + 1) (called sha w k who c past).log wf.log after entry_ (C.in_last w.log entry_)) i)
+    hs t i = in_right (map graph_text_of s.graphs) (flat_map (λ (l : Logged). l.notes.hashed) wf.log) t (in_flat (λ (l : Logged). l.notes.hashed) wf.log entry_ t (in_after (k + 1) (called sha w k who c past).log wf.log after entry_ (in_last w.log entry_)) i)
 
     origin : Origin entry_
     origin = record {
@@ -102,7 +99,7 @@ module _ (sha : Hash) (hash : IsHash sha) (s : Schedule) (ps : List Past) (cours
     }
       where
         node_is : node_of (past_after sha past c) ≡ node_after (node_of past) c (answer sha (node_of past) c)
-        node_is = node_more (new_node past.keys past.programs past.first) past.calls (record { call = c; answer = answer sha (node_of past) c })
+        node_is = node_next sha past c
 
         own : At who (past_after sha past c)
         own = record {
@@ -150,11 +147,7 @@ module _ (sha : Hash) (hash : IsHash sha) (s : Schedule) (ps : List Past) (cours
 
   -- on the way
   pub known_before : (hs gs : List Happening) → course ≡ hs ++ gs → LogsKnown (run_of sha ps hs)
-  known_before hs gs e = keep_prefix sha wf LogsKnown logs_idle logs_called (record { pasts = ps; log = [] }) 1 logs_begun hs gs (first_ones hs gs (subst (AllByRecursion IsRight) e is_course.right)) (ap (run_of sha ps) (sym e))
-    where
-      first_ones : (xs ys : List Happening) → AllByRecursion IsRight (xs ++ ys) → AllByRecursion IsRight xs
-      first_ones [] ys a = tt
-      first_ones (x ∷ xs) ys a = (a.0, first_ones xs ys a.1)
+  known_before hs gs e = keep_prefix sha wf LogsKnown logs_idle logs_called (record { pasts = ps; log = [] }) 1 logs_begun hs gs (all-parts IsRight hs gs (subst (AllByRecursion IsRight) e is_course.right)).0 (ap (run_of sha ps) (sym e))
 
   pub logs_known : LogsKnown wf
   logs_known = keep_course sha wf LogsKnown logs_idle logs_called (record { pasts = ps; log = [] }) 1 logs_begun course is_course.right refl

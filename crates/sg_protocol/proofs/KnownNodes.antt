@@ -10,9 +10,7 @@ use Rattle.sg_model.specs.Last.{last}
 use Rattle.sg_model.specs.Lists.{all_differ, first_some}
 use Rattle.sg_model.specs.Names.{Name}
 use Rattle.sg_model.proofs.Small.{contradicts, length_filter, same_bytes}
-use Rattle.sg_law.proofs.Members.{in_left, in_right, rec_in}
-use Rattle.sg_law.proofs.Take.{contains_from_in}
-use Rattle.sg_law.proofs.Upto.{In}
+use Rattle.sg_model.proofs.Members.{In, contains_from_in, in_left, in_right, rec_in}
 use Rattle.sg_protocol.specs.Graph.{Graph}
 use Rattle.sg_protocol.specs.Frame.{Cast, Frame, Item}
 use Rattle.sg_protocol.specs.Reading.{read}
@@ -34,13 +32,13 @@ use Rattle.sg_protocol.specs.IsSchedule.{IsProgram}
 use Rattle.sg_protocol.specs.Bounds.{IsSession}
 use Rattle.sg_protocol.proofs.AfterCalls.{cast_parts}
 use Rattle.sg_protocol.proofs.Finding.{one_index}
-use Rattle.sg_protocol.proofs.First.{programs_after}
-use Rattle.sg_protocol.proofs.Isolation.{of_sid, still-other}
+use Rattle.sg_protocol.proofs.First.{programs_after, keys_after}
 use Rattle.sg_protocol.proofs.Joins.{Owns, call_step, owns_after}
 use Rattle.sg_protocol.proofs.Nodes.{start_all, abandon_all, act_all, deliver_all}
-use Rattle.sg_protocol.proofs.LiveSessions.{Known, call_known, keys_after}
+use Rattle.sg_protocol.proofs.LiveSessions.{Known, call_known}
 use Rattle.sg_protocol.proofs.TextLaws.{cast_fits, one_cast}
 use Rattle.sg_protocol.proofs.Happenings.{IsGiven, are_programs, given_in_range}
+use Rattle.sg_protocol.proofs.OfSid.{of_sid, still-other}
 
 -- ---- lists
 

@@ -3,8 +3,6 @@ use Rattle.std.specs.Prelude.{◌≡◌, ℕ, List, [], ◌∷◌, flat_map, Som
 use Rattle.std.proofs.Common.{sym, subst, inl, inr}
 use Rattle.sg_model.specs.Last.{last, up_to_last}
 use Rattle.sg_model.specs.Names.{Name}
-use Rattle.sg_law.proofs.Take.{contains_from_in}
-use Rattle.sg_law.proofs.Upto.{In, in_from_Contains}
 use Rattle.sg_protocol.specs.Graph.{Graph}
 use Rattle.sg_protocol.specs.Frame.{Cast, Frame, Item}
 use Rattle.sg_protocol.specs.Texts.{Hash, IsHash}
@@ -22,6 +20,7 @@ use Rattle.sg_protocol.specs.LastSteps.{FramesShowLastSteps, ShowsLastSteps, exc
 use Rattle.sg_protocol.proofs.Courses.{course, is_course, same_run}
 use Rattle.sg_protocol.proofs.FirstSteps.{is_last, first_sched, premises_before}
 use Rattle.sg_protocol.proofs.Showing as G
+use Rattle.sg_model.proofs.Members.{In, in_from_Contains, contains_from_in}
 
 -- where the acceptance ends the run
 abbrev pub ShowsAtEnd : Hash → Schedule → Name → List ℕ → Frame → Logged → Cast → Graph → Past → World → Type 0

@@ -1,5 +1,5 @@
 -- What an accepted frame shows, in a run with restarts.
-use Rattle.std.specs.Prelude.{◌≡◌, ℕ, ◌+◌, ◌<◌, ◌⊎◌, Bool, true, false, cond, List, [], ◌∷◌, ◌++◌, map, flat_map, length, bytes_eq, refl, Option, Some, None, option_map, All}
+use Rattle.std.specs.Prelude.{◌≡◌, ℕ, ◌+◌, Bool, true, false, cond, List, [], ◌∷◌, ◌++◌, map, flat_map, length, bytes_eq, refl, Option, Some, None, All}
 use Rattle.std.specs.List.{AllByRecursion, cons_option}
 use Rattle.std.specs.Option.{option_map_or}
 use Rattle.std.proofs.Common.{sym, ◌∙◌, ap, subst, inl, inr, arith, append_assoc, append-nil}
@@ -7,10 +7,9 @@ use Rattle.std.proofs.lemmas.Bool.{cases_Bool}
 use Rattle.std.proofs.lemmas.List.Elements.{All-from_recursion, recursion_from_All, filter_map-append}
 use Rattle.sg_model.specs.Last.{last, up_to_last, last_of, after_last}
 use Rattle.sg_model.specs.Names.{Name}
-use Rattle.sg_model.proofs.Small.{same_bytes, bytes_refl, length-more, all-parts}
+use Rattle.sg_model.proofs.Small.{bytes_refl, length-more, all-parts}
+use Rattle.sg_model.proofs.Members.{In, in_from_Contains}
 use Rattle.sg_law.proofs.Lists.{last-append}
-use Rattle.sg_law.proofs.Members.{in_parts}
-use Rattle.sg_law.proofs.Upto.{In, in_from_Contains}
 use Rattle.sg_protocol.specs.Frame.{Item, Frame}
 use Rattle.sg_protocol.specs.Texts.{Hash, IsHash}
 use Rattle.sg_protocol.specs.Keyring.{Program}
@@ -19,21 +18,22 @@ use Rattle.sg_protocol.specs.Calls.{Call, Deliver, Happened, Abandoned}
 use Rattle.sg_protocol.specs.Verdict.{receipt}
 use Rattle.sg_protocol.specs.Acting.{answer}
 use Rattle.sg_protocol.specs.Notes.{notes}
-use Rattle.sg_protocol.specs.Past.{AnsweredCall, Past, node_of, past_after}
-use Rattle.sg_protocol.specs.Schedule.{Schedule, NamedSession, Step, StartStep, ActStep, AbandonStep, DeliverStep, CraftStep}
-use Rattle.sg_protocol.specs.World.{Outcome, Logged, World, Answered, Crafted, NoFrame, past_of, new_world, call_of}
-use Rattle.sg_protocol.specs.Run.{called, called_if, uncalled, world_after, world_after_all, run, frame_in}
+use Rattle.sg_protocol.specs.Past.{AnsweredCall, Past, node_of}
+use Rattle.sg_protocol.specs.Schedule.{Schedule, NamedSession, Step}
+use Rattle.sg_protocol.specs.World.{Outcome, Logged, World, Answered, past_of, new_world}
+use Rattle.sg_protocol.specs.Run.{called, uncalled, world_after, run, frame_in}
 use Rattle.sg_protocol.specs.Premises.{Premises}
 use Rattle.sg_protocol.specs.Receipts.{IsTaken}
 use Rattle.sg_protocol.specs.LastSteps.{exchanges_in, exchanges_of, is_of, sent_item, honest_items, bare, HeldBySender, ShowsLastSteps}
 use Rattle.sg_protocol.specs.Restarts.{StepOrRestart, Stepped, Restarted, live_of, world_restarted, world_over_restarts, run_with_restarts, IsStepOrRestart, dropped, without_restarts, HasMoreAbandonments, answered_call, called_by, calls_at, HeldInLife, ShowsLastStepsInLife, FramesShowLastStepsOverRestarts}
-use Rattle.sg_protocol.proofs.Progressing.{next_past, past_called, Suffix, suffix_refl, suffix_trans, suffix_step}
-use Rattle.sg_protocol.proofs.Finding.{find_passes}
-use Rattle.sg_protocol.proofs.FirstSteps.{OneMore, one_more, premises_earlier}
+use Rattle.sg_protocol.proofs.Progressing.{Suffix, suffix_refl, suffix_trans, suffix_step, past_called_at}
+use Rattle.sg_protocol.proofs.FirstSteps.{one_more, premises_earlier, AreBelow, below_more}
 use Rattle.sg_protocol.proofs.LastSteps.{shows_at_end}
 use Rattle.sg_protocol.proofs.OverRestarts.{cast_same, premises_same, taken_there}
 use Rattle.sg_protocol.proofs.Restarts.{AddsSame, Same, plain, same_runs, is_plain, same_last}
 use Rattle.sg_protocol.proofs.Whole.{first_past}
+use Rattle.sg_protocol.proofs.Happenings.{Happening, Asked, Idle, happens, all_happen}
+use Rattle.sg_protocol.proofs.Courses.{all_same, course_from}
 
 -- ---- the calls of a run without restarts are those of the pasts
 
@@ -61,7 +61,10 @@ module _ (sha : Hash) (me : Name) where
       none false = refl
 
   calls_called : (w : World) (k : ℕ) (who : Name) (c : Call) (past : Past) → past_of w who ≡ Some past → HasCalls w.log (past_of w me) → HasCalls (called sha w k who c past).log (past_of (called sha w k who c past) me)
-  calls_called w k who c past q h = subst (HasCalls (called sha w k who c past).log) (sym (past_called sha w k who c past me)) (go (cases_Bool (bytes_eq me who)) (past_of w me) refl h)
+  calls_called w k who c past q h = elim (past_called_at sha w k who past q c me) [
+    | inl r ↦ subst (HasCalls (w.log ++ entry ∷ [])) (sym r.2) (ap (λ l. l ++ record { call = c; answer = answer sha (node_of past) c } ∷ []) (subst (HasCalls w.log) r.1 h) ∙ sym (mine_too r.0))
+    | inr r ↦ subst (HasCalls (w.log ++ entry ∷ [])) (sym r.1) (calls_same w.log (w.log ++ entry ∷ []) (past_of w me) (others r.0) h)
+  ]
     where
       entry : Logged
       entry = record { number = k; who = Some who; call = Some c; outcome = Answered (answer sha (node_of past) c); frame = frame_in (answer sha (node_of past) c); notes = notes sha (node_of past) c }
@@ -72,35 +75,14 @@ module _ (sha : Hash) (me : Name) where
       mine_too : bytes_eq me who ≡ true → calls_at me (w.log ++ entry ∷ []) ≡ calls_at me w.log ++ record { call = c; answer = answer sha (node_of past) c } ∷ []
       mine_too e = calls-append w.log (entry ∷ []) ∙ ap (λ l. calls_at me w.log ++ l) (let z : calls_at me (entry ∷ []) ≡ record { call = c; answer = answer sha (node_of past) c } ∷ [] = rw e refl in z)
 
-      go : (bytes_eq me who ≡ true) ⊎ (bytes_eq me who ≡ false) → (o : Option Past) → past_of w me ≡ o → HasCalls w.log o → HasCalls (w.log ++ entry ∷ []) (option_map (next_past sha who c) o)
-      go (inl b) o e h =
-          let mine : o ≡ Some past = sym e ∙ ap (past_of w) (same_bytes me who b) ∙ q in
-          let named : bytes_eq past.keys.me who ≡ true = find_passes (λ (p : Past). bytes_eq p.keys.me who) w.pasts past q in
-          let next : next_past sha who c past ≡ past_after sha past c = rw named refl in
-          let old : past.calls ≡ calls_at me w.log = subst (HasCalls w.log) mine h in
-          subst (λ z. HasCalls (w.log ++ entry ∷ []) (option_map (next_past sha who c) z)) (sym mine)
-          (subst (λ z. HasCalls (w.log ++ entry ∷ []) (Some z)) (sym next) (ap (λ l. l ++ record { call = c; answer = answer sha (node_of past) c } ∷ []) old ∙ sym (mine_too b)))
-      go (inr b) None e h = others b ∙ h
-      go (inr b) (Some y) e h =
-          let is_me : y.keys.me ≡ me = same_bytes y.keys.me me (find_passes (λ (z : Past). bytes_eq z.keys.me me) w.pasts y e) in
-          let next : next_past sha who c y ≡ y = rw (ap (λ z. bytes_eq z who) is_me ∙ b) refl in
-          subst (λ z. HasCalls (w.log ++ entry ∷ []) (Some z)) (sym next) (calls_same w.log (w.log ++ entry ∷ []) (Some y) (others b) h)
-
-  calls_past : (w : World) (k : ℕ) (who : Name) (c : Option Call) (o : Option Past) → past_of w who ≡ o → HasCalls w.log (past_of w me) → let w' = option_map_or (called_if sha w k who c) o w in HasCalls w'.log (past_of w' me)
+  calls_past : (w : World) (k : ℕ) (who : Name) (c : Call) (o : Option Past) → past_of w who ≡ o → HasCalls w.log (past_of w me) → let w' = option_map_or (called sha w k who c) o w in HasCalls w'.log (past_of w' me)
   calls_past w k who c None q h = h
-  calls_past w k who None (Some past) q h = calls_idle w k (Some who) NoFrame None h
-  calls_past w k who (Some c) (Some past) q h = calls_called w k who c past q h
+  calls_past w k who c (Some past) q h = calls_called w k who c past q h
 
-  calls_step : (s : Schedule) (w : World) (k : ℕ) (x : Step) → HasCalls w.log (past_of w me) → HasCalls (world_after sha s w k x).log (past_of (world_after sha s w k x) me)
-  calls_step s w k (CraftStep c) h = calls_idle w k None Crafted _ h
-  calls_step s w k (StartStep who n) h = calls_past w k who (call_of sha s w k (StartStep who n)) (past_of w who) refl h
-  calls_step s w k (ActStep who n label values) h = calls_past w k who (call_of sha s w k (ActStep who n label values)) (past_of w who) refl h
-  calls_step s w k (AbandonStep who n) h = calls_past w k who (call_of sha s w k (AbandonStep who n)) (past_of w who) refl h
-  calls_step s w k (DeliverStep who what) h = calls_past w k who (call_of sha s w k (DeliverStep who what)) (past_of w who) refl h
-
-  calls_all : (s : Schedule) (w : World) (k : ℕ) (xs : List Step) → HasCalls w.log (past_of w me) → HasCalls (world_after_all sha s w k xs).log (past_of (world_after_all sha s w k xs) me)
-  calls_all s w k [] h = h
-  calls_all s w k (x ∷ xs) h = calls_all s (world_after sha s w k x) (k + 1) xs (calls_step s w k x h)
+  calls_course : (w : World) (k : ℕ) (hs : List Happening) → HasCalls w.log (past_of w me) → HasCalls (all_happen sha w k hs).log (past_of (all_happen sha w k hs) me)
+  calls_course w k [] h = h
+  calls_course w k (Asked who c ∷ hs) h = calls_course (happens sha w k (Asked who c)) (k + 1) hs (calls_past w k who c (past_of w who) refl h)
+  calls_course w k (Idle who o fr ∷ hs) h = calls_course (uncalled w k who o fr) (k + 1) hs (calls_idle w k who o fr h)
 
   calls_new : (programs : List Program) (s : Schedule) → HasCalls [] (past_of (new_world programs s) me)
   calls_new programs s = go (past_of (new_world programs s) me) refl
@@ -110,7 +92,7 @@ module _ (sha : Hash) (me : Name) where
       go (Some p) e = ap (λ (z : Past). z.calls) (first_past s.keys programs s.honest me p e).0
 
   run_calls : (programs : List Program) (s : Schedule) → HasCalls (run sha programs s).log (past_of (run sha programs s) me)
-  run_calls programs s = calls_all s (new_world programs s) 1 s.steps (calls_new programs s)
+  run_calls programs s = subst (λ (w : World). HasCalls w.log (past_of w me)) (all_same sha s (new_world programs s) 1 s.steps) (calls_course (new_world programs s) 1 (course_from sha s (new_world programs s) 1 s.steps) (calls_new programs s))
 
 in_calls : (me : Name) (log : List Logged) (l : Logged) (c : AnsweredCall) → In log l → called_by me l ≡ Some c → calls_at me log ≡ [] → ⊥
 in_calls me [] l c i e n = i
@@ -160,27 +142,14 @@ module _ (sha : Hash) (s : Schedule) where
   over_append (Stepped x ∷ xs) ys w k = over_append xs ys (world_after sha s w k x) (k + 1)
   over_append (Restarted who ∷ xs) ys w k = over_append xs ys (world_restarted w who) (k + length (live_of w who))
 
-  over_suffix : (xs : List StepOrRestart) (w : World) (k : ℕ) → Suffix k w.log (world_over_restarts sha s w k xs).log
+  pub over_suffix : (xs : List StepOrRestart) (w : World) (k : ℕ) → Suffix k w.log (world_over_restarts sha s w k xs).log
   over_suffix [] w k = suffix_refl k w.log
   over_suffix (Stepped x ∷ xs) w k = suffix_trans k (k + 1) w.log (world_after sha s w k x).log (world_over_restarts sha s (world_after sha s w k x) (k + 1) xs).log (omega arith) (suffix_step sha s w k x) (over_suffix xs (world_after sha s w k x) (k + 1))
   over_suffix (Restarted who ∷ xs) w k = suffix_trans k (k + length (live_of w who)) w.log w.log (world_over_restarts sha s (world_restarted w who) (k + length (live_of w who)) xs).log (omega arith) (suffix_refl k w.log) (over_suffix xs (world_restarted w who) (k + length (live_of w who)))
 
-  abbrev Below : ℕ → World → Type 0
-  Below k w = (l : Logged) → In w.log l → l.number < k
-
-  step_below : (w : World) (k : ℕ) (x : Step) → Below k w → Below (k + 1) (world_after sha s w k x)
-  step_below w k x a = now (one_more sha s w k x)
-    where
-      now : OneMore k w.log (world_after sha s w k x).log → Below (k + 1) (world_after sha s w k x)
-      now (inl e) l i = (let h = a l (subst (λ z. In z l) e i) in omega (arith, h))
-      now (inr m) l i = elim (in_parts w.log (m.0 ∷ []) l (subst (λ z. In z l) m.1 i)) [
-        | inl j ↦ (let h = a l j in omega (arith, h))
-        | inr j ↦ elim j [ inl q ↦ (let h = ap (λ (z : Logged). z.number) q ∙ m.2 in omega (arith, h)) | inr q ↦ absurd q ]
-      ]
-
-  over_below : (xs : List StepOrRestart) (w : World) (k : ℕ) → Below k w → Below (number_after w k xs) (world_over_restarts sha s w k xs)
+  over_below : (xs : List StepOrRestart) (w : World) (k : ℕ) → AreBelow k w.log → AreBelow (number_after w k xs) (world_over_restarts sha s w k xs).log
   over_below [] w k a = a
-  over_below (Stepped x ∷ xs) w k a = over_below xs (world_after sha s w k x) (k + 1) (step_below w k x a)
+  over_below (Stepped x ∷ xs) w k a = over_below xs (world_after sha s w k x) (k + 1) (below_more k w.log (world_after sha s w k x).log (one_more sha s w k x) a)
   over_below (Restarted who ∷ xs) w k a = over_below xs (world_restarted w who) (k + length (live_of w who)) (λ l i. let h = a l i in omega (arith, h))
 
 -- ---- the law

@@ -9,6 +9,8 @@ use Rattle.sg_model.specs.Lists.{first_some, rises_from}
 use Rattle.sg_model.specs.Shape.{role_at}
 use Rattle.sg_model.specs.Values.{Value, Opening}
 use Rattle.sg_model.proofs.Small.{clash, same_bytes}
+use Rattle.sg_model.proofs.LastOf.{eqb_same}
+use Rattle.sg_model.proofs.Finding.{find_passes, find_all}
 use Rattle.sg_protocol.specs.Graph.{shape, writes}
 use Rattle.sg_protocol.specs.Evidence.{View}
 use Rattle.sg_protocol.specs.Frame.{Cast, Item, Frame, IsCastOf}
@@ -32,7 +34,6 @@ use Rattle.sg_protocol.specs.Representation.{EndsWithOwn, EndsWithOther}
 use Rattle.sg_protocol.specs.Live.{IsSound, IsLive, SessionsAreSound, NodesAreSound}
 use Rattle.sg_protocol.proofs.Acts as C
 use Rattle.sg_protocol.proofs.Bridge.{has_view-Contains}
-use Rattle.sg_protocol.proofs.Finding.{find_passes, find_all}
 use Rattle.sg_protocol.proofs.Entries.{not_start}
 use Rattle.sg_protocol.proofs.Enough.{below_reads}
 use Rattle.sg_protocol.proofs.First.{programs_after}
@@ -68,7 +69,7 @@ pub gives_sound : (sha : Hash) → IsHash sha → (keys : Keyring) (p : Program)
 gives_sound sha hash keys p s label values confounders ip so none good =
     let written : List Opening = openings_for values confounders in
     let rs : C.ActRows p.graph s label values = C.act_rows p s label values none in
-    let leave : leaves p.graph s label ≡ true = rw (rs.edge, rs.leaves) (eq_same _) in
+    let leave : leaves p.graph s label ≡ true = rw (rs.edge, rs.leaves) (eqb_same _) in
     let r : GivesInRange sha keys p s label written = gives_in_range sha hash keys p s label values confounders ip so.in_range none good in
     let i : Item = own_item sha keys p s label written in
     let wait : at_turn p.graph (extended s (Gave i written)) ≡ false = waits_now sha p.graph ip.accepted s label rs.turn leave written i refl refl in
@@ -86,9 +87,6 @@ gives_sound sha hash keys p s label values confounders ip so none good =
       };
       waits = wait;
     }
-  where
-    eq_same : (n : ℕ) → (n == n) ≡ true
-    eq_same n = eq-eqb n n refl
 
 -- a frame for a session that ends with an own item
 pub taken_sound : (sha : Hash) (keys : Keyring) (p : Program) (s : Session) (f : Frame) → IsProgram sha p → (s.cast).graph ≡ p.digest → s.role ≡ p.role → IsSession s → FollowsWalk sha p.graph s.sid s.role false (kept p.graph s) → EndsWithOwn s →

@@ -17,25 +17,25 @@ use Rattle.sg_protocol.specs.Keyring.{Keyring, Program, key_of}
 use Rattle.sg_protocol.specs.Session.{Session, Exchange, Took, Gave, principal, own_time, time, at_turn, extended, new_session}
 use Rattle.sg_protocol.specs.Sending.{text_of, frame_sent, tag_for}
 use Rattle.sg_protocol.specs.Checks.{texts_checked}
-use Rattle.sg_protocol.specs.Calls.{Refusal, BadFrameTag, NoSuchView, BadEvidence, BadOpening, ActFault, Event, Started, Sent, Received, Call, Start, Act, Abandon, Deliver, Answer, Happened, Sends, Abandoned, NotStarted, NotActed, StartFault, UnknownGraph, UnknownSession, NotWaiting, BadCast, BadSession, UnknownPeer, Joined, CacheFull, SessionsFull, sid_of, role_of}
+use Rattle.sg_protocol.specs.Calls.{Refusal, BadFrameTag, NoSuchView, BadEvidence, BadOpening, ActFault, Event, Sent, Call, Start, Act, Abandon, Deliver, Answer, Sends, Abandoned, NotStarted, NotActed, StartFault, UnknownGraph, UnknownSession, NotWaiting, BadCast, BadSession, UnknownPeer, Joined, CacheFull, SessionsFull, sid_of, role_of}
 use Rattle.sg_protocol.specs.Verdict.{row, rows_of_session, has_frame_tag, is_shown, bad_time, has_item_tag, is_right, decided, receipt, verdict_on, rows_of_join, rows_of_next, join_rows, next_rows, rows}
 use Rattle.sg_protocol.specs.Notes.{note_of, notes_in_session, Notes, notes, notes_of_start, no_notes, notes_of_read, session_of_frame, hashed_of_join, row_number}
 use Rattle.sg_protocol.specs.Schedule.{PairKey}
-use Rattle.sg_law.proofs.Upto.{In}
 use Rattle.sg_protocol.proofs.Moves.{row_none}
 use Rattle.sg_protocol.specs.Acting.{rows_of_act, openings_for, answer, started, acted, sent, rows_of_start}
 use Rattle.std.specs.Prelude.{Result, Ok, Err, option_and_then}
 use Rattle.sg_model.proofs.Small.{same_bytes, none_parts, both_nil, all-append}
-use Rattle.sg_law.proofs.Members.{in_left}
+use Rattle.sg_model.proofs.Members.{In, in_left}
+use Rattle.sg_model.proofs.Finding.{find_passes, find_all}
 use Rattle.sg_protocol.specs.Reading.{read}
 use Rattle.sg_protocol.specs.Node.{Node, is_for, is_cast, stranger, session_with, session_for, has_joined, program_for, starter}
 use Rattle.sg_protocol.specs.NodeAfter.{node_after, joined, goes_on, replace, still, is_over, takes_read}
 use Rattle.sg_protocol.specs.World.{Logged, keyring_of}
 use Rattle.sg_protocol.specs.Run.{events_of, events_of_outcome}
-use Rattle.sg_protocol.proofs.Finding.{find_passes, find_all}
 use Rattle.sg_protocol.proofs.TextLaws as TL
 use Rattle.sg_protocol.proofs.Sent.{FitSession}
 use Rattle.sg_protocol.proofs.TextLaws as TL
+use Rattle.sg_protocol.proofs.Nodes.{start_sends, abandon_sends, deliver_sends}
 
 replace_all : {P : Session → Type 0} (which : Session → Bool) (now : Session → List Session) (xs : List Session) → ((z : Session) → which z ≡ true → P z → AllByRecursion P (now z)) → AllByRecursion P xs → AllByRecursion P (replace which now xs)
 replace_all which now [] f a = tt
@@ -82,21 +82,6 @@ key_same (k ∷ ks) h a b = go (cases_Bool (bytes_eq k.one a)) (cases_Bool (byte
     go (inr p) (inr q) (inr r) (inl t) ih = rw (p, q, r, t) (rw p ih)
     go (inr p) (inr q) (inr r) (inr t) ih = rw (p, q, r, t) ih
 
-takes_keys : (n : Node) (f : Frame) (o : Option Cast) → (option_map_or (λ c. joined n (extended (new_session f.sid c f.receiver) (Took f))) o (goes_on n (is_for f) (λ z. still n.programs (extended z (Took f))))).keys ≡ n.keys
-takes_keys n f None = refl
-takes_keys n f (Some c) = refl
-
-read_keys : (n : Node) (r : Result Frame ℕ) → (takes_read n r).keys ≡ n.keys
-read_keys n (Err at) = refl
-read_keys n (Ok f) = takes_keys n f f.join
-
-pub keys_after : (n : Node) (c : Call) (a : Answer) → (node_after n c a).keys ≡ n.keys
-keys_after n (Start c) (Happened (Started sid r)) = refl
-keys_after n (Act sid label values confounders) (Sends e to f) = refl
-keys_after n (Abandon sid) Abandoned = refl
-keys_after n (Deliver bs) (Happened (Received sid r label time values joins)) = read_keys n (read bs)
-keys_after n c other = refl
-
 -- the event of a sending says what its frame says
 pub act_event : (sha : Hash) (n : Node) (sid0 : List ℕ) (label : ℕ) (values : Map Value) (confs : List (List ℕ)) (e : Event) (to : Name) (f : Frame) → answer sha n (Act sid0 label values confs) ≡ Sends e to f → (sid_of e ≡ f.sid) × (role_of e ≡ f.sender)
 act_event sha n sid0 label values confs e to f a = by_session (session_with n.live sid0) a
@@ -115,6 +100,12 @@ act_event sha n sid0 label values confs e to f a = by_session (session_with n.li
         by_program : (o : Option Program) → option_map_or (λ p. acted (sent sha n.keys p x label values confs) (first_some (rows_of_act p x label values))) o (NotActed ActFault.UnknownSession) ≡ Sends e to f → (sid_of e ≡ f.sid) × (role_of e ≡ f.sender)
         by_program None a = absurd (cc)
         by_program (Some p) a = by_rows x p (first_some (rows_of_act p x label values)) a
+
+pub sends_sid : (sha : Hash) (n : Node) (c : Call) (e : Event) (to : Name) (f : Frame) → answer sha n c ≡ Sends e to f → sid_of e ≡ f.sid
+sends_sid sha n (Start c) e to f a = absurd (start_sends sha n c e to f a)
+sends_sid sha n (Abandon sid0) e to f a = absurd (abandon_sends sha n sid0 e to f a)
+sends_sid sha n (Deliver bs) e to f a = absurd (deliver_sends sha n bs e to f a)
+sends_sid sha n (Act sid0 label values confs) e to f a = (act_event sha n sid0 label values confs e to f a).0
 
 -- Hashed says which texts were hashed
 module _ (sha : Hash) (Hashed : List ℕ → Type 0) where

@@ -5,7 +5,6 @@ use Rattle.std.proofs.Common.{sym, ◌∙◌, ap, subst, inl, inr, append_assoc,
 use Rattle.std.proofs.lemmas.Bool.{cases_Bool}
 use Rattle.std.proofs.lemmas.List.Elements.{filter-append}
 use Rattle.sg_model.specs.Names.{Name}
-use Rattle.sg_model.proofs.Small.{same_bytes}
 use Rattle.sg_protocol.specs.Texts.{Hash}
 use Rattle.sg_protocol.specs.Keyring.{Program}
 use Rattle.sg_protocol.specs.Calls.{Event, Call, events_of_answer}
@@ -18,12 +17,11 @@ use Rattle.sg_protocol.specs.Schedule.{Schedule, Step, StartStep, ActStep, Aband
 use Rattle.sg_protocol.specs.World.{Outcome, Logged, World, Answered, Crafted, NoFrame, past_of, new_world, call_of}
 use Rattle.sg_protocol.specs.Run.{called, called_if, uncalled, world_after, world_after_all, frame_in, events_of_outcome}
 use Rattle.sg_protocol.specs.Restarts.{begun_anew, StepOrRestart, Stepped, Restarted, live_of, world_restarted, world_over_restarts, run_with_restarts, events_at, events_of_lives, LivesJoinOnce, NoRestartsNoChange, NoneJoinsTwiceOverRestarts}
-use Rattle.sg_protocol.proofs.Progressing.{find_map, next_past, past_called}
-use Rattle.sg_protocol.proofs.Finding.{find_passes}
+use Rattle.sg_protocol.proofs.Progressing.{node_next, past_called_at}
 use Rattle.sg_protocol.proofs.Joins.{Owns, owns_after, call_step}
 use Rattle.sg_protocol.proofs.Paths.{flat_map-append}
 use Rattle.sg_protocol.proofs.Whole.{first_past}
-use Rattle.sg_protocol.proofs.Anew.{node_next}
+use Rattle.sg_model.proofs.Finding.{find_map}
 
 -- the past of a principal after a restart of another, or of itself
 abbrev pub anew_if : Name → Past → Past
@@ -72,26 +70,16 @@ module _ (sha : Hash) (me : Name) where
       )
 
   life_called : (w : World) (k : ℕ) (who : Name) (c : Call) (past : Past) → past_of w who ≡ Some past → Life w.log (past_of w me) → Life (called sha w k who c past).log (past_of (called sha w k who c past) me)
-  life_called w k who c past q h = subst (Life (called sha w k who c past).log) (sym (past_called sha w k who c past me)) (go (cases_Bool (bytes_eq me who)) (past_of w me) refl h)
+  life_called w k who c past q h = elim (past_called_at sha w k who past q c me) [
+    | inl r ↦ subst (Life (w.log ++ entry ∷ [])) (sym r.2) (life_own w.log past c entry r.0 refl (subst (Life w.log) r.1 h))
+    | inr r ↦ subst (Life (w.log ++ entry ∷ [])) (sym r.1) (life_same w.log (w.log ++ entry ∷ []) (past_of w me) (others r.0) h)
+  ]
     where
       entry : Logged
       entry = record { number = k; who = Some who; call = Some c; outcome = Answered (answer sha (node_of past) c); frame = frame_in (answer sha (node_of past) c); notes = notes sha (node_of past) c }
 
       others : bytes_eq me who ≡ false → events_at me (w.log ++ entry ∷ []) ≡ events_at me w.log
       others e = events-append w.log (entry ∷ []) ∙ ap (λ l. events_at me w.log ++ l) (let z : events_at me (entry ∷ []) ≡ [] = rw e refl in z) ∙ append-nil (events_at me w.log)
-
-      go : (bytes_eq me who ≡ true) ⊎ (bytes_eq me who ≡ false) → (o : Option Past) → past_of w me ≡ o → Life w.log o → Life (w.log ++ entry ∷ []) (option_map (next_past sha who c) o)
-      go (inl b) o e h =
-          let mine : o ≡ Some past = sym e ∙ ap (past_of w) (same_bytes me who b) ∙ q in
-          let named : bytes_eq past.keys.me who ≡ true = find_passes (λ (p : Past). bytes_eq p.keys.me who) w.pasts past q in
-          let next : next_past sha who c past ≡ past_after sha past c = rw named refl in
-          subst (λ z. Life (w.log ++ entry ∷ []) (option_map (next_past sha who c) z)) (sym mine)
-          (subst (λ z. Life (w.log ++ entry ∷ []) (Some z)) (sym next) (life_own w.log past c entry b refl (subst (Life w.log) mine h)))
-      go (inr b) None e h = others b ∙ h
-      go (inr b) (Some y) e h =
-          let is_me : y.keys.me ≡ me = same_bytes y.keys.me me (find_passes (λ (z : Past). bytes_eq z.keys.me me) w.pasts y e) in
-          let next : next_past sha who c y ≡ y = rw (ap (λ z. bytes_eq z who) is_me ∙ b) refl in
-          subst (λ z. Life (w.log ++ entry ∷ []) (Some z)) (sym next) (life_same w.log (w.log ++ entry ∷ []) (Some y) (others b) h)
 
   life_past : (w : World) (k : ℕ) (who : Name) (c : Option Call) (o : Option Past) → past_of w who ≡ o → Life w.log (past_of w me) → let w' = option_map_or (called_if sha w k who c) o w in Life w'.log (past_of w' me)
   life_past w k who c None q h = h

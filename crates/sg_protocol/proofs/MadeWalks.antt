@@ -10,6 +10,7 @@ use Rattle.sg_model.specs.Shape.{sender, end_of}
 use Rattle.sg_model.specs.Values.{Value, Opening, Code}
 use Rattle.sg_model.specs.Names.{Name}
 use Rattle.sg_model.proofs.Small.{no_last}
+use Rattle.sg_model.proofs.Members.{In, split_at_end}
 use Rattle.sg_law.specs.Accept.{TimedLabel}
 use Rattle.sg_law.specs.Last as B
 use Rattle.sg_law.specs.Run as R
@@ -20,7 +21,6 @@ use Rattle.sg_law.specs.Explaining as G
 use Rattle.sg_law.specs.Explaining.{unknown, after_honest, moves_of}
 use Rattle.sg_law.proofs.Cut.{last-option_map}
 use Rattle.sg_law.proofs.Follow.{own_is_sent}
-use Rattle.sg_law.proofs.Upto.{In}
 use Rattle.sg_protocol.specs.Graph.{Graph, shape, IsGraph}
 use Rattle.sg_protocol.specs.Evidence.{View, IsView}
 use Rattle.sg_protocol.specs.Frame.{Cast, Frame, Item}
@@ -44,7 +44,6 @@ use Rattle.sg_protocol.specs.TextLaws.{OpeningFits}
 use Rattle.sg_protocol.proofs.Paths.{steps_of}
 use Rattle.sg_protocol.proofs.Entries.{entries, sight, sight-since, view_ends}
 use Rattle.sg_protocol.proofs.Moves.{writes_below}
-use Rattle.sg_protocol.proofs.Splits.{split_at_end}
 use Rattle.sg_protocol.proofs.Progressing.{Suffix}
 use Rattle.sg_protocol.proofs.Explaining.{shown_split, walk_after_steps-last}
 use Rattle.sg_protocol.proofs.Calls.{Quiet, TookFrame}

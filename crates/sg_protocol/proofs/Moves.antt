@@ -1,7 +1,7 @@
 -- What the sessions of a run are to the law of one session.
 use Rattle.std.specs.Prelude.{◌≡◌, ℕ, zero, suc, ◌+◌, ◌<◌, ◌==◌, nat_lt, nat_le, get_or, All, ◌⊎◌, Bool, true, false, not, cond, List, [], ◌∷◌, ◌++◌, map, length, find, position, take_while, refl, Option, Some, None, option_map, IfSome, Contains}
 use Rattle.std.specs.List.{prefix_len, list_all, AllByRecursion}
-use Rattle.std.specs.Option.{option_or}
+use Rattle.std.specs.Option.{option_or, option_map_or}
 use Rattle.std.proofs.Common.{sym, ◌∙◌, ap, subst, inl, inr, arith, append_assoc, append-nil}
 use Rattle.std.proofs.lemmas.Bool.{eqb-true, cases_Bool, and_parts}
 use Rattle.std.proofs.lemmas.Bool.Decides.{nat_tests}
@@ -13,6 +13,7 @@ use Rattle.sg_model.specs.Shape.{Shape, Arrow}
 use Rattle.sg_model.specs.Values.{Code}
 use Rattle.sg_model.specs.Names.{Name}
 use Rattle.sg_model.proofs.Small.{all_below}
+use Rattle.sg_model.proofs.Members.{In}
 use Rattle.sg_protocol.specs.Graph.{Graph, Edge, IsGraph, AreNumbers, shape, writes}
 use Rattle.sg_protocol.specs.Frame.{Cast, Item, Frame}
 use Rattle.sg_protocol.specs.Spelling.{HasSpelling, body}
@@ -27,9 +28,7 @@ use Rattle.sg_law.specs.Last as B
 use Rattle.sg_law.specs.Accept.{sender_of, TimedLabel}
 use Rattle.sg_law.specs.Run.{RisesFrom}
 use Rattle.sg_law.specs.Values as V
-use Rattle.sg_law.specs.Values.{State, SentItem, transcript_with_item, com_of, Move, Commit, moved, MayTake, Tagged, Framed, Opened, own_part_of, is_variable, put}
-use Rattle.sg_law.specs.Values.Move.{Writes, Takes}
-use Rattle.sg_law.proofs.Upto.{In}
+use Rattle.sg_law.specs.Values.{State, SentItem, transcript_with_item, com_of, is_variable}
 use Rattle.sg_protocol.proofs.Entries.{entry, entries, by, Roles}
 
 -- a step of the law
@@ -83,9 +82,13 @@ pub row_none : {F : Type 0} (b : Bool) (x : F) → row b x ≡ None → b ≡ fa
 row_none true x h = absurd (cc)
 row_none false x h = refl
 
-pub map_none : {A F : Type 0} (f : A → F) (o : Option A) → option_map f o ≡ None → o ≡ None
-map_none f None h = refl
-map_none f (Some x) h = absurd (cc)
+-- the last item of a frame from its sender
+pub sender_last : (f : Frame) → option_map_or (λ (i : Item). i.role == f.sender) (last f.items) false ≡ true → (i : Item) × (last f.items ≡ Some i) × (i.role ≡ f.sender)
+sender_last f = go (last f.items) refl
+  where
+    go : (o : Option Item) → last f.items ≡ o → option_map_or (λ (i : Item). i.role == f.sender) o false ≡ true → (i : Item) × (last f.items ≡ Some i) × (i.role ≡ f.sender)
+    go None e h = absurd (cc)
+    go (Some i) e h = (i, e, eqb-true i.role f.sender h)
 
 from_cond : (k n : ℕ) → cond (nat_lt k n) (Some k) None ≡ None → nat_lt k n ≡ false
 from_cond k n h = elim (cases_Bool (nat_lt k n)) [ inl e ↦ (let f : Some k ≡ None = rw e at h in absurd (cc)) | inr e ↦ e ]

@@ -11,10 +11,10 @@ use Rattle.sg_model.specs.Lists.{first_some, is_in, keys_of, below}
 use Rattle.sg_model.specs.Shape.{role_at}
 use Rattle.sg_model.specs.Names.{Name}
 use Rattle.sg_model.specs.Values.{Value, Opening}
-use Rattle.sg_model.proofs.Small.{clash, same_bytes, bytes_same}
+use Rattle.sg_model.proofs.Small.{clash, same_bytes, bytes_same, lt_of}
 use Rattle.sg_model.proofs.Numbers.{below_in}
-use Rattle.sg_law.proofs.Members.{in_left}
-use Rattle.sg_law.proofs.Upto.{In, in_from_Contains}
+use Rattle.sg_model.proofs.Members.{In, in_from_Contains, in_left}
+use Rattle.sg_model.proofs.Finding.{find_passes, find_all, found_in}
 use Rattle.sg_protocol.specs.Graph.{Graph, shape, writes, reads}
 use Rattle.sg_protocol.specs.Evidence.{View}
 use Rattle.sg_protocol.specs.Frame.{Cast, Item, Frame}
@@ -35,12 +35,10 @@ use Rattle.sg_protocol.specs.Named.{IsNamed, AnswersAreNamed, GivesVariables, Ha
 use Rattle.sg_protocol.proofs.Acts as C
 use Rattle.sg_protocol.proofs.Bridge.{has_view-Contains}
 use Rattle.sg_protocol.proofs.Entries.{view_last_edge}
-use Rattle.sg_protocol.proofs.Finding.{find_passes, find_all}
 use Rattle.sg_protocol.proofs.Gives.{keys_are}
 use Rattle.sg_protocol.proofs.Moves.{writes_below}
 use Rattle.sg_protocol.proofs.Sent.{reads_in}
 use Rattle.sg_protocol.proofs.Takes.{Rows, rows_of}
-use Rattle.sg_protocol.proofs.Whole.{found_in}
 
 -- ---- lists
 
@@ -255,7 +253,7 @@ module _ (sha : Hash) (n : Node) (programs : AllByRecursion (IsProgram sha) n.pr
           let r : x.role < length p.graph.roles = subst (λ z. z < length p.graph.roles) (sym w.role_is) ip.role in
           let ks : AllByRecursion (λ y. y < length p.graph.variables) (keys_of values) = subst (AllByRecursion (λ y. y < length p.graph.variables)) (sym (keys_are p.graph ip.is_graph label values good rs.good)) (writes_below p.graph ip.is_graph label) in
           subst (NamesFrom (Act sid0 label values confs)) e
-          (named_by x q p q2 (sent sha n.keys p x label values confs) (r, C.lt_of label (length p.graph.edges) rs.edge, ks) (λ v i. let s = one_event (Sent x.sid x.role label (time x + 1) values) v i in (ap sid_of s, ap role_of s)))
+          (named_by x q p q2 (sent sha n.keys p x label values confs) (r, lt_of label (length p.graph.edges) rs.edge, ks) (λ v i. let s = one_event (Sent x.sid x.role label (time x + 1) values) v i in (ap sid_of s, ap role_of s)))
       by_rows x q p q2 (Some (Send (BadValues v))) q3 e =
           let ip : IsProgram sha p = (program_is x.cast.graph x.role p q2).is_program in
           let spent : Bool = nat_le 1000000 (time x) in

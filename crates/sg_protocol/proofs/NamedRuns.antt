@@ -5,9 +5,8 @@ use Rattle.std.specs.Result.{result_ok}
 use Rattle.std.proofs.Common.{sym, ◌∙◌, ap, subst, inl, inr, arith}
 use Rattle.std.proofs.lemmas.Slice.Eq.{bytes_eq-Decides}
 use Rattle.sg_model.proofs.Small.{same_bytes, bytes_same, all-right}
-use Rattle.sg_law.proofs.Members.{in_left, in_right, in_flat, in_map, rec_in, all_in}
-use Rattle.sg_law.proofs.Take.{contains_from_in}
-use Rattle.sg_law.proofs.Upto.{In, in_from_Contains}
+use Rattle.sg_model.proofs.Members.{In, in_from_Contains, contains_from_in, in_left, in_right, in_map, in_flat, rec_in, all_in, in_split}
+use Rattle.sg_model.proofs.Finding.{find_passes, found_in, find_some}
 use Rattle.sg_protocol.specs.Graph.{Graph, IsGraph}
 use Rattle.sg_protocol.specs.Frame.{Cast, Frame}
 use Rattle.sg_protocol.specs.Reading.{read}
@@ -30,7 +29,6 @@ use Rattle.sg_protocol.specs.Headline.{IsOfCast}
 use Rattle.sg_protocol.specs.Named.{IsNamed, GivesVariables, IsAnswered, EntriesAreAnswered, EntriesAreNamed, EntriesHaveOneGraph, IsOfOneGraph, StepsAreNamed, names_numbers}
 use Rattle.sg_protocol.proofs.TextLaws as TL
 use Rattle.sg_protocol.proofs.Progressing.{small_values}
-use Rattle.sg_protocol.proofs.Finding.{find_passes}
 use Rattle.sg_protocol.proofs.OneWalk.{FirstCast, first_cast, first_of_live}
 use Rattle.sg_protocol.proofs.FirstSteps.{run_first}
 use Rattle.sg_protocol.proofs.Answered.{WasAsked, was_asked}
@@ -43,8 +41,7 @@ use Rattle.sg_protocol.proofs.KnownLogs.{At, known_before}
 use Rattle.sg_protocol.proofs.LiveSessions.{Known, no_entry}
 use Rattle.sg_protocol.specs.Bounds.{IsSession}
 use Rattle.sg_protocol.proofs.Named.{NamesFrom, call_named, answers_are_named}
-use Rattle.sg_protocol.proofs.Whole.{find_some, found_in, same_name, same_named}
-use Rattle.sg_protocol.proofs.Splits.{in_split}
+use Rattle.sg_protocol.proofs.Whole.{same_name, same_named}
 
 -- ---- the entry of a call
 

@@ -16,7 +16,7 @@ use Rattle.sg_protocol.specs.Calls.{Call, Answer, Start, Act, Abandon, Deliver, 
 use Rattle.sg_protocol.specs.Node.{Node, program_for, is_for}
 use Rattle.sg_protocol.specs.Acting.{openings_for, answer}
 use Rattle.sg_protocol.specs.NodeAfter.{is_over, still, replace, joined, goes_on, takes_read, node_after}
-use Rattle.sg_protocol.specs.Past.{Past, AnsweredCall, new_node, node_of, past_after, AreAnswers}
+use Rattle.sg_protocol.specs.Past.{AnsweredCall, new_node, node_of}
 use Rattle.sg_protocol.specs.Past as Past'
 use Rattle.sg_protocol.specs.IsSchedule.{IsProgram}
 use Rattle.sg_protocol.specs.Ranges.{IsCallInRange}
@@ -28,6 +28,7 @@ use Rattle.sg_protocol.proofs.First.{programs_after}
 use Rattle.sg_protocol.proofs.Live.{node_sound, all_sound}
 use Rattle.sg_protocol.proofs.Reached.{Reached, ReachedIn, each_reached, node_reached}
 use Rattle.sg_protocol.proofs.Representation.{held_more}
+use Rattle.sg_model.proofs.Small.{some_weaker}
 
 module _ (ps : List Program) where
   -- what is held is what the role of the session holds under its program
@@ -42,10 +43,6 @@ module _ (ps : List Program) where
 
   -- ---- from standing to holding, and back if the sessions are sound
 
-  if_some : {A : Type 0} (P Q : A → Type 0) (o : Option A) → ((x : A) → P x → Q x) → IsSomeAnd o P → IsSomeAnd o Q
-  if_some P Q None f h = absurd h
-  if_some P Q (Some x) f h = f x h
-
   if_both : {A : Type 0} (P Q R : A → Type 0) (o : Option A) → ((x : A) → P x → Q x → R x) → IsSomeAnd o P → IsSomeAnd o Q → IsSomeAnd o R
   if_both P Q R None f h k = absurd h
   if_both P Q R (Some x) f h k = f x h k
@@ -55,7 +52,7 @@ module _ (ps : List Program) where
   one_holds h s p (inr w) = w.before.holds
 
   to_holds : (h : Held) (s : Session) → RepresentsLive ps h s → HoldsLive h s
-  to_holds h s = if_some (λ p. RepresentsAtTurn p.graph h s ⊎ RepresentsWaiting p.graph h s) (λ p. h ≡ held p.graph s) (program_for ps (s.cast).graph s.role) (one_holds h s)
+  to_holds h s = some_weaker (λ p. RepresentsAtTurn p.graph h s ⊎ RepresentsWaiting p.graph h s) (λ p. h ≡ held p.graph s) (program_for ps (s.cast).graph s.role) (one_holds h s)
 
   each_holds : (hs : List Held) (ss : List Session) → RepresentEach ps hs ss → HoldEach hs ss
   each_holds [] [] e = tt

@@ -1,12 +1,8 @@
 -- All events of a session of a run are of one cast, and so a principal has one role in it.
-use Rattle.std.specs.Prelude.{◌≡◌, ◌≢◌, ◌<◌, ◌⊎◌, Bool, true, List, [], ◌∷◌, filter, flat_map, map, length, bytes_eq, refl, Some, option_and_then}
+use Rattle.std.specs.Prelude.{◌≡◌, ◌≢◌, ◌<◌, ◌⊎◌, List, [], flat_map, map, length, bytes_eq, refl, Some, option_and_then}
 use Rattle.std.proofs.Common.{sym, ◌∙◌, ap, subst, inl, inr}
-use Rattle.std.proofs.lemmas.Bool.{cases_Bool}
 use Rattle.std.proofs.lemmas.Slice.Eq.{bytes_eq-Decides}
-use Rattle.sg_law.proofs.Members.{in_flat, in_left, in_map, rec_in}
 use Rattle.sg_model.specs.Names.{Name}
-use Rattle.sg_law.proofs.Take.{contains_from_in}
-use Rattle.sg_law.proofs.Upto.{In, in_from_Contains}
 use Rattle.sg_protocol.specs.Graph.{Graph}
 use Rattle.sg_protocol.specs.Frame.{Cast}
 use Rattle.sg_protocol.specs.Texts.{Hash, IsHash, session_text_of, graph_text_of, graph_digest}
@@ -22,20 +18,13 @@ use Rattle.sg_protocol.specs.IsSchedule.{IsProgram}
 use Rattle.sg_protocol.proofs.Finding.{one_index}
 use Rattle.sg_protocol.proofs.GraphText.{one_graph}
 use Rattle.sg_protocol.proofs.TextLaws.{one_cast}
-use Rattle.sg_protocol.proofs.Whole.{find_some}
 use Rattle.sg_protocol.proofs.Happenings.{Happening, IsCourse, run_of}
 use Rattle.sg_protocol.proofs.OneWalk.{FirstCast, first_cast}
 use Rattle.sg_protocol.specs.Headline.{HadEvent, IsOfCast}
 use Rattle.sg_protocol.proofs.KnownLogs.{Origin, Silent, logs_known}
 use Rattle.sg_protocol.proofs.EventCasts.{EventCast, event_cast}
-
-pub filter_in : {A : Type 0} (q : A → Bool) (xs : List A) (x : A) → In xs x → q x ≡ true → In (filter q xs) x
-filter_in q [] x i h = i
-filter_in q (y ∷ ys) x (inl e) h = (let k : q y ≡ true = ap q (sym e) ∙ h in rw k (inl e))
-filter_in q (y ∷ ys) x (inr i) h = elim (cases_Bool (q y)) [
-  | inl k ↦ rw k (inr (filter_in q ys x i h))
-  | inr k ↦ rw k (filter_in q ys x i h)
-]
+use Rattle.sg_model.proofs.Members.{In, in_from_Contains, contains_from_in, in_left, in_map, in_flat, rec_in, filter_in}
+use Rattle.sg_model.proofs.Finding.{find_some}
 
 -- a session that has an event has events
 pub has_events : (log : List Logged) (l : Logged) (e : Event) → In log l → In (events_of_outcome l.outcome) e → events_of (sid_of e) log ≢ []

@@ -11,10 +11,11 @@ use Rattle.sg_protocol.specs.Past.{Past, node_of}
 use Rattle.sg_protocol.specs.Schedule.{Schedule}
 use Rattle.sg_protocol.specs.World.{past_of}
 use Rattle.sg_protocol.specs.Premises.{CollisionFree, hashed}
-use Rattle.sg_protocol.proofs.Isolation.{of_sid, find-filter}
 use Rattle.sg_protocol.specs.Turn.{turn_in, turn_of}
 use Rattle.sg_protocol.proofs.Happenings.{Happening, IsCourse, run_of}
 use Rattle.sg_protocol.proofs.KnownLogs.{logs_known}
+use Rattle.sg_protocol.proofs.OfSid.{of_sid}
+use Rattle.sg_model.proofs.Finding.{find-filter}
 
 -- of one live session the turn is that of the first
 module _ (n : Node) (sid : List ℕ) where

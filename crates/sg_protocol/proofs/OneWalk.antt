@@ -10,12 +10,11 @@ use Rattle.sg_model.specs.Lists.{all_differ}
 use Rattle.sg_model.specs.Names.{Name}
 use Rattle.sg_model.specs.Values.{Opening}
 use Rattle.sg_model.proofs.Small.{same_bytes, both_nil}
+use Rattle.sg_model.proofs.Members.{In, in_from_Contains, contains_from_in, in_left, in_right, in_map, in_flat, rec_in}
+use Rattle.sg_model.proofs.Finding.{find_passes, find_all, found_in, find_some, none_any}
 use Rattle.sg_law.specs.Values as V
 use Rattle.sg_law.specs.Values.{Binding, Commit, Followed, Move, all_openings}
 use Rattle.sg_law.proofs.Follow.{followed}
-use Rattle.sg_law.proofs.Members.{in_left, in_right, in_map, in_flat, rec_in}
-use Rattle.sg_law.proofs.Take.{contains_from_in}
-use Rattle.sg_law.proofs.Upto.{In, in_from_Contains}
 use Rattle.sg_protocol.specs.Graph.{Graph, IsGraph, shape}
 use Rattle.sg_protocol.specs.Evidence.{IsViewTable}
 use Rattle.sg_protocol.specs.Frame.{Cast}
@@ -36,22 +35,16 @@ use Rattle.sg_protocol.specs.Premises.{hashed, Premises}
 use Rattle.sg_protocol.specs.Headline.{IsExplained}
 use Rattle.sg_protocol.specs.IsSchedule.{IsProgram}
 use Rattle.sg_protocol.specs.Bounds.{IsSession}
-use Rattle.sg_protocol.proofs.Progressing.{Suffix, node_more}
+use Rattle.sg_protocol.proofs.Progressing.{Suffix, node_next}
 use Rattle.sg_protocol.proofs.Calls.{NodeOk}
-use Rattle.sg_protocol.proofs.Finding.{find_passes, find_all}
 use Rattle.sg_protocol.proofs.First.{programs_after}
 use Rattle.sg_protocol.proofs.GraphText.{one_graph}
-use Rattle.sg_protocol.proofs.Isolation.{of_sid}
 use Rattle.sg_protocol.proofs.Paths.{one_path, steps_of, flat_map-append}
 use Rattle.sg_protocol.proofs.TextLaws.{one_cast, one_opening}
-use Rattle.sg_protocol.proofs.Whole.{found_in, find_some}
 use Rattle.sg_protocol.proofs.Begun.{BegunBy, Either, call_first}
 use Rattle.sg_protocol.proofs.Going.{SessionInRun, Progress, Left, all_moves}
 use Rattle.sg_protocol.proofs.Happenings.{Happening, Asked, Idle, IsCourse, IsGiven, IsRight, Own, are_programs, happens, all_happen, pasts_kept, run_of, suffix_course}
-
-none_any : {A : Type 0} (q : A → Bool) (xs : List A) → filter q xs ≡ [] → list_any q xs ≡ false
-none_any q [] e = refl
-none_any q (x ∷ xs) e = elim (cases_Bool (q x)) [ inl h ↦ (let f = rw h at e in absurd (cc)) | inr h ↦ rw h (none_any q xs (rw h at e)) ]
+use Rattle.sg_protocol.proofs.OfSid.{of_sid}
 
 module _ (sha : Hash) (hash : IsHash sha) (s : Schedule) (ps : List Past) (course : List Happening) (is_course : IsCourse sha s ps course) where
   abbrev pub w0 : World
@@ -122,7 +115,7 @@ module _ (sha : Hash) (hash : IsHash sha) (s : Schedule) (ps : List Past) (cours
       }
         where
           node_is : node_of (past_after sha past c) ≡ node_after n c (answer sha n c)
-          node_is = node_more (new_node past.keys past.programs past.first) past.calls (record { call = c; answer = answer sha n c })
+          node_is = node_next sha past c
 
           mine : Quiet (past_after sha past c)
           mine = (at.0, ap (λ (m : Node). m.programs) node_is ∙ programs_after n c (answer sha n c) ∙ at.1, ap (λ (m : Node). filter (of_sid sid) m.live) node_is ∙ a.1)

@@ -4,8 +4,6 @@ use Rattle.std.specs.List.{list_any}
 use Rattle.std.proofs.Common.{sym, ◌∙◌, ap, subst, inl, inr}
 use Rattle.std.proofs.lemmas.Bool.{cases_Bool}
 use Rattle.sg_model.specs.Names.{Name}
-use Rattle.sg_law.proofs.Upto.{In, in_from_Contains}
-use Rattle.sg_law.proofs.Take.{contains_from_in}
 use Rattle.sg_protocol.specs.Frame.{Frame}
 use Rattle.sg_protocol.specs.Texts.{Hash, IsHash, graph_text_of}
 use Rattle.sg_protocol.specs.Session.{principal}
@@ -25,6 +23,7 @@ use Rattle.sg_protocol.proofs.Restarts.{Same, plain, same_runs, is_plain}
 use Rattle.sg_protocol.proofs.Moved.{more}
 use Rattle.sg_protocol.proofs.Roles.{sessions_have_one_cast, none_takes_two_roles}
 use Rattle.sg_protocol.proofs.Sendings.{receipts_have_sends}
+use Rattle.sg_model.proofs.Members.{In, in_from_Contains, contains_from_in}
 
 -- ---- a log with more abandonments
 
@@ -60,12 +59,12 @@ first_more sid (l ∷ ls) log (inr h) = ap (find (of_session sid)) h.1 ∙ again
     again q = elim (cases_Bool (of_session sid l)) [ inl b ↦ rw b refl | inr b ↦ rw b q ]
 
 -- each entry is one of the longer log, and each of these is an abandonment or one
-is_in_more : (ls log : List Logged) → HasMoreAbandonments ls log → (l : Logged) → In log l → In ls l
+pub is_in_more : (ls log : List Logged) → HasMoreAbandonments ls log → (l : Logged) → In log l → In ls l
 is_in_more [] log e l i = subst (λ z. In z l) e i
 is_in_more (x ∷ ls) log (inl h) l i = inr (is_in_more ls log h.1 l i)
 is_in_more (x ∷ ls) log (inr h) l i = elim (let z : In (x ∷ h.0) l = subst (λ z. In z l) h.1 i in z) [ inl e ↦ inl e | inr j ↦ inr (is_in_more ls h.0 h.2 l j) ]
 
-was_there : (ls log : List Logged) → HasMoreAbandonments ls log → (l : Logged) → In ls l → IsAbandonment l ⊎ In log l
+pub was_there : (ls log : List Logged) → HasMoreAbandonments ls log → (l : Logged) → In ls l → IsAbandonment l ⊎ In log l
 was_there [] log e l i = absurd i
 was_there (x ∷ ls) log (inl h) l (inl e) = inl (subst IsAbandonment (sym e) h.0)
 was_there (x ∷ ls) log (inl h) l (inr i) = was_there ls log h.1 l i
@@ -84,10 +83,10 @@ module _ (w w' : World) (same : Same w w') where
   hashed_same : (s : Schedule) → hashed s w ≡ hashed s w'
   hashed_same s = ap (λ l. map graph_text_of s.graphs ++ l) (hashed_more w'.log w.log same.log)
 
-  entry_there : (l : Logged) → Contains w.log l → Contains w'.log l
+  pub entry_there : (l : Logged) → Contains w.log l → Contains w'.log l
   entry_there l c = contains_from_in w'.log l (is_in_more w'.log w.log same.log l (in_from_Contains w.log l c))
 
-  entry_back : (l : Logged) → (IsAbandonment l → ⊥) → Contains w'.log l → Contains w.log l
+  pub entry_back : (l : Logged) → (IsAbandonment l → ⊥) → Contains w'.log l → Contains w.log l
   entry_back l f c = elim (was_there w'.log w.log same.log l (in_from_Contains w'.log l c)) [ inl a ↦ absurd (f a) | inr i ↦ contains_from_in w.log l i ]
 
   unforged_same : (s : Schedule) → Unforged s w → Unforged s w'

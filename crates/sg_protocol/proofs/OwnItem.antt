@@ -63,14 +63,6 @@ module _ {K A : Type 0} (role : K → ℕ) (e : Entry K A) where
 
 -- ---- the frame
 
-last_map : {A B : Type 0} (f : A → B) (xs : List A) (x : A) → last xs ≡ Some x → last (map f xs) ≡ Some (f x)
-last_map f [] x l = absurd (cc)
-last_map f (y ∷ []) x l = ap Some (ap f (same l))
-  where
-    same : {A : Type 0} {y x : A} → last (y ∷ []) ≡ Some x → y ≡ x
-    same l = cc
-last_map f (y ∷ z ∷ zs) x l = last_map f (z ∷ zs) x l
-
 all_left : {A : Type 0} (ts : List A) → filter (λ t. true) ts ≡ ts
 all_left [] = refl
 all_left (t ∷ ts) = ap (λ l. t ∷ l) (all_left ts)
@@ -118,6 +110,6 @@ module _ (sha : Hash) (keys : Keyring) (p : Program) (s : Session) (label : ℕ)
 pub own_item_is_last : (sha : Hash) → OwnItemIsLast sha
 own_item_is_last sha keys p s label written other before rise below =
     let same : keys_of (oi sha keys p s label written other before).delta ≡ map (λ (o : Opening). o.variable) written = keys_of_commits sha s.sid written in
-    last_tagged _ _ (last_map (item_of p.graph) _ _ (shown_last sha keys p s label written other before)
+    last_tagged _ _ (last-option_map (item_of p.graph) _ ∙ ap (option_map (item_of p.graph)) (shown_last sha keys p s label written other before)
     ∙ ap (λ d. Some (record (own_item sha keys p s label written) { delta = d }))
     (in_order-all (length p.graph.variables) (own_item sha keys p s label written).delta (ap (rises_from 0) same ∙ rise) (subst (AllByRecursion (λ x. x < length p.graph.variables)) (sym same) (map_below (length p.graph.variables) written below))))

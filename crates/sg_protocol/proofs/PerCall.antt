@@ -1,5 +1,5 @@
 -- What the answer to one call depends on, and what the call leaves.
-use Rattle.std.specs.Prelude.{◌≡◌, ℕ, ◌+◌, ◌==◌, ◌||◌, ◌&&◌, Bool, true, false, List, [], ◌∷◌, ◌++◌, filter, find, length, refl, Option, Some, None, bytes_eq, Result, Ok, Err}
+use Rattle.std.specs.Prelude.{◌≡◌, ℕ, ◌+◌, ◌==◌, ◌&&◌, Bool, true, false, List, [], ◌∷◌, ◌++◌, filter, find, length, refl, Option, Some, None, bytes_eq, Result, Ok, Err}
 use Rattle.std.specs.List.{list_any}
 use Rattle.std.specs.Option.{option_map_or}
 use Rattle.std.proofs.Common.{sym, ◌∙◌, ap, subst, inl, inr, arith, append-nil}
@@ -9,7 +9,8 @@ use Rattle.std.proofs.lemmas.List.Elements.{filter-append}
 use Rattle.sg_model.specs.Last.{last, Map}
 use Rattle.sg_model.specs.Lists.{first_some}
 use Rattle.sg_model.specs.Values.{Opening, Value}
-use Rattle.sg_model.proofs.Small.{and_left, clash, same_bytes}
+use Rattle.sg_model.proofs.Small.{and_left, same_bytes}
+use Rattle.sg_model.proofs.Finding.{find-filter, any-filter}
 use Rattle.sg_protocol.specs.Frame.{Frame, Cast, Item}
 use Rattle.sg_protocol.specs.Reading.{read}
 use Rattle.sg_protocol.specs.Texts.{Hash, session_id}
@@ -22,18 +23,11 @@ use Rattle.sg_protocol.specs.Acting.{started, rows_of_start, answer, openings_fo
 use Rattle.sg_protocol.specs.NodeAfter.{node_after, takes_read, joined, goes_on, replace, still}
 use Rattle.sg_protocol.specs.Past.{is_call_of, is_frame_of}
 use Rattle.sg_protocol.specs.Isolation.{joins_with, sessions_with, AreAlike, IsLeft, AnswersAreOfSessions, CallsKeepAlike, CallsLeaveOthers}
-use Rattle.sg_protocol.proofs.Isolation.{of_sid, find-filter, replace-other, replace-own, still-own, still-other}
+use Rattle.sg_protocol.proofs.OfSid.{of_sid, replace-other, replace-own, still-own, still-other}
 
 -- what has one of two equal texts has the other
 moved : (a b sid : List ℕ) (v : Bool) → bytes_eq a b ≡ true → bytes_eq b sid ≡ v → bytes_eq a sid ≡ v
 moved a b sid v e h = subst (λ y. bytes_eq y sid ≡ v) (sym (same_bytes a b e)) h
-
-any-filter : {A : Type 0} (p q : A → Bool) → ((x : A) → p x ≡ true → q x ≡ true) → (xs : List A) → list_any p (filter q xs) ≡ list_any p xs
-any-filter p q h [] = refl
-any-filter p q h (x ∷ xs) = elim (cases_Bool (q x)) [
-  | inl e ↦ rw e (ap (λ b. p x || b) (any-filter p q h xs))
-  | inr e ↦ rw e (elim (cases_Bool (p x)) [ inl f ↦ clash (q x) (h x f) e | inr f ↦ rw f (any-filter p q h xs) ])
-]
 
 -- the change of a list's length shows in the part that changes
 replace-length : (q which : Session → Bool) (now : Session → List Session) → ((s : Session) → which s ≡ true → q s ≡ true) → (ss : List Session) →
@@ -47,14 +41,18 @@ replace-length q which now h (s ∷ ss) = elim (cases_Bool (which s)) [
   ]
 ]
 
+-- where the joins with the sid are the same, the same of them were joined
+pub joined_with : (joins joins' : List (List ℕ × ℕ)) (sid : List ℕ) → joins_with joins sid ≡ joins_with joins' sid → (s : List ℕ) (r : ℕ) → bytes_eq s sid ≡ true → has_joined joins s r ≡ has_joined joins' s r
+joined_with joins joins' sid same s r h = sym (on joins) ∙ ap (list_any (λ (j : List ℕ × ℕ). bytes_eq j.0 s && (j.1 == r))) same ∙ on joins'
+  where
+    on : (js : List (List ℕ × ℕ)) → has_joined (joins_with js sid) s r ≡ has_joined js s r
+    on js = any-filter (λ (j : List ℕ × ℕ). bytes_eq j.0 s && (j.1 == r)) (λ (j : List ℕ × ℕ). bytes_eq j.0 sid) (λ j e. moved j.0 s sid true (and_left _ _ e) h) js
+
 -- ---- the same answers
 
 module _ (sha : Hash) (sid : List ℕ) (n n' : Node) (b : AreAlike sid n n') where
   has_same : (s : List ℕ) (r : ℕ) → bytes_eq s sid ≡ true → has_joined n.joins s r ≡ has_joined n'.joins s r
-  has_same s r h = sym (on n.joins) ∙ ap (list_any (λ (j : List ℕ × ℕ). bytes_eq j.0 s && (j.1 == r))) b.joins ∙ on n'.joins
-    where
-      on : (joins : List (List ℕ × ℕ)) → has_joined (joins_with joins sid) s r ≡ has_joined joins s r
-      on joins = any-filter (λ (j : List ℕ × ℕ). bytes_eq j.0 s && (j.1 == r)) (λ (j : List ℕ × ℕ). bytes_eq j.0 sid) (λ j e. moved j.0 s sid true (and_left _ _ e) h) joins
+  has_same = joined_with n.joins n'.joins sid b.joins
 
   found_same : (p : Session → Bool) → ((s : Session) → p s ≡ true → of_sid sid s ≡ true) → find p n.live ≡ find p n'.live
   found_same p h = sym (find-filter p (of_sid sid) h n.live) ∙ ap (find p) b.live ∙ find-filter p (of_sid sid) h n'.live

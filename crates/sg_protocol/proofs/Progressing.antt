@@ -1,5 +1,5 @@
 -- Pasts, logs and moves of a session, as they grow.
-use Rattle.std.specs.Prelude.{◌≡◌, ℕ, ◌+◌, ◌<◌, ◌≤◌, if◌then◌else◌, ◌⊎◌, Bool, true, false, List, [], ◌∷◌, ◌++◌, map, filter, flat_map, length, find, bytes_eq, refl, Option, Some, None, option_map}
+use Rattle.std.specs.Prelude.{◌≡◌, ℕ, ◌+◌, ◌<◌, ◌≤◌, if◌then◌else◌, ◌⊎◌, Bool, true, false, List, [], ◌∷◌, ◌++◌, filter, flat_map, length, bytes_eq, refl, Option, Some, None, option_map}
 use Rattle.std.specs.List.{AllByRecursion}
 use Rattle.std.specs.Option.{option_map_or}
 use Rattle.std.proofs.Common.{sym, ◌∙◌, ap, subst, inl, inr, arith, append_assoc, append-nil}
@@ -15,8 +15,6 @@ use Rattle.sg_protocol.specs.Notes.{Note}
 use Rattle.sg_protocol.specs.Schedule.{Schedule, Step, StartStep, ActStep, AbandonStep, DeliverStep, CraftStep, confounder}
 use Rattle.sg_law.specs.Values as V
 use Rattle.sg_law.specs.Values.{State, SentItem, Move, Commit, moved}
-use Rattle.sg_law.proofs.Upto.{In}
-use Rattle.sg_law.proofs.Take.{contains_from_in}
 use Rattle.sg_protocol.proofs.Paths.{flat_map-append}
 use Rattle.sg_protocol.proofs.Moves.{NoteOk}
 use Rattle.sg_model.specs.Lists.{keys_of}
@@ -28,25 +26,23 @@ use Rattle.sg_law.specs.Values.{AllMay, moved_all, all_openings}
 use Rattle.std.proofs.lemmas.List.{length-append}
 use Rattle.std.proofs.lemmas.Bool.{cases_Bool}
 use Rattle.std.proofs.lemmas.List.Elements.{filter-append}
-use Rattle.sg_model.proofs.Small.{all-append, all_weaker}
-use Rattle.sg_law.proofs.Members.{in_left, in_parts}
-use Rattle.sg_protocol.specs.Past.{Past, AnsweredCall, node_after_all, past_after}
+use Rattle.sg_model.proofs.Small.{all-append, all_weaker, same_bytes}
+use Rattle.sg_model.proofs.Members.{In, contains_from_in, in_left, in_parts, in_from_Contains}
+use Rattle.sg_model.proofs.Finding.{find_passes, find_map}
+use Rattle.sg_protocol.specs.Past.{Past, AnsweredCall, node_after_all, past_after, node_of, new_node}
 use Rattle.sg_protocol.specs.World.{World, Logged, past_of, call_of}
 use Rattle.sg_protocol.specs.Run.{called, called_if, world_after, world_after_all, events_of, events_of_outcome}
-use Rattle.sg_law.proofs.Upto.{in_from_Contains}
+use Rattle.sg_protocol.specs.Acting.{answer}
 
 -- ---- pasts
-
-pub find_map : {A : Type 0} (q : A → Bool) (f : A → A) → ((x : A) → q (f x) ≡ q x) → (xs : List A) → find q (map f xs) ≡ option_map f (find q xs)
-find_map q f e [] = refl
-find_map q f e (x ∷ xs) = elim (cases_Bool (q x)) [
-  | inl h ↦ rw (e x, h) refl
-  | inr h ↦ rw (e x, h) (find_map q f e xs)
-]
 
 pub node_more : (n : Node) (cs : List AnsweredCall) (c : AnsweredCall) → node_after_all n (cs ++ c ∷ []) ≡ node_after (node_after_all n cs) c.call c.answer
 node_more n [] c = refl
 node_more n (d ∷ cs) c = node_more (node_after n d.call d.answer) cs c
+
+-- the node after a call
+pub node_next : (sha : Hash) (past : Past) (c : Call) → node_of (past_after sha past c) ≡ node_after (node_of past) c (answer sha (node_of past) c)
+node_next sha past c = node_more (new_node past.keys past.programs past.first) past.calls (record { call = c; answer = answer sha (node_of past) c })
 
 -- the past of a principal after a call of another, or of itself
 abbrev pub next_past : Hash → Name → Call → Past → Past
@@ -58,6 +54,25 @@ past_called sha w k who c past me = find_map (λ p. bytes_eq p.keys.me me) (next
     go : (p : Past) → (bytes_eq p.keys.me who ≡ true) ⊎ (bytes_eq p.keys.me who ≡ false) → bytes_eq (next_past sha who c p).keys.me me ≡ bytes_eq p.keys.me me
     go p (inl e) = rw e refl
     go p (inr e) = rw e refl
+
+-- after a call the past of the principal that was asked is the next one, and those of others are as they were
+pub past_called_at : (sha : Hash) (w : World) (k : ℕ) (who : Name) (past : Past) → past_of w who ≡ Some past → (c : Call) (me : Name)
+    → ((bytes_eq me who ≡ true) × (past_of w me ≡ Some past) × (past_of (called sha w k who c past) me ≡ Some (past_after sha past c))) ⊎ ((bytes_eq me who ≡ false) × (past_of (called sha w k who c past) me ≡ past_of w me))
+past_called_at sha w k who past its_past c me = elim (cases_Bool (bytes_eq me who)) [
+  | inl b ↦
+      let mine : past_of w me ≡ Some past = ap (past_of w) (same_bytes me who b) ∙ its_past in
+      let named : bytes_eq past.keys.me who ≡ true = find_passes (λ (p : Past). bytes_eq p.keys.me who) w.pasts past its_past in
+      let next : next_past sha who c past ≡ past_after sha past c = rw named refl in
+      inl (b, mine, past_called sha w k who c past me ∙ ap (option_map (next_past sha who c)) mine ∙ ap (λ (p : Past). Some p) next)
+  | inr b ↦ inr (b, past_called sha w k who c past me ∙ stays b (past_of w me) refl)
+]
+  where
+    stays : bytes_eq me who ≡ false → (o : Option Past) → past_of w me ≡ o → option_map (next_past sha who c) o ≡ o
+    stays b None e = refl
+    stays b (Some y) e =
+        let is_me : y.keys.me ≡ me = same_bytes y.keys.me me (find_passes (λ (z : Past). bytes_eq z.keys.me me) w.pasts y e) in
+        let next : next_past sha who c y ≡ y = rw (ap (λ z. bytes_eq z who) is_me ∙ b) refl in
+        ap (λ (p : Past). Some p) next
 
 -- ---- logs
 

@@ -20,6 +20,7 @@ use Rattle.sg_protocol.specs.Sending.{own_item, frame_sent}
 use Rattle.sg_protocol.specs.Calls.{Event, Call, Start, Act, Abandon, Deliver, Sends}
 use Rattle.sg_model.specs.Names.{Name}
 use Rattle.sg_model.proofs.Small.{all-append, all_end}
+use Rattle.sg_model.proofs.Finding.{find_passes, find_all}
 use Rattle.sg_protocol.specs.Node.{Node, is_for}
 use Rattle.sg_protocol.specs.Acting.{openings_for, rows_of_act, answer}
 use Rattle.sg_protocol.specs.NodeAfter.{node_after}
@@ -28,7 +29,6 @@ use Rattle.sg_protocol.specs.Bounds.{IsSession, IsShortFrame}
 use Rattle.sg_protocol.specs.Ranges.{IsCast, AreValues, IsCallInRange, SessionsStayInRange, NodesStayInRange}
 use Rattle.sg_protocol.proofs.Acts as C
 use Rattle.sg_protocol.proofs.Bounds.{sent_is_short}
-use Rattle.sg_protocol.proofs.Finding.{find_passes, find_all}
 use Rattle.sg_protocol.proofs.Gives.{keys_are}
 use Rattle.sg_protocol.proofs.Moves.{writes_below}
 use Rattle.sg_protocol.proofs.Nodes.{Begun, ActSent, act_sends, start_sends, abandon_sends, deliver_sends, start_all, abandon_all, act_all, deliver_all}

@@ -2,12 +2,14 @@
 use Rattle.std.specs.Prelude.{◌≡◌, ◌⊎◌, ℕ, ◌==◌, ◌&&◌, true, false, List, [], ◌∷◌, bytes_eq, refl, Option, Some, None, IfSome, IsSomeAnd}
 use Rattle.std.specs.List.{AllByRecursion}
 use Rattle.std.proofs.Common.{sym, ◌∙◌, ap, subst, inl, inr}
-use Rattle.std.proofs.lemmas.Bool.{cases_Bool, eqb-true, eq-eqb, and_parts}
+use Rattle.std.proofs.lemmas.Bool.{cases_Bool, eqb-true, and_parts}
 use Rattle.sg_model.specs.Last.{Map, last}
 use Rattle.sg_model.specs.Lists.{first_some}
 use Rattle.sg_model.specs.Shape.{role_at}
 use Rattle.sg_model.specs.Values.{Value, Opening}
-use Rattle.sg_model.proofs.Small.{clash}
+use Rattle.sg_model.proofs.Small.{clash, some_weaker}
+use Rattle.sg_model.proofs.LastOf.{eqb_same}
+use Rattle.sg_model.proofs.Finding.{find_passes}
 use Rattle.sg_protocol.specs.Graph.{shape}
 use Rattle.sg_protocol.specs.Frame.{Item, Frame}
 use Rattle.sg_protocol.specs.Spelling.{HasSpelling}
@@ -28,18 +30,10 @@ use Rattle.sg_protocol.specs.Live.{IsSound, IsLive}
 use Rattle.sg_protocol.specs.NodeStates.{RepresentsLive, RepresentEach, IsReachableLive}
 use Rattle.sg_protocol.proofs.Acts as C
 use Rattle.sg_protocol.proofs.Reachable.{states_are_reachable}
-use Rattle.sg_protocol.proofs.Finding.{find_passes}
 use Rattle.sg_protocol.proofs.Live.{found, start_sound, join_sound}
 use Rattle.sg_protocol.proofs.Nodes.{ActSent, NextTaken, start_all, abandon_all, act_all, deliver_all}
 use Rattle.sg_protocol.proofs.ReadBack.{read-SpellsFrame}
 use Rattle.sg_protocol.proofs.Representation.{states_represent, after}
-
-eq_same : (n : ℕ) → (n == n) ≡ true
-eq_same n = eq-eqb n n refl
-
-in_some : {A : Type 0} (P Q : A → Type 0) (o : Option A) → ((x : A) → P x → Q x) → IsSomeAnd o P → IsSomeAnd o Q
-in_some P Q None f h = absurd h
-in_some P Q (Some x) f h = f x h
 
 module _ (sha : Hash) (hash : IsHash sha) where
   -- what is held of the session represents it, and a sound session stands behind it
@@ -69,7 +63,7 @@ module _ (sha : Hash) (hash : IsHash sha) where
   gives keys p s label values confs ip (inl t) none good =
       let written : List Opening = openings_for values confs in
       let rs : C.ActRows p.graph s label values = C.act_rows p s label values none in
-      let leave : leaves p.graph s label ≡ true = rw (rs.edge, rs.leaves) (eq_same _) in
+      let leave : leaves p.graph s label ≡ true = rw (rs.edge, rs.leaves) (eqb_same _) in
       let i : Item = own_item sha keys p s label written in
       let b = (states_are_reachable sha hash).gives keys p (held p.graph s) s label values confs ip t.1 t.0 none good in
       let st : RepresentsWaiting p.graph (held_after p.graph (held p.graph s) (Gave i written)) (extended s (Gave i written)) = (states_represent sha).gives keys p (held p.graph s) s label written ip.accepted t.0 leave in
@@ -94,7 +88,7 @@ module _ (sha : Hash) (hash : IsHash sha) where
     under s p q h = subst (λ o. IsSomeAnd o (λ p. Reached p s)) (sym q) h
 
     live_reached : (s : Session) → IsLive sha n.programs s → ReachedIn n.programs s
-    live_reached s = in_some (λ p. IsSound sha p s) (λ p. Reached p s) (program_for n.programs (s.cast).graph s.role) (λ p. of_sound p s)
+    live_reached s = some_weaker (λ p. IsSound sha p s) (λ p. Reached p s) (program_for n.programs (s.cast).graph s.role) (λ p. of_sound p s)
 
     act_reached : (sid0 : List ℕ) (label : ℕ) (values : Map Value) (confs : List (List ℕ)) → AreValues values confs → (f : Frame) (a : ActSent sha n sid0 label values confs f) → ReachedIn n.programs a.x
         → IfSome (last f.items) (λ i. ReachedIn n.programs (extended a.x (Gave i (openings_for values confs))))

@@ -1,18 +1,18 @@
 -- What items reduce to: the last of each role with what was written since the one before, and with its tags for roles that have no later item.
-use Rattle.std.specs.Prelude.{◌≡◌, ℕ, ◌<◌, ◌==◌, ◌||◌, ◌⊎◌, Bool, true, false, not, if◌then◌else◌, List, [], ◌∷◌, ◌++◌, map, filter, length, refl, Option, Some, None}
+use Rattle.std.specs.Prelude.{◌≡◌, ℕ, ◌<◌, ◌==◌, ◌||◌, ◌⊎◌, Bool, true, false, not, if◌then◌else◌, List, [], ◌∷◌, ◌++◌, map, filter, length, refl}
 use Rattle.std.specs.Option.{option_or}
 use Rattle.std.proofs.Common.{sym, ◌∙◌, ap, subst, inl, inr, append-nil}
 use Rattle.std.proofs.lemmas.Bool.{cases_Bool, eqb-true}
 use Rattle.std.proofs.lemmas.List.Elements.{filter_agree}
 use Rattle.sg_model.specs.Last.{Map, Entry, merge, has, after_last, carry, evidence}
 use Rattle.sg_model.specs.Lists.{value_at, in_order}
-use Rattle.sg_model.proofs.Small.{or_assoc}
+use Rattle.sg_model.proofs.Small.{or_assoc, clash}
 use Rattle.sg_protocol.specs.Graph.{Graph}
 use Rattle.sg_protocol.specs.Frame.{Item}
 use Rattle.sg_protocol.specs.Session.{committed}
 use Rattle.sg_protocol.specs.Sending.{entry_of, item_of, tags_left, shown_to}
 use Rattle.sg_protocol.proofs.KeptLaws.{value_at-in_order, in_order-in_order, in_order-same}
-use Rattle.sg_law.proofs.Com.{value_at-merge}
+use Rattle.sg_law.proofs.Com.{value_at-merge, option_or-assoc}
 
 -- the role of an item
 abbrev pub by_role : Item → ℕ
@@ -32,14 +32,11 @@ filter-filter p q r f h [] = refl
 filter-filter p q r f h (x ∷ xs) = elim (cases_Bool (p x)) [
   | inl a ↦ elim (cases_Bool (q x)) [
     | inl b ↦ rw (a, b, h x a b) (ap (λ l. x ∷ l) (filter-filter p q r f h xs))
-    | inr b ↦ rw (a, b, not_r (cases_Bool (r x)) (λ e. both_no (q x) (f x e).1 b)) (filter-filter p q r f h xs)
+    | inr b ↦ rw (a, b, not_r (cases_Bool (r x)) (λ e. clash (q x) (f x e).1 b)) (filter-filter p q r f h xs)
   ]
-  | inr a ↦ rw (a, not_r (cases_Bool (r x)) (λ e. both_no (p x) (f x e).0 a)) (filter-filter p q r f h xs)
+  | inr a ↦ rw (a, not_r (cases_Bool (r x)) (λ e. clash (p x) (f x e).0 a)) (filter-filter p q r f h xs)
 ]
   where
-    both_no : (b : Bool) → b ≡ true → b ≡ false → ⊥
-    both_no b t f = absurd (cc)
-
     not_r : (r x ≡ true) ⊎ (r x ≡ false) → (r x ≡ true → ⊥) → r x ≡ false
     not_r (inl e) k = absurd (k e)
     not_r (inr e) k = e
@@ -77,29 +74,26 @@ module _ (g : Graph) where
   has-lead k d [] = refl
   has-lead k d (x ∷ xs) = refl
 
+  -- where an item's role stands again, it may be left out
+  same_role : (i : Item) (k : ℕ) (xs : List Item) → ((i.role == k) ≡ true) ⊎ ((i.role == k) ≡ false) → has by_role i.role xs ≡ true → has by_role k xs ≡ ((i.role == k) || has by_role k xs)
+  same_role i k xs (inl h) e = rw h (subst (λ z. has by_role z xs ≡ true) (eqb-true i.role k h) e)
+  same_role i k xs (inr h) e = rw h refl
+
   pub has-reduced : (k : ℕ) (xs : List Item) → has by_role k (reduced xs) ≡ has by_role k xs
   has-reduced k [] = refl
   has-reduced k (i ∷ xs) = elim (cases_Bool (has by_role i.role xs)) [
-    | inl e ↦ rw e (has-lead k i.delta (reduced xs) ∙ has-reduced k xs ∙ there (cases_Bool (i.role == k)) e)
+    | inl e ↦ rw e (has-lead k i.delta (reduced xs) ∙ has-reduced k xs ∙ same_role i k xs (cases_Bool (i.role == k)) e)
     | inr e ↦ rw e (ap (λ b. (i.role == k) || b) (has-reduced k xs))
   ]
-    where
-      there : ((i.role == k) ≡ true) ⊎ ((i.role == k) ≡ false) → has by_role i.role xs ≡ true → has by_role k xs ≡ ((i.role == k) || has by_role k xs)
-      there (inl h) e = rw h (subst (λ z. has by_role z xs ≡ true) (eqb-true i.role k h) e)
-      there (inr h) e = rw h refl
 
   -- what the written maps have
   merge_twice : (d e w : Map (List ℕ)) → in_order (length g.variables) (merge (in_order (length g.variables) (merge d e)) w) ≡ in_order (length g.variables) (merge d (in_order (length g.variables) (merge e w)))
   merge_twice d e w = in_order-same (length g.variables) (merge (in_order (length g.variables) (merge d e)) w) (merge d (in_order (length g.variables) (merge e w))) (λ x h.
       value_at-merge (in_order (length g.variables) (merge d e)) w x
       ∙ ap (option_or (value_at w x)) (value_at-in_order (length g.variables) (merge d e) x h ∙ value_at-merge d e x)
-      ∙ assoc (value_at w x) (value_at e x) (value_at d x)
+      ∙ sym (option_or-assoc (value_at w x) (value_at e x) (value_at d x))
       ∙ ap (λ o. option_or o (value_at d x)) (sym (value_at-in_order (length g.variables) (merge e w) x h ∙ value_at-merge e w x))
       ∙ sym (value_at-merge d (in_order (length g.variables) (merge e w)) x))
-    where
-      assoc : (a b c : Option (List ℕ)) → option_or a (option_or b c) ≡ option_or (option_or a b) c
-      assoc None b c = refl
-      assoc (Some a) b c = refl
 
   merge_in_order : (d w : Map (List ℕ)) → in_order (length g.variables) (merge (in_order (length g.variables) d) w) ≡ in_order (length g.variables) (merge d w)
   merge_in_order d w = in_order-same (length g.variables) (merge (in_order (length g.variables) d) w) (merge d w) (λ x h.
@@ -214,17 +208,13 @@ module _ (g : Graph) where
   has_evid : (k : ℕ) (xs : List Item) → has by_role k (map (item_of g) (evid xs)) ≡ has by_role k xs
   has_evid k [] = refl
   has_evid k (i ∷ xs) = elim (cases_Bool (has by_role i.role xs)) [
-    | inl e ↦ rw (has_entries i.role xs ∙ e) (carried (evid xs) ∙ has_evid k xs ∙ there (cases_Bool (i.role == k)) e)
+    | inl e ↦ rw (has_entries i.role xs ∙ e) (carried (evid xs) ∙ has_evid k xs ∙ same_role i k xs (cases_Bool (i.role == k)) e)
     | inr e ↦ rw (has_entries i.role xs ∙ e) (ap (λ b. (i.role == k) || b) (has_evid k xs))
   ]
     where
       carried : (es : List E) → has by_role k (map (item_of g) (carry i.delta es)) ≡ has by_role k (map (item_of g) es)
       carried [] = refl
       carried (e ∷ es) = refl
-
-      there : ((i.role == k) ≡ true) ⊎ ((i.role == k) ≡ false) → has by_role i.role xs ≡ true → has by_role k xs ≡ ((i.role == k) || has by_role k xs)
-      there (inl h) e = rw h (subst (λ z. has by_role z xs ≡ true) (eqb-true i.role k h) e)
-      there (inr h) e = rw h refl
 
   evid_reduced : (xs : List Item) → tags_left (map (item_of g) (evid xs)) ≡ reduced xs
   evid_reduced [] = refl
@@ -239,11 +229,7 @@ module _ (g : Graph) where
   -- ---- what reduced items say
 
   committed_lead : (x : ℕ) → x < length g.variables → (d : Map (List ℕ)) (z : Item) (zs : List Item) → committed x (lead d (z ∷ zs)) ≡ option_or (committed x (z ∷ zs)) (value_at d x)
-  committed_lead x h d z zs = ap (option_or (committed x zs)) (value_at-in_order (length g.variables) (merge d z.delta) x h ∙ value_at-merge d z.delta x) ∙ assoc (committed x zs) (value_at z.delta x) (value_at d x)
-    where
-      assoc : (a b c : Option (List ℕ)) → option_or a (option_or b c) ≡ option_or (option_or a b) c
-      assoc None b c = refl
-      assoc (Some a) b c = refl
+  committed_lead x h d z zs = ap (option_or (committed x zs)) (value_at-in_order (length g.variables) (merge d z.delta) x h ∙ value_at-merge d z.delta x) ∙ sym (option_or-assoc (committed x zs) (value_at z.delta x) (value_at d x))
 
   pub committed_reduced : (x : ℕ) → x < length g.variables → (xs : List Item) → committed x (reduced xs) ≡ committed x xs
   committed_reduced x h [] = refl

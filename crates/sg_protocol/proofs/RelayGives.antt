@@ -9,7 +9,7 @@ use Rattle.sg_model.specs.Last.{Map, has, last, after_last, up_to_last}
 use Rattle.sg_model.specs.Lists.{value_at, keys_of, is_in}
 use Rattle.sg_model.specs.Shape.{Walk, role_at, sender, receiver}
 use Rattle.sg_model.specs.Values.{Value, Opening}
-use Rattle.sg_model.proofs.Small.{cases_Option, all-append, no_last}
+use Rattle.sg_model.proofs.Small.{cases_Option, all-append, no_last, lt_of}
 use Rattle.sg_protocol.specs.Graph.{Graph, IsGraph, shape, writes, reads}
 use Rattle.sg_protocol.specs.Knowledge.{learns, knows}
 use Rattle.sg_protocol.specs.Frame.{Cast, Item, Frame}
@@ -22,7 +22,6 @@ use Rattle.sg_protocol.specs.Sending.{tag_for, text_of, plain_item, own_item, op
 use Rattle.sg_protocol.specs.Verdict.{has_kind}
 use Rattle.sg_law.specs.Run as R
 use Rattle.sg_law.proofs.Upto as Upto'
-use Rattle.sg_law.proofs.Cut.{split_end}
 use Rattle.sg_law.proofs.Cut as Cut'
 use Rattle.sg_law.proofs.Times as Times
 use Rattle.sg_law.specs.Last as B
@@ -43,6 +42,7 @@ use Rattle.sg_protocol.proofs.Reduced.{by_role, tags_but, reduced, reduced_again
 use Rattle.sg_protocol.proofs.Ends.{tags_all, committed-append, last_opening-append, labels, last_reduced, time_is, commitments_same, has_same, after_one}
 use Rattle.sg_protocol.proofs.Known.{knows_more, opening_there, opening_not, opening_all, value_of_opening}
 use Rattle.sg_protocol.proofs.Relay.{tag_said, tags-append, StepsOk, OpensAt, RelayOk, at_end}
+use Rattle.sg_protocol.proofs.Acts.{keys_of_commits}
 
 -- openings that are there for all variables
 pub openings_there : (P : Opening → Type 0) (G : ℕ → Option Opening) (xs : List ℕ) → ((v : ℕ) → is_in v xs ≡ true → (o : Opening) × (G v ≡ Some o) × (o.variable ≡ v) × P o) → (map (λ (o : Opening). o.variable) (filter_map G xs) ≡ xs) × AllByRecursion P (filter_map G xs)
@@ -91,7 +91,7 @@ module _ (sha : Hash) (keys : List PairKey) (sid : List ℕ) (cast : Cast) (targ
   by_x = ap (role_at (shape p.graph)) rows.leaves ∙ eqb-true (role_at (shape p.graph) (place p.graph x)) x.role rows.turn
 
   in_edges : label < length p.graph.edges
-  in_edges = C.lt_of label (length p.graph.edges) rows.edge
+  in_edges = lt_of label (length p.graph.edges) rows.edge
 
   pub apart : to ≢ x.role
   apart e = acc.no_self_edge label in_edges (by_x ∙ sym e)
@@ -131,11 +131,7 @@ module _ (sha : Hash) (keys : List PairKey) (sid : List ℕ) (cast : Cast) (targ
   delta_is = ap (λ (z : Item). z.delta) item_is
 
   keys_delta : keys_of item.delta ≡ writes p.graph label
-  keys_delta = ap keys_of delta_is ∙ go os ∙ names_os
-    where
-      go : (zs : List Opening) → keys_of (map (λ (o : Opening). (o.variable, commitment sha x.sid o)) zs) ≡ map (λ (o : Opening). o.variable) zs
-      go [] = refl
-      go (o ∷ zs) = ap (λ l. o.variable ∷ l) (go zs)
+  keys_delta = ap keys_of delta_is ∙ keys_of_commits sha x.sid os ∙ names_os
 
   labels_after : labels after ≡ labels done ++ label ∷ []
   labels_after = map-append (λ (i : Item). i.label) done (item ∷ []) ∙ ap (λ (z : Item). labels done ++ z.label ∷ []) item_is

@@ -1,20 +1,20 @@
 -- A run with restarts is that of a schedule without them, but for abandonments.
-use Rattle.std.specs.Prelude.{◌≡◌, ℕ, ◌+◌, ◌==◌, ◌&&◌, ◌⊎◌, nat_lt, Bool, true, false, if◌then◌else◌, List, [], ◌∷◌, ◌++◌, map, filter_map, find, length, bytes_eq, refl, Option, Some, None, option_map, slice_get, All, IsTrue, IfSome, ⊤}
+use Rattle.std.specs.Prelude.{◌≡◌, ℕ, ◌+◌, ◌==◌, ◌&&◌, ◌⊎◌, nat_lt, Bool, true, false, if◌then◌else◌, List, [], ◌∷◌, ◌++◌, map, filter_map, find, length, bytes_eq, refl, Option, Some, None, option_map, slice_get, All, IfSome, ⊤}
 use Rattle.std.specs.List.{list_all, AllByRecursion, cons_option}
 use Rattle.std.specs.Option.{option_map_or}
 use Rattle.std.proofs.Common.{sym, ◌∙◌, ap, subst, inl, inr, arith, append_assoc}
 use Rattle.std.proofs.lemmas.Bool.{eqb-true, cases_Bool, and_parts, and_from}
 use Rattle.std.proofs.lemmas.List.{length-append}
 use Rattle.std.proofs.lemmas.List.Elements.{All-from_recursion, recursion_from_All}
+use Rattle.std.proofs.lemmas.Simd.{map-map}
 use Rattle.sg_model.specs.Bytes.{IsBytes}
 use Rattle.sg_model.specs.Last.{last}
 use Rattle.sg_model.specs.Lists.{all_differ}
 use Rattle.sg_model.specs.Names.{Name, is_name}
-use Rattle.sg_model.proofs.Small.{same_bytes, all-append, some_same, length-more, all_weaker, length_map}
+use Rattle.sg_model.proofs.Small.{same_bytes, all-append, some_same, length-more, all_weaker, length_map, at_length, tests_all}
+use Rattle.sg_model.proofs.Members.{In, contains_from_in, all_in}
+use Rattle.sg_model.proofs.Finding.{find_passes, find_all, found_in, find_map}
 use Rattle.sg_law.proofs.Lists.{last-append}
-use Rattle.sg_law.proofs.Take.{contains_from_in}
-use Rattle.sg_law.proofs.Upto.{In}
-use Rattle.sg_law.proofs.Members.{all_in}
 use Rattle.sg_protocol.specs.Frame.{Cast, Item, Frame, IsCastOf}
 use Rattle.sg_protocol.specs.Spelling.{spelling, HasSpelling}
 use Rattle.sg_protocol.specs.Texts.{Hash, IsHash, session_id}
@@ -32,17 +32,17 @@ use Rattle.sg_protocol.specs.Run.{called, called_if, uncalled, world_after, worl
 use Rattle.sg_protocol.specs.Crafted.{crafted}
 use Rattle.sg_protocol.specs.IsSchedule.{IsSchedule, IsStep, IsDeclared, AreCompiled, IsProgram}
 use Rattle.sg_protocol.specs.Restarts.{StepOrRestart, Stepped, Restarted, live_of, world_restarted, world_over_restarts, run_with_restarts, IsStepOrRestart, moved_step, declared, dropped, abandon_steps, plain_steps, without_restarts, IsAbandonment, HasMoreAbandonments, IsRunOf, RestartsAreAbandonments}
-use Rattle.sg_protocol.proofs.Progressing.{find_map, next_past, past_called}
-use Rattle.sg_protocol.proofs.Finding.{find_passes, find_all}
+use Rattle.sg_protocol.proofs.Progressing.{next_past, past_called, node_next}
 use Rattle.sg_protocol.proofs.Fits.{Fit, fit_new, fit_next, fit_bytes, declared_in}
 use Rattle.sg_protocol.proofs.First.{programs_after}
 use Rattle.sg_protocol.proofs.Nodes.{start_all, abandon_all, act_all, deliver_all, JoinTaken}
 use Rattle.sg_protocol.proofs.ReadBack.{read-SpellsFrame}
 use Rattle.sg_protocol.proofs.Sent.{FitSession}
-use Rattle.sg_protocol.proofs.Whole.{first_past, new_past, program_graph, found_in}
-use Rattle.sg_protocol.proofs.Anew.{with_live, with_own, first_answer, first_left, node_next, anew}
+use Rattle.sg_protocol.proofs.Whole.{first_past, new_past, program_graph}
+use Rattle.sg_protocol.proofs.Anew.{with_live, with_own, first_answer, first_left, anew}
 use Rattle.sg_protocol.proofs.Lives.{anew_if, past_restarted}
 use Rattle.sg_protocol.proofs.Moved.{more, call_moved, crafted_moved, step_moved}
+use Rattle.sg_protocol.proofs.Happenings.{next_keys}
 
 -- ---- lists
 
@@ -58,10 +58,6 @@ all_off_map : {A B : Type 0} (Q : B → Type 0) (f : A → B) (xs : List A) → 
 all_off_map Q f [] a = tt
 all_off_map Q f (x ∷ xs) a = (a.0, all_off_map Q f xs a.1)
 
-map_map : {A B C : Type 0} (f : A → B) (g : B → C) (xs : List A) → map g (map f xs) ≡ map (λ x. g (f x)) xs
-map_map f g [] = refl
-map_map f g (x ∷ xs) = ap (λ l. g (f x) ∷ l) (map_map f g xs)
-
 -- ---- what two worlds have the same
 
 -- a principal's keys and node
@@ -71,7 +67,7 @@ Shown = Keyring × Node
 abbrev pub shown : Past → Shown
 shown p = (p.keys, node_of p)
 
-find_shown : (who : Name) (ps : List Past) → option_map shown (find (λ p. bytes_eq p.keys.me who) ps) ≡ find (λ (v : Shown). bytes_eq (v.0).me who) (map shown ps)
+pub find_shown : (who : Name) (ps : List Past) → option_map shown (find (λ p. bytes_eq p.keys.me who) ps) ≡ find (λ (v : Shown). bytes_eq (v.0).me who) (map shown ps)
 find_shown who [] = refl
 find_shown who (p ∷ ps) = elim (cases_Bool (bytes_eq p.keys.me who)) [ inl e ↦ rw e refl | inr e ↦ rw e (find_shown who ps) ]
 
@@ -211,10 +207,6 @@ there : (xs : List Session) (p : Past) → IsThere xs (Some p)
 there [] p = tt
 there (x ∷ xs) p = tt
 
-at_length : {A : Type 0} (pre : List A) (x : A) (post : List A) → slice_get (pre ++ x ∷ post) (length pre) ≡ Some x
-at_length [] x post = refl
-at_length (y ∷ pre) x post = at_length pre x post
-
 -- what the abandonments of a principal's sessions make of a world
 record Left (who : Name) (w w' : World) : Type 0 where
   nodes : map shown w'.pasts ≡ map (emptied who) (map shown w.pasts)
@@ -316,10 +308,7 @@ one_past_map : (who : Name) (f : Past → Past) → ((p : Past) → (f p).keys �
 one_past_map who f h all [] a = tt
 one_past_map who f h all (p ∷ ps) a = ((λ e. find_map (λ (q : Past). bytes_eq q.keys.me who) f (λ q. ap (λ k. bytes_eq k.me who) (h q)) all ∙ ap (option_map f) (a.0 (ap (λ k. bytes_eq k.me who) (sym (h p)) ∙ e))), one_past_map who f h all ps a.1)
 
-next_keys : (sha : Hash) (who : Name) (c : Call) (p : Past) → (next_past sha who c p).keys ≡ p.keys
-next_keys sha who c p = elim (cases_Bool (bytes_eq p.keys.me who)) [ inl e ↦ rw e refl | inr e ↦ rw e refl ]
-
-anew_keys : (who : Name) (p : Past) → (anew_if who p).keys ≡ p.keys
+pub anew_keys : (who : Name) (p : Past) → (anew_if who p).keys ≡ p.keys
 anew_keys who p = elim (cases_Bool (bytes_eq p.keys.me who)) [ inl e ↦ rw e refl | inr e ↦ rw e refl ]
 
 abbrev pub Names_ : World → Type 0
@@ -344,10 +333,6 @@ module _ (sha : Hash) (hash : IsHash sha) (programs : List Program) (s : Schedul
   CallOk (Deliver bs) = IsBytes bs
   CallOk other = ⊤
 
-  names_are : (ns : List Name) → AllByRecursion (λ n. IsTrue (is_name n)) ns → list_all is_name ns ≡ true
-  names_are [] a = refl
-  names_are (n ∷ ns) a = and_from (is_name n) (list_all is_name ns) a.0 (names_are ns a.1)
-
   join_can : (n : Node) → n.programs ≡ programs → (f : Frame) (c : Cast) → HasSpelling f → f.join ≡ Some c → JoinTaken sha n f c → CanDeclare (extended (new_session f.sid c f.receiver) (Took f))
   join_can n ps f c spelled j t =
       let co : IsCastOf f.version c = subst (λ o. IfSome o (IsCastOf f.version)) j spelled.fields.join in
@@ -362,7 +347,7 @@ module _ (sha : Hash) (hash : IsHash sha) (programs : List Program) (s : Schedul
           is_there = contains_from_in s.graphs (t.p).graph (program_graph sha s.graphs programs compiled t.p inside);
           digest = sym (same_bytes (t.p).digest c.graph named.0) ∙ is.digest;
           count = eqb-true (length c.names) (length (t.p).graph.roles) counted.0;
-          names = and_from (all_differ c.names) (list_all is_name c.names) counted.1 (names_are c.names co.names);
+          names = and_from (all_differ c.names) (list_all is_name c.names) counted.1 (tests_all is_name c.names co.names);
           nonce = co.nonce;
           version = subst (λ v. (v ≡ 1) ⊎ (v ≡ 2)) (sym co.version) spelled.fields.version;
         },
@@ -598,7 +583,7 @@ module _ (sha : Hash) (hash : IsHash sha) (programs : List Program) (s : Schedul
     is_run_of = record {
       log = same_runs.log;
       frames = sym (same_frames wr (run sha programs plain) same_runs);
-      nodes = sym (map_map shown (λ (v : Shown). v.1) (run sha programs plain).pasts) ∙ sym (ap (map (λ (v : Shown). v.1)) same_runs.nodes) ∙ map_map shown (λ (v : Shown). v.1) wr.pasts;
+      nodes = sym (map-map (λ (v : Shown). v.1) shown (run sha programs plain).pasts) ∙ sym (ap (map (λ (v : Shown). v.1)) same_runs.nodes) ∙ map-map (λ (v : Shown). v.1) shown wr.pasts;
     }
 
   pub same_last : (xs : List StepOrRestart) (x : Step) (good : All (IsStepOrRestart sha s) (xs ++ Stepped x ∷ [])) → AddsSame (run_with_restarts sha programs s xs).log (run_with_restarts sha programs s (xs ++ Stepped x ∷ [])).log (run sha programs (plain (xs ++ Stepped x ∷ []) good)).log

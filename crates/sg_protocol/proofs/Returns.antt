@@ -1,12 +1,12 @@
 -- A role that waits comes to a node again exactly if its table has a view from its own last label.
-use Rattle.std.specs.Prelude.{◌≡◌, ◌≢◌, ℕ, ◌<◌, ◌==◌, ◌||◌, true, false, List, [], ◌∷◌, ◌++◌, length, refl, Option, Some, None, Contains, Any, IsTrue, ◌↔◌}
+use Rattle.std.specs.Prelude.{◌≡◌, ℕ, ◌<◌, ◌==◌, ◌||◌, true, false, List, [], ◌∷◌, ◌++◌, length, refl, Option, Some, None, Contains, Any, IsTrue, ◌↔◌}
 use Rattle.std.proofs.Common.{sym, ◌∙◌, ap, subst, inl, inr, arith}
 use Rattle.std.proofs.lemmas.Bool.{cases_Bool, eqb-true, eq-eqb}
 use Rattle.std.proofs.lemmas.List.Folds.{list_any-from_Any, Any-from_list_any}
 use Rattle.sg_model.specs.Last.{has, last, up_to_last, after_last}
 use Rattle.sg_model.specs.Shape.{Shape, Walk, end_of, role_at, source, sender, target}
 use Rattle.sg_model.proofs.LastOf.{has-append, eqb_same}
-use Rattle.sg_model.proofs.Small.{or_true}
+use Rattle.sg_model.proofs.Small.{or_true, not_empty}
 use Rattle.sg_law.proofs.Walks.{walk-append, walk_join, end_of-append, end_of_same}
 use Rattle.sg_protocol.specs.Graph.{Graph, IsGraph, shape}
 use Rattle.sg_protocol.specs.Evidence.{View, IsView, view_of, same_origin}
@@ -52,10 +52,6 @@ up_to-cut {A = A} key k (x ∷ xs) y ys own free = rw is (more (up_to_last key k
 same_origin-some : (o : Option ℕ) (e : ℕ) → same_origin o (Some e) ≡ true → o ≡ Some e
 same_origin-some None e h = absurd (cc)
 same_origin-some (Some a) e h = ap Some (eqb-true a e h)
-
-not_empty : (xs : List ℕ) (y : ℕ) (ys : List ℕ) → xs ++ y ∷ ys ≢ []
-not_empty [] y ys e = absurd (cc)
-not_empty (x ∷ xs) y ys e = absurd (cc)
 
 edge_in : (g : Graph) (e : ℕ) → e < length g.edges → e < length (shape g).edges
 edge_in g e h = omega (arith, h, edges_same g)

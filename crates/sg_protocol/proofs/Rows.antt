@@ -1,5 +1,5 @@
 -- A frame that shows what was done since a role's last step meets every row.
-use Rattle.std.specs.Prelude.{◌≡◌, ◌≢◌, ℕ, ◌+◌, ◌<◌, ◌==◌, nat_lt, ◌||◌, ◌⊎◌, Bool, true, false, not, List, [], ◌∷◌, ◌++◌, map, filter, find, position, length, refl, Option, Some, None, option_map, unwrap_or, IfSome, bytes_eq}
+use Rattle.std.specs.Prelude.{◌≡◌, ◌≢◌, ℕ, ◌+◌, ◌<◌, ◌==◌, nat_lt, ◌⊎◌, true, false, not, List, [], ◌∷◌, ◌++◌, map, filter, find, position, length, refl, Option, Some, None, option_map, unwrap_or, IfSome, bytes_eq}
 use Rattle.std.specs.List.{AllByRecursion, list_all}
 use Rattle.std.specs.Option.{option_or, option_map_or}
 use Rattle.std.proofs.Common.{sym, ◌∙◌, ap, subst, inl, inr, arith, append_assoc, append-nil}
@@ -11,7 +11,7 @@ use Rattle.sg_model.specs.Last.{Map, merge, has, last, after_last, up_to_last}
 use Rattle.sg_model.specs.Lists.{value_at, in_order, keys_of, is_in, same_text, first_some}
 use Rattle.sg_model.specs.Shape.{Walk, end_of, role_at, target, sender, receiver}
 use Rattle.sg_model.specs.Values.{Opening}
-use Rattle.sg_model.proofs.Small.{clash, bytes_refl, cases_Option, all-right, no_last, first_false}
+use Rattle.sg_model.proofs.Small.{clash, bytes_refl, cases_Option, all-right, no_last, first_false, second_false, keys_of_pairs}
 use Rattle.sg_protocol.specs.Graph.{Graph, IsGraph, shape, writes, reads}
 use Rattle.sg_protocol.specs.Evidence.{IsView, IsViewTable, has_view}
 use Rattle.sg_protocol.specs.Targets.{IsTargetTable}
@@ -30,7 +30,7 @@ use Rattle.sg_law.specs.Run as R
 use Rattle.sg_law.proofs.Times as Times
 use Rattle.sg_law.proofs.Cut as Cut'
 use Rattle.sg_law.proofs.Upto as Upto'
-use Rattle.sg_law.proofs.Lists.{last-append, has-map}
+use Rattle.sg_law.proofs.Lists.{last-append}
 use Rattle.sg_law.proofs.Lists as Lists'
 use Rattle.sg_protocol.proofs.LiveSessions.{key_same}
 use Rattle.sg_law.proofs.Walks.{walk-append, end_of-append}
@@ -38,7 +38,7 @@ use Rattle.sg_protocol.proofs.Entries.{Roles, edges_same}
 use Rattle.sg_protocol.proofs.Moves.{step}
 use Rattle.sg_protocol.proofs.Reduced.{by_role, tags_but, lead, left_by, reduced, has-reduced, lead-lead, committed_reduced}
 use Rattle.sg_protocol.proofs.KeptLaws.{value_at-in_order}
-use Rattle.sg_law.proofs.Com.{value_at-merge}
+use Rattle.sg_law.proofs.Com.{value_at-merge, option_or-assoc}
 use Rattle.sg_protocol.proofs.Ends.{below_same, committed-append, labels, last_bare, same_last, committed_same, after_all}
 use Rattle.sg_protocol.proofs.Relay.{tag_said, TagsOk, StepsOk, OpensAt, RelayOk}
 use Rattle.sg_protocol.proofs.SeenItems.{view_is, view_there}
@@ -162,13 +162,9 @@ module _ (sha : Hash) (keys : List PairKey) (sid : List ℕ) (cast : Cast) (targ
   right_tags b (i ∷ xs) h = elim (cases_Bool (has by_role i.role xs)) [
     | inl e ↦ rw e (tags_lead i.delta (reduced g xs) ∙ right_tags (b ++ i ∷ []) xs h.1)
     | inr e ↦ rw e (and_from (bytes_eq (keys_of (tags_but xs i.tags)) (filter (λ t. not (has by_role t (reduced g xs))) (targets_of p i.label))) (has_right_tags p (reduced g xs)) ((bytes_eq-Decides (keys_of (tags_but xs i.tags)) (filter (λ t. not (has by_role t (reduced g xs))) (targets_of p i.label))).1 (
-        tags_keys xs i.tags ∙ ap (filter (λ t. not (has by_role t xs))) (ap keys_of h.0 ∙ keys_same (tag_said sha keys sid cast targets g b i) (targets i.label) ∙ sym (same_targets i.label))
+        tags_keys xs i.tags ∙ ap (filter (λ t. not (has by_role t xs))) (ap keys_of h.0 ∙ keys_of_pairs (tag_said sha keys sid cast targets g b i) (targets i.label) ∙ sym (same_targets i.label))
         ∙ filter_agree (λ t. not (has by_role t xs)) (λ t. not (has by_role t (reduced g xs))) (λ t. ap not (sym (has-reduced g t xs))) (targets_of p i.label))) (right_tags (b ++ i ∷ []) xs h.1))
   ]
-    where
-      keys_same : (T : ℕ → List ℕ) (ts : List ℕ) → keys_of (map (λ t. (t, T t)) ts) ≡ ts
-      keys_same T [] = refl
-      keys_same T (t ∷ ts) = ap (λ l. t ∷ l) (keys_same T ts)
 
   shown_ok : is_shown p x f ≡ true
   shown_ok =
@@ -227,27 +223,19 @@ module _ (sha : Hash) (keys : List PairKey) (sid : List ℕ) (cast : Cast) (targ
   is_target m i j xs w r n own_none e =
       subst (λ l. is_in x.role l ≡ true) (same_targets i.label) ((table.each i.label x.role (let l = w.0 in omega (arith, l, edges_same g)) role_small).1 record {
         not_sender = λ q. clash (i.role == x.role) (eq-eqb i.role x.role (r.0 ∙ sym q)) (first_false (i.role == x.role) (has by_role x.role (j ∷ xs)) n);
-        not_receiver = λ q. clash (j.role == x.role) (eq-eqb j.role x.role (r.1.0 ∙ ap (role_at (shape g)) w.2.1 ∙ sym q)) (first_false (j.role == x.role) (has by_role x.role xs) (rest (i.role == x.role) (has by_role x.role (j ∷ xs)) n));
+        not_receiver = λ q. clash (j.role == x.role) (eq-eqb j.role x.role (r.1.0 ∙ ap (role_at (shape g)) w.2.1 ∙ sym q)) (first_false (j.role == x.role) (has by_role x.role xs) (second_false (i.role == x.role) (has by_role x.role (j ∷ xs)) n));
         walk = labels (j ∷ xs);
         leads = record {
           walk = w.2;
           ends = e;
-          no_a = senders x.role (j ∷ xs) r.1 (rest (i.role == x.role) (has by_role x.role (j ∷ xs)) n);
+          no_a = senders x.role (j ∷ xs) r.1 (second_false (i.role == x.role) (has by_role x.role (j ∷ xs)) n);
           no_b = subst (λ z. has (sender (shape g)) z (labels (j ∷ xs)) ≡ false) r.0 (senders i.role (j ∷ xs) r.1 own_none);
         };
       })
     where
-      rest : (a b : Bool) → (a || b) ≡ false → b ≡ false
-      rest true b h = absurd (cc)
-      rest false b h = h
-
       senders : (y : ℕ) (zs : List Item) → Roles (shape g) zs → has by_role y zs ≡ false → has (sender (shape g)) y (labels zs) ≡ false
       senders y [] r h = refl
-      senders y (z ∷ zs) r h = rw (ap (λ q. q == y) (sym r.0) ∙ first_false (z.role == y) (has by_role y zs) h) (senders y zs r.1 (rest (z.role == y) (has by_role y zs) h))
-
-  assoc : (a b c : Option (List ℕ)) → option_or (option_or a b) c ≡ option_or a (option_or b c)
-  assoc None b c = refl
-  assoc (Some a) b c = refl
+      senders y (z ∷ zs) r h = rw (ap (λ q. q == y) (sym r.0) ∙ first_false (z.role == y) (has by_role y zs) h) (senders y zs r.1 (second_false (z.role == y) (has by_role y zs) h))
 
   -- the tag of an item, if what was held before it is the same
   tag_right : (b prefix : List Item) (i j : Item) (xs : List Item) → i.tags ≡ map (λ t. (t, tag_said sha keys sid cast targets g b i t)) (targets i.label) → has by_role x.role xs ≡ false → is_in x.role (targets i.label) ≡ true → commitments g (prefix ++ j ∷ []) ≡ commitments g (b ++ i ∷ []) → j.role ≡ i.role → j.label ≡ i.label → j.time ≡ i.time → j.tags ≡ tags_but xs i.tags
@@ -272,16 +260,16 @@ module _ (sha : Hash) (keys : List PairKey) (sid : List ℕ) (cast : Cast) (targ
   checks (i ∷ xs) d prefix b m held tg r n w e = elim (cases_Bool (has by_role i.role xs)) [
     | inl h ↦
         let held' : (v : ℕ) → v < length g.variables → option_or (value_at (in_order (length g.variables) (merge d i.delta)) v) (committed v prefix) ≡ committed v (b ++ i ∷ []) = λ v l.
-        ap (λ o. option_or o (committed v prefix)) (value_at-in_order (length g.variables) (merge d i.delta) v l ∙ value_at-merge d i.delta v) ∙ assoc (value_at i.delta v) (value_at d v) (committed v prefix) ∙ ap (option_or (value_at i.delta v)) (held v l) ∙ sym (committed-append v b (i ∷ [])) in
+        ap (λ o. option_or o (committed v prefix)) (value_at-in_order (length g.variables) (merge d i.delta) v l ∙ value_at-merge d i.delta v) ∙ option_or-assoc (value_at i.delta v) (value_at d v) (committed v prefix) ∙ ap (option_or (value_at i.delta v)) (held v l) ∙ sym (committed-append v b (i ∷ [])) in
         rw h (subst (λ l. list_all (has_item_tag sha me x) (checked_texts g x prefix l) ≡ true) (lead-lead g d i.delta (reduced g xs))
-        (checks xs (in_order (length g.variables) (merge d i.delta)) prefix (b ++ i ∷ []) (target (shape g) i.label) held' tg.1 r.1 (rest (i.role == x.role) (has by_role x.role xs) n) w.2 e))
+        (checks xs (in_order (length g.variables) (merge d i.delta)) prefix (b ++ i ∷ []) (target (shape g) i.label) held' tg.1 r.1 (second_false (i.role == x.role) (has by_role x.role xs) n) w.2 e))
     | inr h ↦
         let j : Item = record (left_by g xs i) { delta = in_order (length g.variables) (merge d (in_order (length g.variables) i.delta)) } in
         let held' : (v : ℕ) → v < length g.variables → committed v (prefix ++ record (left_by g xs i) { delta = in_order (length g.variables) (merge d (in_order (length g.variables) i.delta)) } ∷ []) ≡ committed v (b ++ i ∷ []) = λ v l.
         committed-append v prefix (record (left_by g xs i) { delta = in_order (length g.variables) (merge d (in_order (length g.variables) i.delta)) } ∷ [])
         ∙ ap (λ o. option_or o (committed v prefix)) (value_at-in_order (length g.variables) (merge d (in_order (length g.variables) i.delta)) v l ∙ value_at-merge d (in_order (length g.variables) i.delta) v ∙ ap (λ o. option_or o (value_at d v)) (value_at-in_order (length g.variables) i.delta v l))
-        ∙ assoc (value_at i.delta v) (value_at d v) (committed v prefix) ∙ ap (option_or (value_at i.delta v)) (held v l) ∙ sym (committed-append v b (i ∷ [])) in
-        let n' : has by_role x.role xs ≡ false = rest (i.role == x.role) (has by_role x.role xs) n in
+        ∙ option_or-assoc (value_at i.delta v) (value_at d v) (committed v prefix) ∙ ap (option_or (value_at i.delta v)) (held v l) ∙ sym (committed-append v b (i ∷ [])) in
+        let n' : has by_role x.role xs ≡ false = second_false (i.role == x.role) (has by_role x.role xs) n in
         let later : list_all (has_item_tag sha me x) (checked_texts g x (prefix ++ record (left_by g xs i) { delta = in_order (length g.variables) (merge d (in_order (length g.variables) i.delta)) } ∷ []) (reduced g xs)) ≡ true =
         subst (λ l. list_all (has_item_tag sha me x) (checked_texts g x (prefix ++ record (left_by g xs i) { delta = in_order (length g.variables) (merge d (in_order (length g.variables) i.delta)) } ∷ []) l) ≡ true) (lead_nil g xs)
         (checks xs [] (prefix ++ record (left_by g xs i) { delta = in_order (length g.variables) (merge d (in_order (length g.variables) i.delta)) } ∷ []) (b ++ i ∷ []) (target (shape g) i.label) held' tg.1 r.1 n' w.2 e) in
@@ -289,10 +277,6 @@ module _ (sha : Hash) (keys : List PairKey) (sid : List ℕ) (cast : Cast) (targ
         (below_same (λ v. committed v (prefix ++ record (left_by g xs i) { delta = in_order (length g.variables) (merge d (in_order (length g.variables) i.delta)) } ∷ [])) (λ v. committed v (b ++ i ∷ [])) (length g.variables) held') refl refl refl refl))
   ]
     where
-      rest : (a b : Bool) → (a || b) ≡ false → b ≡ false
-      rest true b h = absurd (cc)
-      rest false b h = h
-
       one : (prefix : List Item) (j : Item) (zs : List Item) → list_all (has_item_tag sha me x) (checked_texts g x (prefix ++ j ∷ []) zs) ≡ true → (zs ≢ [] → has_item_tag sha me x (j, text_to g x prefix j x.role) ≡ true) → list_all (has_item_tag sha me x) (checked_texts g x prefix (j ∷ zs)) ≡ true
       one prefix j [] l h = refl
       one prefix j (z ∷ zs) l h = and_from (has_item_tag sha me x (j, text_to g x prefix j x.role)) (list_all (has_item_tag sha me x) (checked_texts g x (prefix ++ j ∷ []) (z ∷ zs))) (h (λ q. (let y : z ∷ zs ≡ [] = q in absurd (cc)))) l

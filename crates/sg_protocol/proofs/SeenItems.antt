@@ -8,7 +8,7 @@ use Rattle.std.proofs.lemmas.List.{map-append}
 use Rattle.sg_model.specs.Last.{Map, Entry, merge, has, last, after_last, up_to_last, carry, evidence, evidence_for}
 use Rattle.sg_model.specs.Lists.{value_at, in_order, below, range_from, keys_of, is_in}
 use Rattle.sg_model.specs.Shape.{sender}
-use Rattle.sg_model.proofs.Small.{bytes_refl, or_true}
+use Rattle.sg_model.proofs.Small.{bytes_refl, or_true, keys_of_pairs}
 use Rattle.sg_model.proofs.Numbers.{is_in-append}
 use Rattle.sg_protocol.specs.Graph.{Graph, shape, writes}
 use Rattle.sg_protocol.specs.Evidence.{View, Seen, view_of, walked, rising, same_origin, same_items, same_view, has_view}
@@ -118,16 +118,12 @@ module _ (g : Graph) where
     h.2,
   )
 
-  names_of : (xs : List ℕ) → keys_of {A = Unit {0}} (map (λ x. (x, tt)) xs) ≡ xs
-  names_of [] = refl
-  names_of (x ∷ xs) = ap (λ l. x ∷ l) (names_of xs)
-
   -- reduced items show the evidence of their walk
   shows_reduced : (is : List Item) → Roles (shape g) is → AllByRecursion (λ (i : Item). keys_of i.delta ≡ writes g i.label) is → Shows (reduced g is) (evidence (sender (shape g)) (walked g (labels is)))
   shows_reduced [] r k = tt
   shows_reduced (i ∷ is) r k =
       let same : has by_wal (sender (shape g) i.label) (walked g (labels is)) ≡ has by_role i.role is = has_walked (sender (shape g) i.label) is r.1 ∙ ap (λ z. has by_role z is) (sym r.0) in
-      let keys : keys_of i.delta ≡ keys_of {A = Unit {0}} (map (λ x. (x, tt)) (writes g i.label)) = k.0 ∙ sym (names_of (writes g i.label)) in
+      let keys : keys_of i.delta ≡ keys_of {A = Unit {0}} (map (λ x. (x, tt)) (writes g i.label)) = k.0 ∙ sym (keys_of_pairs (λ x. tt) (writes g i.label)) in
       elim (cases_Bool (has by_role i.role is)) [
         | inl e ↦ rw (same ∙ e, e) (shows_lead i.delta (map (λ x. (x, tt)) (writes g i.label)) keys (reduced g is) (evidence (sender (shape g)) (walked g (labels is))) (shows_reduced is r.1 k.1))
         | inr e ↦ rw (same ∙ e, e) (refl, keys_in_order (length g.variables) i.delta ∙ ap (rising (length g.variables)) keys, shows_reduced is r.1 k.1)

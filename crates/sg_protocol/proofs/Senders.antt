@@ -4,9 +4,6 @@ use Rattle.std.specs.Option.{option_map_or}
 use Rattle.std.proofs.Common.{sym, ◌∙◌, ap, subst, inl, inr}
 use Rattle.sg_model.specs.Last.{last}
 use Rattle.sg_model.specs.Names.{Name}
-use Rattle.sg_law.proofs.Members.{in_right, in_flat, in_parts, rec_in}
-use Rattle.sg_law.proofs.Take.{contains_from_in}
-use Rattle.sg_law.proofs.Upto.{In, in_from_Contains}
 use Rattle.sg_protocol.specs.Frame.{Cast, Item, Frame}
 use Rattle.sg_protocol.specs.Spelling.{SpellsFrame, spelling, body}
 use Rattle.sg_protocol.specs.Reading.{read}
@@ -15,12 +12,12 @@ use Rattle.sg_protocol.specs.TextLaws.{CastFits, untagged}
 use Rattle.sg_protocol.specs.Keyring.{Program, targets_of, key_of}
 use Rattle.sg_protocol.specs.Session.{Session, principal, transcript, commitments}
 use Rattle.sg_protocol.specs.Sending.{tag_for, text_of, text_to}
-use Rattle.sg_protocol.specs.Calls.{Event, Call, Start, Act, Abandon, Deliver, Answer, Happened, Sends, NotStarted, Refusal, StartFault, sid_of, role_of}
+use Rattle.sg_protocol.specs.Calls.{Event, Call, Start, Act, Abandon, Deliver, Answer, Happened, Sends, Refusal, sid_of, role_of}
 use Rattle.sg_protocol.specs.Node.{Node, program_for}
 use Rattle.sg_protocol.specs.Acting.{answer, answer_act, openings_for}
 use Rattle.sg_protocol.specs.Verdict.{decided, receipt, rows, verdict_on}
 use Rattle.sg_model.specs.Lists.{first_some}
-use Rattle.sg_protocol.specs.Notes.{Note, Notes, note_of, notes, no_notes, notes_of_start, notes_of_act, notes_of_sent, notes_of_read, notes_in_session, session_of_frame, row_number}
+use Rattle.sg_protocol.specs.Notes.{Note, Notes, note_of, notes, no_notes, notes_of_act, notes_of_sent, notes_of_read, notes_in_session, session_of_frame, row_number}
 use Rattle.sg_protocol.specs.Past.{Past}
 use Rattle.sg_protocol.specs.Schedule.{Schedule, is_honest, honest_role}
 use Rattle.sg_protocol.specs.World.{World, Logged, Answered}
@@ -28,7 +25,6 @@ use Rattle.sg_protocol.specs.Run.{frame_in, events_of, cast_in, cast_of_session}
 use Rattle.sg_protocol.specs.Premises.{hashed, MadeBefore, Premises}
 use Rattle.sg_protocol.specs.Bounds.{IsSession}
 use Rattle.sg_protocol.specs.Receipts.{IsTaken, WasSent}
-use Rattle.sg_protocol.proofs.Acts as C
 use Rattle.sg_protocol.proofs.Moves.{note_text, note_both}
 use Rattle.sg_protocol.proofs.Nodes.{ActSent, act_sends, start_sends, abandon_sends, deliver_sends}
 use Rattle.sg_protocol.proofs.ReadBack.{read-SpellsFrame}
@@ -36,9 +32,11 @@ use Rattle.sg_protocol.proofs.LiveSessions.{Known, Took_, act_event, no_entry, t
 use Rattle.sg_protocol.proofs.KnownLogs.{Origin, Silent, logs_known}
 use Rattle.sg_protocol.proofs.TextLaws as TL
 use Rattle.sg_protocol.proofs.TextLaws.{kinds_differ}
-use Rattle.sg_protocol.proofs.Whole.{found_in}
 use Rattle.sg_protocol.proofs.OneWalk.{FirstCast, first_cast}
 use Rattle.sg_protocol.proofs.Happenings.{Happening, IsCourse, IsGiven, are_programs, given_sends, key_at, key_kept, HaveOneKey, run_of}
+use Rattle.sg_protocol.proofs.StartCall.{start_made}
+use Rattle.sg_model.proofs.Members.{In, in_from_Contains, contains_from_in, in_right, in_parts, in_flat, rec_in, map_in}
+use Rattle.sg_model.proofs.Finding.{found_in}
 
 -- ---- where a note was made
 
@@ -55,12 +53,6 @@ module _ (sha : Hash) (n : Node) where
     tag_is : f.tag ≡ tag_for sha n.keys x.cast f.receiver (text_of f)
     is_text : text ≡ text_of f
 
-  start_none : (c : Cast) (a : Answer) (nt : Note) → In (notes_of_start c a).made nt → ⊥
-  start_none c (NotStarted StartFault.UnknownGraph) nt i = i
-  start_none c (NotStarted StartFault.BadCast) nt i = i
-  start_none c (NotStarted (StartFault.UnknownPeer name)) nt i = i
-  start_none c other nt i = i
-
   read_none : (r : Result Frame ℕ) (nt : Note) → In (notes_of_read sha n r).made nt → ⊥
   read_none (Err at) nt i = i
   read_none (Ok f) nt i = go (row_number (first_some (rows sha n f))) (session_of_frame n f) i
@@ -70,7 +62,7 @@ module _ (sha : Hash) (n : Node) where
       go k (Some y) i = i
 
   gave : (c : Call) (nt : Note) (v : ℕ) (body_ : List ℕ) → In (notes sha n c).made nt → nt.text ≡ frame_text_of v body_ → Gave c nt.text
-  gave (Start c) nt v b i t = absurd (start_none c (answer sha n (Start c)) nt i)
+  gave (Start c) nt v b i t = absurd (start_made c (answer sha n (Start c)) nt i)
   gave (Abandon sid0) nt v b i t = absurd i
   gave (Deliver bs) nt v b i t = absurd (read_none (read bs) nt i)
   gave (Act sid0 label values confs) nt v b i t = by_answer (answer_act sha n sid0 label values confs) refl i
@@ -83,8 +75,8 @@ module _ (sha : Hash) (n : Node) where
         where
           items_ : (o : Option Item) → In (option_map_or (λ (i : Item). map (λ t. note_of n.keys.me (principal x.cast t) (text_to p.graph x (transcript x) i t)) (targets_of p i.label)) o []) nt → ⊥
           items_ None j = j
-          items_ (Some i) j = let r = C.of_map (λ t. note_of n.keys.me (principal x.cast t) (text_to p.graph x (transcript x) i t)) (targets_of p i.label) nt j in
-              absurd (kinds_differ.item_frame x.cast.version x.sid i.role r.0 i.label i.time (commitments p.graph (transcript x ++ i ∷ [])) v b (sym (note_text n.keys.me (principal x.cast r.0) (text_to p.graph x (transcript x) i r.0)) ∙ ap (λ (z : Note). z.text) (sym r.1) ∙ t))
+          items_ (Some i) j = let r = map_in (λ t. note_of n.keys.me (principal x.cast t) (text_to p.graph x (transcript x) i t)) (targets_of p i.label) nt j in
+              absurd (kinds_differ.item_frame x.cast.version x.sid i.role r.0 i.label i.time (commitments p.graph (transcript x ++ i ∷ [])) v b (sym (note_text n.keys.me (principal x.cast r.0) (text_to p.graph x (transcript x) i r.0)) ∙ ap (λ (z : Note). z.text) (sym r.2) ∙ t))
 
       by_answer : (a : Answer) → answer_act sha n sid0 label values confs ≡ a → In (notes_of_act n sid0 (openings_for values confs) a).made nt → Gave (Act sid0 label values confs) nt.text
       by_answer (Sends e to f) q i =

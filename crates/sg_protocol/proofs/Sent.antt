@@ -8,11 +8,11 @@ use Rattle.std.proofs.lemmas.Bool.Decides.{nat_tests}
 use Rattle.std.proofs.lemmas.List.{map-append, length-append, length-take-le}
 use Rattle.std.proofs.lemmas.List.Elements.{All-head, All-tail}
 use Rattle.sg_model.specs.Last as A
-use Rattle.sg_model.specs.Last.{evidence_for, Map, has, last, last_or, last_of, after_last, up_to_last}
+use Rattle.sg_model.specs.Last.{Map, has, after_last}
 use Rattle.sg_model.specs.Lists.{value_at, range_from}
 use Rattle.sg_model.specs.Shape.{Arrow, role_at, source, target, sender, receiver}
 use Rattle.sg_model.specs.Values.{Value, Opening}
-use Rattle.sg_protocol.specs.Graph.{Graph, Edge, IsGraph, AreNumbers, shape, writes, reads, canonical, ended, spaced, variable_line, node_line, edge_line, AreNames}
+use Rattle.sg_protocol.specs.Graph.{Graph, Edge, AreNumbers, shape, writes, reads}
 use Rattle.sg_protocol.specs.Frame.{Cast, Item, Frame, IsItem, IsTag, IsValue, IsOpening, IsCastOf, tag_len}
 use Rattle.sg_protocol.specs.Spelling.{spelling, magic, join_code, HasSpelling, body, u8, u16, u32, item_bytes, pair_bytes, map_bytes, join_bytes, short_text, opening_bytes, sized, value_bytes, kind_code}
 use Rattle.sg_model.specs.Bytes.{AreBytes}
@@ -32,15 +32,16 @@ use Rattle.sg_protocol.proofs.Acts as C
 use Rattle.std.specs.Prelude.{IsTrue}
 use Rattle.sg_model.specs.Values.{IntValue, TextValue}
 use Rattle.sg_model.specs.Names.{is_name, is_name_byte, is_letter}
-use Rattle.sg_model.proofs.Small.{all-append, all_filter, length_filter, length_map}
+use Rattle.sg_model.proofs.Small.{all-append, all_filter, length_filter, length_map, lt_of, length-flat, all_weaker, keys_of_pairs, all_below}
+use Rattle.sg_model.proofs.Finding.{find_passes, find_all}
 use Rattle.sg_protocol.specs.IsSchedule.{IsProgram}
 use Rattle.std.specs.Prelude.{replicate, take}
 use Rattle.std.specs.List.{concat}
-use Rattle.std.specs.Prelude.{drop, ◌*◌}
+use Rattle.std.specs.Prelude.{drop}
 use Rattle.sg_protocol.specs.Targets.{IsTarget}
 use Rattle.sg_protocol.specs.Graph as G
 use Rattle.sg_protocol.proofs.Spelled.{to_bytes, from_bytes, bytes-append, bytes-take, bytes-zeros}
-use Rattle.sg_protocol.proofs.Finding.{find_all, find_passes}
+use Rattle.sg_protocol.proofs.TextLaws.{magic_long}
 
 -- ---- numbers that differ
 
@@ -111,6 +112,9 @@ rise_lower (y ∷ ys) m n l r = let p = and_parts (not (nat_lt y n)) (rises_from
 not_less_ : (y n : ℕ) → not (nat_lt y n) ≡ true → nat_lt y n ≡ false
 not_less_ y n h = grind (arith, nat_tests)
 
+upward : (y n : ℕ) → not (nat_lt y n) ≡ true → n ≤ suc y
+upward y n h = grind (arith, nat_tests)
+
 -- ---- maps
 
 rise_filter : {A : Type 0} (q : ℕ × A → Bool) (m : Map A) (n : ℕ) → rises_from n (keys_of m) ≡ true → rises_from n (keys_of (filter q m)) ≡ true
@@ -119,11 +123,8 @@ rise_filter q (w ∷ ws) n r =
     let p = and_parts (not (nat_lt w.0 n)) (rises_from (suc w.0) (keys_of ws)) r in
     elim (cases_Bool (q w)) [
       | inl e ↦ rw e (rw (not_less_ w.0 n p.0) (rise_filter q ws (suc w.0) p.1))
-      | inr e ↦ rw e (rise_lower (keys_of (filter q ws)) n (suc w.0) (up w.0 n p.0) (rise_filter q ws (suc w.0) p.1))
+      | inr e ↦ rw e (rise_lower (keys_of (filter q ws)) n (suc w.0) (upward w.0 n p.0) (rise_filter q ws (suc w.0) p.1))
     ]
-  where
-    up : (y n : ℕ) → not (nat_lt y n) ≡ true → n ≤ suc y
-    up y n h = grind (arith, nat_tests)
 
 abbrev pub Coms : Map (List ℕ) → Type 0
 Coms m = AllByRecursion (λ (d : ℕ × List ℕ). AreBytes 32 d.1) m
@@ -294,18 +295,6 @@ pub len_concat : (ps : List (List ℕ)) → length (concat ps) ≡ total (map (�
 len_concat [] = refl
 len_concat (p ∷ ps) = let l = length-append p (concat ps) in let m = len_concat ps in omega (arith, l, m)
 
-pub flat33 : {A : Type 0} (f : A → List ℕ) (xs : List A) → AllByRecursion (λ x. length (f x) ≤ 33) xs → length (flat_map f xs) ≤ length xs * 33
-flat33 f [] a = omega arith
-flat33 f (x ∷ xs) a = let l = length-append (f x) (flat_map f xs) in let m = flat33 f xs a.1 in let h = a.0 in omega (arith, l, m, h)
-
-pub flat1527 : {A : Type 0} (f : A → List ℕ) (xs : List A) → AllByRecursion (λ x. length (f x) ≤ 1527) xs → length (flat_map f xs) ≤ length xs * 1527
-flat1527 f [] a = omega arith
-flat1527 f (x ∷ xs) a = let l = length-append (f x) (flat_map f xs) in let m = flat1527 f xs a.1 in let h = a.0 in omega (arith, l, m, h)
-
-pub flat1046 : {A : Type 0} (f : A → List ℕ) (xs : List A) → AllByRecursion (λ x. length (f x) ≤ 1046) xs → length (flat_map f xs) ≤ length xs * 1046
-flat1046 f [] a = omega arith
-flat1046 f (x ∷ xs) a = let l = length-append (f x) (flat_map f xs) in let m = flat1046 f xs a.1 in let h = a.0 in omega (arith, l, m, h)
-
 len_take : (n : ℕ) (t : List ℕ) → length (take n t) ≤ length t
 len_take zero t = omega arith
 len_take (suc n) [] = omega arith
@@ -317,19 +306,19 @@ drop_app zero (x ∷ a) b e = absurd (omega arith)
 drop_app (suc n) [] b e = absurd (omega arith)
 drop_app (suc n) (x ∷ a) b e = drop_app n a b (omega arith)
 
+pub pairs_33 : (m : Map (List ℕ)) → AllByRecursion (λ (d : ℕ × List ℕ). (d.0 < 32) × AreBytes 32 d.1) m → AllByRecursion (λ (d : ℕ × List ℕ). length (pair_bytes (λ c. c) d) ≤ 33) m
+pairs_33 [] a = tt
+pairs_33 (d ∷ m) a = ((let l = a.0.1.0 in omega (arith, l)), pairs_33 m a.1)
+
 pub item_len : (v : ℕ) (i : Item) → IsItem v i → length (item_bytes v i) ≤ 1527
 item_len v i h =
     let c = len_concat (u8 i.role ∷ u16 i.label ∷ u32 i.time ∷ map_bytes (λ c. c) i.delta ∷ map_bytes (take (tag_len v)) i.tags ∷ []) in
-    let a = flat33 (pair_bytes (λ c. c)) i.delta (go32 i.delta h.delta) in
-    let b = flat33 (pair_bytes (take (tag_len v))) i.tags (go16 i.tags h.tags) in
+    let a = length-flat 33 (pair_bytes (λ c. c)) i.delta (pairs_33 i.delta h.delta) in
+    let b = length-flat 33 (pair_bytes (take (tag_len v))) i.tags (go16 i.tags h.tags) in
     let d = h.variables.0 in
     let e = h.roles.0 in
     omega (arith, c, a, b, d, e)
   where
-    go32 : (m : Map (List ℕ)) → AllByRecursion (λ (d : ℕ × List ℕ). (d.0 < 32) × AreBytes 32 d.1) m → AllByRecursion (λ (d : ℕ × List ℕ). length (pair_bytes (λ c. c) d) ≤ 33) m
-    go32 [] a = tt
-    go32 (d ∷ m) a = ((let l = a.0.1.0 in omega (arith, l)), go32 m a.1)
-
     go16 : (m : Map (List ℕ)) → AllByRecursion (λ (t : ℕ × List ℕ). (t.0 < 16) × IsTag v t.1) m → AllByRecursion (λ (d : ℕ × List ℕ). length (pair_bytes (take (tag_len v)) d) ≤ 33) m
     go16 [] a = tt
     go16 (d ∷ m) a = ((let l = a.0.1.bytes.0 in let k = len_take (tag_len v) d.1 in omega (arith, l, k)), go16 m a.1)
@@ -346,48 +335,43 @@ opening_len o h =
     let d = h.confounder.0 in
     omega (arith, c, a, b, d)
 
+pub short_name : (n : List ℕ) → is_name n ≡ true → length (short_text n) ≤ 33
+short_name [] h = omega arith
+short_name (c ∷ cs) h = le_of (length cs) (and_parts (is_letter c && list_all is_name_byte cs) (nat_le (length cs) 31) h).1
+  where
+    le_of : (k : ℕ) → nat_le k 31 ≡ true → suc (suc k) ≤ 33
+    le_of k h = grind (arith, nat_tests)
+
 pub join_len : (v : ℕ) (o : Option Cast) → IfSome o (IsCastOf v) → length (join_bytes o) ≤ 577
 join_len v None h = omega arith
 join_len v (Some c) h =
     let a = len_concat (c.graph ∷ c.nonce ∷ u8 (length c.names) ∷ flat_map short_text c.names ∷ []) in
-    let b = flat33 short_text c.names (go c.names h.names) in
+    let b = length-flat 33 short_text c.names (go c.names h.names) in
     let d = h.graph.0 in
     let e = h.nonce.0 in
     let f = h.count.1 in
     omega (arith, a, b, d, e, f)
   where
-    short_name : (n : List ℕ) → is_name n ≡ true → length (short_text n) ≤ 33
-    short_name [] h = omega arith
-    short_name (c ∷ cs) h = le_of (length cs) (and_parts (is_letter c && list_all is_name_byte cs) (nat_le (length cs) 31) h).1
-      where
-        le_of : (k : ℕ) → nat_le k 31 ≡ true → suc (suc k) ≤ 33
-        le_of k h = grind (arith, nat_tests)
-
     go : (ns : List (List ℕ)) → AllByRecursion (λ n. IsTrue (is_name n)) ns → AllByRecursion (λ n. length (short_text n) ≤ 33) ns
     go [] a = tt
     go (n ∷ ns) a = (short_name n a.0, go ns a.1)
+
+pub items_len : (v : ℕ) (is : List Item) → AllByRecursion (IsItem v) is → AllByRecursion (λ i. length (item_bytes v i) ≤ 1527) is
+items_len v is a = all_weaker (IsItem v) (λ i. length (item_bytes v i) ≤ 1527) (item_len v) is a
+
+pub openings_len : (os : List Opening) → AllByRecursion IsOpening os → AllByRecursion (λ o. length (opening_bytes o) ≤ 1046) os
+openings_len os a = all_weaker IsOpening (λ o. length (opening_bytes o) ≤ 1046) opening_len os a
 
 spelled_len : (f : Frame) → length f.sid ≡ 32 → IfSome f.join (IsCastOf f.version) → length f.items ≤ 16 → AllByRecursion (IsItem f.version) f.items → length f.openings ≤ 32 → AllByRecursion IsOpening f.openings → length f.tag ≡ 32 → length (spelling f) ≤ 60000
 spelled_len f l j n a m b t =
     let c = len_concat (magic f.version ∷ u8 (join_code f.join) ∷ f.sid ∷ u8 f.sender ∷ u8 f.receiver ∷ join_bytes f.join ∷ u16 (length f.items) ∷ flat_map (item_bytes f.version) f.items ∷ u8 (length f.openings) ∷ flat_map opening_bytes f.openings ∷ []) in
     let d = length-append (body f) (take (tag_len f.version) f.tag) in
     let e = len_take (tag_len f.version) f.tag in
-    let g = flat1527 (item_bytes f.version) f.items (items_ f.items a) in
-    let h = flat1046 opening_bytes f.openings (opens_ f.openings b) in
+    let g = length-flat 1527 (item_bytes f.version) f.items (items_len f.version f.items a) in
+    let h = length-flat 1046 opening_bytes f.openings (openings_len f.openings b) in
     let i = join_len f.version f.join j in
-    let k = four f.version in
+    let k = magic_long f.version in
     omega (arith, c, d, e, g, h, i, k, l, n, m, t)
-  where
-    four : (v : ℕ) → length (magic v) ≡ 4
-    four v = elim (cases_Bool (v == 2)) [ inl e ↦ rw e refl | inr e ↦ rw e refl ]
-
-    items_ : (is : List Item) → AllByRecursion (IsItem f.version) is → AllByRecursion (λ i. length (item_bytes f.version i) ≤ 1527) is
-    items_ [] a = tt
-    items_ (i ∷ is) a = (item_len f.version i a.0, items_ is a.1)
-
-    opens_ : (os : List Opening) → AllByRecursion IsOpening os → AllByRecursion (λ o. length (opening_bytes o) ≤ 1046) os
-    opens_ [] a = tt
-    opens_ (o ∷ os) a = (opening_len o a.0, opens_ os a.1)
 
 -- ---- tags
 
@@ -412,20 +396,12 @@ role_in R (n ∷ ns) a (suc k) l = role_in R ns (All-tail (λ (n : G.Node). n.ro
 
 pub reads_in : (N : ℕ) (es : List Edge) → All (λ (e : Edge). AreNumbers N e.writes × AreNumbers N e.reads) es → (k : ℕ) → let a : Arrow = get_or (map (λ (e : Edge). record { source = e.source; target = e.target; writes = e.writes; reads = e.reads }) es) k (record { source = 0; target = 0; writes = []; reads = [] }) in (rises_from 0 a.reads ≡ true) × Below N a.reads
 reads_in N [] a k = (refl, tt)
-reads_in N (e ∷ es) a zero = let h = (All-head (λ (e : Edge). AreNumbers N e.writes × AreNumbers N e.reads) e es a).1 in let p = and_parts (rises_from 0 e.reads) (list_all (λ k. nat_lt k N) e.reads) h in (p.0, below_all N e.reads p.1)
-  where
-    below_all : (N : ℕ) (xs : List ℕ) → list_all (λ k. nat_lt k N) xs ≡ true → Below N xs
-    below_all N [] h = tt
-    below_all N (x ∷ xs) h = let p = and_parts (nat_lt x N) (list_all (λ k. nat_lt k N) xs) h in (C.lt_of x N p.0, below_all N xs p.1)
+reads_in N (e ∷ es) a zero = let h = (All-head (λ (e : Edge). AreNumbers N e.writes × AreNumbers N e.reads) e es a).1 in let p = and_parts (rises_from 0 e.reads) (list_all (λ k. nat_lt k N) e.reads) h in (p.0, all_below N e.reads p.1)
 reads_in N (e ∷ es) a (suc k) = reads_in N es (All-tail (λ (e : Edge). AreNumbers N e.writes × AreNumbers N e.reads) e es a) k
 
 below_weak : (m n : ℕ) (xs : List ℕ) → m ≤ n → Below m xs → Below n xs
 below_weak m n [] l b = tt
 below_weak m n (x ∷ xs) l b = ((let h = b.0 in omega (arith, h, l)), below_weak m n xs l b.1)
-
-numbers_below : (N : ℕ) (xs : List ℕ) → list_all (λ k. nat_lt k N) xs ≡ true → Below N xs
-numbers_below N [] h = tt
-numbers_below N (x ∷ xs) h = let p = and_parts (nat_lt x N) (list_all (λ k. nat_lt k N) xs) h in (C.lt_of x N p.0, numbers_below N xs p.1)
 
 -- ---- openings
 
@@ -438,11 +414,8 @@ opens_all : (h : ℕ → Option Opening) → ((y : ℕ) (o : Opening) → h y �
 opens_all h f [] k r = record { rises = refl; size = omega arith; fit = tt }
 opens_all h f (x ∷ xs) k r = let p = and_parts (not (nat_lt x k)) (rises_from (suc x) xs) r in go (h x) refl (filter_map h xs) (opens_all h f xs (suc x) p.1) p.0
   where
-    up : (y n : ℕ) → not (nat_lt y n) ≡ true → n ≤ suc y
-    up y n h = grind (arith, nat_tests)
-
     go : (o : Option Opening) → h x ≡ o → (os : List Opening) → Opens (suc x) (length xs) os → not (nat_lt x k) ≡ true → Opens k (suc (length xs)) (cons_option o os)
-    go None e os r q = record { rises = rise_lower (map (λ (o : Opening). o.variable) os) k (suc x) (up x k q) r.rises; size = (let l = r.size in omega (arith, l)); fit = r.fit }
+    go None e os r q = record { rises = rise_lower (map (λ (o : Opening). o.variable) os) k (suc x) (upward x k q) r.rises; size = (let l = r.size in omega (arith, l)); fit = r.fit }
     go (Some o) e os r q =
         let g = f x o e in
         record { rises = rw g.0 (rw (not_less_ x k q) r.rises); size = (let l = r.size in omega (arith, l)); fit = (g.1, r.fit) }
@@ -482,7 +455,7 @@ module _ (sha : Hash) (hash : IsHash sha) (p : Program) (ip : IsProgram sha p) (
   sent_frame = frame_sent sha keys p x label os
 
   in_edges : label < length g.edges
-  in_edges = C.lt_of label (length g.edges) edge
+  in_edges = lt_of label (length g.edges) edge
 
   ends : (source (shape g) label < length g.nodes) × (target (shape g) label < length g.nodes)
   ends = ends_in (length g.nodes) g.edges ip.is_graph.ends label in_edges
@@ -512,7 +485,7 @@ module _ (sha : Hash) (hash : IsHash sha) (p : Program) (ip : IsProgram sha p) (
   ts_rise = (and_parts (rises_from 0 (get_or p.targets label [])) (list_all (λ k. nat_lt k (length g.roles)) (get_or p.targets label [])) (ip.targets.rising label)).0
 
   ts_below : Below (length g.roles) (targets_of p label)
-  ts_below = numbers_below (length g.roles) (get_or p.targets label []) (and_parts (rises_from 0 (get_or p.targets label [])) (list_all (λ k. nat_lt k (length g.roles)) (get_or p.targets label [])) (ip.targets.rising label)).1
+  ts_below = all_below (length g.roles) (get_or p.targets label []) (and_parts (rises_from 0 (get_or p.targets label [])) (list_all (λ k. nat_lt k (length g.roles)) (get_or p.targets label [])) (ip.targets.rising label)).1
 
   not_in : (t : ℕ) → t < length g.roles → (IsTarget (shape g) label t → ⊥) → has (λ (y : ℕ). y) t (targets_of p label) ≡ false
   not_in t l none = elim (cases_Bool (has (λ (y : ℕ). y) t (targets_of p label))) [
@@ -534,11 +507,7 @@ module _ (sha : Hash) (hash : IsHash sha) (p : Program) (ip : IsProgram sha p) (
   writes_few = (let q = pigeon (length g.variables) (writes g label) (rise_dist (writes g label) 0 (writes_rise g ip.is_graph label)) (writes_below g ip.is_graph label) in let k = few_variables in omega (arith, q, k))
 
   oi_keys : keys_of oi.delta ≡ map (λ (o : Opening). o.variable) os
-  oi_keys = go os
-    where
-      go : (zs : List Opening) → keys_of (map (λ (o : Opening). (o.variable, commitment sha x.sid o)) zs) ≡ map (λ (o : Opening). o.variable) zs
-      go [] = refl
-      go (o ∷ zs) = ap (λ l. o.variable ∷ l) (go zs)
+  oi_keys = C.keys_of_commits sha x.sid os
 
   oi_len : length oi.delta ≤ 32
   oi_len = (let a = length_map {B = ℕ × List ℕ} (λ (o : Opening). (o.variable, commitment sha x.sid o)) os in let b : length (map (λ (o : Opening). o.variable) os) ≡ length (writes g label) = ap length names_os in let c = length_map (λ (o : Opening). o.variable) os in let d = writes_few in omega (arith, a, b, c, d))
@@ -551,10 +520,6 @@ module _ (sha : Hash) (hash : IsHash sha) (p : Program) (ip : IsProgram sha p) (
   tags_of T k [] b = tt
   tags_of T k (z ∷ zs) b = ((b.0, k z), tags_of T k zs b.1)
 
-  keys_tags : (T : ℕ → List ℕ) (zs : List ℕ) → keys_of (map (λ t. (t, T t)) zs) ≡ zs
-  keys_tags T [] = refl
-  keys_tags T (z ∷ zs) = ap (λ l. z ∷ l) (keys_tags T zs)
-
   oi_ok : IsItem v oi
   oi_ok = record {
     role = fx.role;
@@ -562,7 +527,7 @@ module _ (sha : Hash) (hash : IsHash sha) (p : Program) (ip : IsProgram sha p) (
     time = ((omega arith), (let a = C.le_false 1000000 (time x) early in omega (arith, a)));
     variables = (oi_len, ap (rises_from 0) (oi_keys ∙ names_os) ∙ writes_rise g ip.is_graph label);
     delta = oi_delta os open_os;
-    roles = ((let a = length_map {B = ℕ × List ℕ} (λ t. (t, tag_for sha keys x.cast t (text_to g x (transcript x) (plain_item sha x label os) t))) (targets_of p label) in let b = ts_few in omega (arith, a, b)), ap (rises_from 0) (keys_tags (λ t. tag_for sha keys x.cast t (text_to g x (transcript x) (plain_item sha x label os) t)) (targets_of p label)) ∙ ts_rise);
+    roles = ((let a = length_map {B = ℕ × List ℕ} (λ t. (t, tag_for sha keys x.cast t (text_to g x (transcript x) (plain_item sha x label os) t))) (targets_of p label) in let b = ts_few in omega (arith, a, b)), ap (rises_from 0) (keys_of_pairs (λ t. tag_for sha keys x.cast t (text_to g x (transcript x) (plain_item sha x label os) t)) (targets_of p label)) ∙ ts_rise);
     tags = tags_of (λ t. tag_for sha keys x.cast t (text_to g x (transcript x) (plain_item sha x label os) t)) (λ t. tag_ok t _) (targets_of p label) (below_weak (length g.roles) 16 (targets_of p label) few_roles ts_below);
   }
 

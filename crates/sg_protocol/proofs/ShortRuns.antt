@@ -4,7 +4,6 @@ use Rattle.std.specs.List.{AllByRecursion}
 use Rattle.std.specs.Option.{option_map_or}
 use Rattle.std.proofs.lemmas.List.Elements.{recursion_from_All}
 use Rattle.sg_model.specs.Names.{Name}
-use Rattle.sg_law.proofs.Members.{rec_in}
 use Rattle.sg_protocol.specs.Frame.{Frame}
 use Rattle.sg_protocol.specs.Texts.{Hash, IsHash}
 use Rattle.sg_protocol.specs.Keyring.{Program}
@@ -16,8 +15,8 @@ use Rattle.sg_protocol.specs.World.{Logged, World, Answered, past_of, new_world,
 use Rattle.sg_protocol.specs.Run.{called_if, world_after, world_after_all, run}
 use Rattle.sg_protocol.specs.IsSchedule.{AreCompiled, IsSchedule, IsStep}
 use Rattle.sg_protocol.specs.Bounds.{IsShortFrame, RunsSendShort}
-use Rattle.sg_law.proofs.Upto.{in_from_Contains}
 use Rattle.sg_protocol.proofs.Fits.{Fit, fit_new, fit_next, fit_shorts}
+use Rattle.sg_model.proofs.Members.{in_from_Contains, rec_in}
 
 module _ (sha : Hash) (hash : IsHash sha) (programs : List Program) (s : Schedule) (compiled : AreCompiled sha s.graphs programs) (sched : IsSchedule sha s) where
   abbrev Fit_ : World → Type 0

@@ -16,7 +16,7 @@ use Rattle.sg_law.specs.Values.Move.{Takes}
 use Rattle.sg_law.proofs.Cut.{last-option_map, split_end}
 use Rattle.sg_law.proofs.Follow.{all_agreed}
 use Rattle.sg_law.proofs.Lists.{last-append, eqb_same}
-use Rattle.sg_law.proofs.Upto.{In, upto-more}
+use Rattle.sg_law.proofs.Upto.{upto-more}
 use Rattle.sg_protocol.specs.Graph.{Graph, IsGraph, shape}
 use Rattle.sg_protocol.specs.Accepted.{Accepted}
 use Rattle.sg_protocol.specs.Frame.{Cast, Frame, Item}
@@ -45,7 +45,6 @@ use Rattle.sg_protocol.proofs.Keys.{all-mid, all-up_to_last, has-mid, last_of-ke
 use Rattle.sg_protocol.proofs.KnownSession.{SessionOfCast}
 use Rattle.sg_protocol.proofs.Moves.{step, Matches}
 use Rattle.sg_protocol.proofs.Splits.{role_small}
-use Rattle.sg_protocol.proofs.Whole.{found_in}
 use Rattle.sg_protocol.proofs.Going.{SessionInRun, Progress, Left, progress_called, progress_moves}
 use Rattle.sg_protocol.proofs.OneWalk.{FirstCast, begins, first_moves, first_cast, the_program, graph_is}
 use Rattle.sg_protocol.proofs.OneWalk as W
@@ -53,6 +52,8 @@ use Rattle.sg_protocol.proofs.Agreeing.{MovesAgree, Outs, IsTranscript, after_mo
 use Rattle.sg_protocol.proofs.Senders.{some_event}
 use Rattle.std.proofs.lemmas.Bool.{cases_Bool}
 use Rattle.sg_model.proofs.Small.{map_same}
+use Rattle.sg_model.proofs.Members.{In}
+use Rattle.sg_model.proofs.Finding.{found_in}
 use Rattle.sg_law.specs.Accept.{honest_part}
 use Rattle.sg_protocol.proofs.Happenings.{Happening, IsCourse, IsGiven, Own, run_of}
 

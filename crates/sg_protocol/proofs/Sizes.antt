@@ -1,5 +1,5 @@
 -- How many bytes a step adds to the record.
-use Rattle.std.specs.Prelude.{◌≡◌, ℕ, suc, ◌+◌, ◌*◌, ◌<◌, ◌≤◌, ◌==◌, nat_lt, nat_le, ◌&&◌, Bool, true, false, not, if◌then◌else◌, List, [], ◌∷◌, ◌++◌, map, flat_map, length, codes, sum_by, take, take_while, bytes_eq, refl, Option, Some, None, option_map, option_and_then, IfSome, IsSomeAnd, IsTrue, slice_get, Result, Ok, Err}
+use Rattle.std.specs.Prelude.{◌≡◌, ℕ, suc, ◌+◌, ◌*◌, ◌<◌, ◌≤◌, ◌==◌, nat_lt, ◌&&◌, Bool, true, false, not, if◌then◌else◌, List, [], ◌∷◌, ◌++◌, map, flat_map, length, codes, sum_by, take, take_while, bytes_eq, refl, Option, Some, None, option_map, option_and_then, IfSome, IsSomeAnd, slice_get, Result, Ok, Err}
 use Rattle.std.specs.List.{AllByRecursion, list_all, prefix_len}
 use Rattle.std.specs.Option.{option_or, option_map_or}
 use Rattle.std.proofs.Common.{sym, ◌∙◌, ap, subst, inl, inr, arith}
@@ -8,11 +8,13 @@ use Rattle.std.proofs.lemmas.Bool.Decides.{nat_tests}
 use Rattle.std.proofs.lemmas.List.Sums.{sum_by-append}
 use Rattle.sg_model.specs.Last.{Map, last, last_or, has, up_to_last}
 use Rattle.sg_model.specs.Lists.{below, rises_from, value_at, same_text, first_some, all_differ}
-use Rattle.sg_model.specs.Names.{Name, is_name, is_name_byte, is_letter}
+use Rattle.sg_model.specs.Names.{Name, is_name}
 use Rattle.sg_model.specs.Values.{Value, Opening}
 use Rattle.sg_model.specs.Bytes.{IsBytes, AreBytes}
-use Rattle.sg_model.proofs.Small.{all-append, take_most, length_map}
+use Rattle.sg_model.proofs.Small.{all-append, take_most, length_map, length-flat, tests_all}
 use Rattle.sg_model.proofs.Numbers.{length-range_from}
+use Rattle.sg_model.proofs.Members.{in_from_Contains, rec_in}
+use Rattle.sg_model.proofs.Finding.{find_all}
 use Rattle.std.proofs.lemmas.List.{length-append, length-take-le}
 use Rattle.std.proofs.lemmas.List.Elements.{recursion_from_All}
 use Rattle.sg_protocol.specs.Graph.{Graph, IsGraph, writes}
@@ -29,8 +31,6 @@ use Rattle.sg_protocol.specs.Past.{Past, node_of}
 use Rattle.sg_protocol.specs.Reading.{read}
 use Rattle.sg_protocol.specs.Acting.{answer, openings_for}
 use Rattle.sg_protocol.specs.Schedule.{Schedule, Source, Craft, CraftItem, NamedSession, Step, StartStep, ActStep, AbandonStep, DeliverStep, CraftStep, confounder, cast_of, sid_at, graph_with}
-use Rattle.sg_law.proofs.Members.{rec_in}
-use Rattle.sg_law.proofs.Upto.{in_from_Contains}
 use Rattle.sg_protocol.specs.World.{World, Logged, Answered, Crafted, NoFrame, past_of, new_world, call_of, bytes_of}
 use Rattle.sg_protocol.specs.Crafted.{tag_by, crafted_item, crafted_items, known_item, crafted_frame, crafted}
 use Rattle.sg_protocol.specs.Run.{frame_in, recorded, called_if, world_after, world_after_all, run}
@@ -38,12 +38,12 @@ use Rattle.sg_protocol.specs.Steps.{logged_size, record_size, StepsAddLittle}
 use Rattle.sg_protocol.specs.IsSchedule.{IsProgram, AreCompiled, IsDeclared, IsStep, IsSchedule}
 use Rattle.sg_protocol.specs.Checks.{checked_texts, texts_checked}
 use Rattle.sg_protocol.specs.Notes.{Note, Notes, note_of, hashed_openings, notes_in_session, notes_of_sent, notes_of_act, notes_of_read, hashed_of_join, session_of_frame, row_number, no_notes, notes_of_start, notes}
-use Rattle.sg_protocol.proofs.Finding.{find_all}
 use Rattle.sg_protocol.proofs.Moves.{writes_below, note_text}
 use Rattle.sg_protocol.proofs.Paths.{writes_rise}
 use Rattle.sg_protocol.proofs.Fits.{Fit, fit_new, fit_next, fit_bytes, fit_sends, declared_in, ActSent, act_sends, act_fit}
 use Rattle.sg_protocol.proofs.ReadBack.{read-SpellsFrame}
-use Rattle.sg_protocol.proofs.Sent.{FitSession, len_concat, flat33, opening_len}
+use Rattle.sg_protocol.proofs.Sent.{FitSession, len_concat, opening_len, short_name}
+use Rattle.sg_protocol.proofs.TextLaws.{item_word, frame_word}
 
 -- ---- sums
 
@@ -103,25 +103,19 @@ commits_len is a (x ∷ xs) = (maybe_len (committed x is) (committed_fits x is a
 text_len : (g : Graph) → length g.variables ≤ 32 → (x : Session) → length x.sid ≡ 32 → (before : List Item) (i : Item) (t : ℕ) → AllByRecursion Sized (before ++ i ∷ []) → length (text_to g x before i t) ≤ 1105
 text_len g few x long before i t a =
     let c = len_concat ((if x.cast.version == 2 then codes "sg-item-2" else codes "sg-item-1") ∷ x.sid ∷ u8 i.role ∷ u8 t ∷ u16 i.label ∷ u32 i.time ∷ flat_map maybe_commitment (commitments g (before ++ i ∷ [])) ∷ []) in
-    let h = head x.cast.version in
-    let f = flat33 maybe_commitment (commitments g (before ++ i ∷ [])) (commits_len (before ++ i ∷ []) a (below (length g.variables))) in
+    let h = item_word x.cast.version in
+    let f = length-flat 33 maybe_commitment (commitments g (before ++ i ∷ [])) (commits_len (before ++ i ∷ []) a (below (length g.variables))) in
     let m = length_map (λ y. committed y (before ++ i ∷ [])) (below (length g.variables)) in
     let r = length-range_from 0 (length g.variables) in
     omega (arith, c, h, f, m, r, few, long)
-  where
-    head : (v : ℕ) → length (if v == 2 then codes "sg-item-2" else codes "sg-item-1") ≡ 9
-    head v = elim (cases_Bool (v == 2)) [ inl e ↦ rw e refl | inr e ↦ rw e refl ]
 
 frame_len : (f : Frame) → HasSpelling f → length (text_of f) ≤ 60010
 frame_len f h =
     let a = length-append (if f.version == 2 then codes "sg-frame-2" else codes "sg-frame-1") (body f) in
     let b = length-append (body f) (take (tag_len f.version) f.tag) in
-    let c = head f.version in
+    let c = frame_word f.version in
     let d = h.short in
     omega (arith, a, b, c, d)
-  where
-    head : (v : ℕ) → length (if v == 2 then codes "sg-frame-2" else codes "sg-frame-1") ≡ 10
-    head v = elim (cases_Bool (v == 2)) [ inl e ↦ rw e refl | inr e ↦ rw e refl ]
 
 opened_len : (sid : List ℕ) → length sid ≡ 32 → (o : Opening) → IsOpening o → length (commitment_text_of sid o) ≤ 1089
 opened_len sid long o h =
@@ -132,30 +126,19 @@ opened_len sid long o h =
 cast_len : (c : Cast) → length c.graph ≡ 32 → length c.nonce ≡ 16 → length c.names ≤ 16 → list_all is_name c.names ≡ true → length (session_text_of c) ≤ 589
 cast_len c a b d e =
     let h = len_concat ((if c.version == 2 then codes "sg-session-2" else codes "sg-session-1") ∷ c.graph ∷ c.nonce ∷ u8 (length c.names) ∷ flat_map short_text c.names ∷ []) in
-    let f = flat33 short_text c.names (go c.names e) in
+    let f = length-flat 33 short_text c.names (go c.names e) in
     let k = head c.version in
     omega (arith, h, f, k, a, b, d)
   where
     head : (v : ℕ) → length (if v == 2 then codes "sg-session-2" else codes "sg-session-1") ≡ 12
     head v = elim (cases_Bool (v == 2)) [ inl e ↦ rw e refl | inr e ↦ rw e refl ]
 
-    short_name : (n : List ℕ) → is_name n ≡ true → length (short_text n) ≤ 33
-    short_name [] e = omega arith
-    short_name (b ∷ bs) e = (let l = (and_parts (is_letter b && list_all is_name_byte bs) (nat_le (length bs) 31) e).1 in small bs l)
-      where
-        small : (bs : List ℕ) → nat_le (length bs) 31 ≡ true → suc (suc (length bs)) ≤ 33
-        small bs l = (let h : length bs ≤ 31 = grind (arith, nat_tests) in omega (arith, h))
-
     go : (ns : List Name) → list_all is_name ns ≡ true → AllByRecursion (λ n. length (short_text n) ≤ 33) ns
     go [] a = tt
     go (n ∷ ns) a = let p = and_parts (is_name n) (list_all is_name ns) a in (short_name n p.0, go ns p.1)
 
 session_len : (v : ℕ) (c : Cast) → IsCastOf v c → length (session_text_of c) ≤ 589
-session_len v c h = cast_len c h.graph.0 h.nonce.0 h.count.1 (all_names c.names h.names)
-  where
-    all_names : (ns : List Name) → AllByRecursion (λ n. IsTrue (is_name n)) ns → list_all is_name ns ≡ true
-    all_names [] a = refl
-    all_names (n ∷ ns) a = rw a.0 (all_names ns a.1)
+session_len v c h = cast_len c h.graph.0 h.nonce.0 h.count.1 (tests_all is_name c.names h.names)
 
 -- ---- the texts of item tags that were checked
 

@@ -12,14 +12,12 @@ use Rattle.sg_protocol.specs.Frame.{Cast, Item, Frame, IsItem, IsTag, IsValue, I
 use Rattle.sg_protocol.specs.Spelling.{spelling, magic, join_code, HasSpelling, body, u64, u8, u16, u32, item_bytes, pair_bytes, map_bytes, join_bytes, short_text, opening_bytes, sized, value_bytes, kind_code}
 use Rattle.sg_model.specs.Bytes.{AreBytes}
 use Rattle.sg_model.specs.Bytes.{IsBytes}
-use Rattle.sg_protocol.proofs.Acts as C
 use Rattle.std.specs.Prelude.{slice_get, IsTrue}
 use Rattle.sg_model.specs.Values.{IntValue, TextValue}
-use Rattle.sg_protocol.specs.World.{World, Logged, Outcome, Answered, Crafted, NoFrame, past_of, new_world, call_of, bytes_of, keyring_of}
 use Rattle.sg_protocol.specs.World as World'
 use Rattle.sg_model.specs.Names.{is_name, is_name_byte, is_letter}
 use Rattle.sg_model.specs.Lists.{below}
-use Rattle.sg_model.proofs.Small.{and_false}
+use Rattle.sg_model.proofs.Small.{and_false, lt_of}
 use Rattle.std.specs.Prelude.{replicate, take, set, bit_xor, ◌%◌, ◌/◌}
 use Rattle.std.specs.List.{concat}
 
@@ -72,7 +70,7 @@ range_all p k (suc j) h x l u = elim (cases_Bool (k == x)) [
 ]
 
 flip_byte : (b : ℕ) → b < 256 → bit_xor b 1 < 256
-flip_byte b l = C.lt_of (bit_xor b 1) 256 (range_all (λ b. nat_lt (bit_xor b 1) 256) 0 256 all_flips b (omega arith) (omega arith))
+flip_byte b l = lt_of (bit_xor b 1) 256 (range_all (λ b. nat_lt (bit_xor b 1) 256) 0 256 all_flips b (omega arith) (omega arith))
 
 pub bytes-set : (bs : List ℕ) (at v : ℕ) → Bytes_ bs → v < 256 → Bytes_ (set bs at v)
 bytes-set [] at v a l = tt
@@ -147,7 +145,7 @@ spelling_bytes f b = bytes-append (body f) (take (tag_len f.version) f.tag)
 
 letter_byte : (c : ℕ) → is_name_byte c ≡ true → c < 256
 letter_byte c h = elim (cases_Bool (nat_lt c 256)) [
-  | inl e ↦ C.lt_of c 256 e
+  | inl e ↦ lt_of c 256 e
   | inr e ↦ absurd (no c e h)
 ]
   where

@@ -16,11 +16,11 @@ use Rattle.sg_protocol.specs.Verdict.{row}
 use Rattle.sg_protocol.specs.Notes.{Note, notes, notes_of_start}
 use Rattle.sg_protocol.specs.Schedule.{Schedule}
 use Rattle.sg_law.specs.Values.{State}
-use Rattle.sg_law.proofs.Upto.{In}
 use Rattle.sg_protocol.proofs.Entries.{entries, Roles}
 use Rattle.sg_protocol.proofs.Moves.{Matches, row_none}
 use Rattle.sg_protocol.specs.Acting.{answer, started, rows_of_start}
 use Rattle.sg_model.proofs.Small.{none_parts, same_bytes}
+use Rattle.sg_model.proofs.Members.{In}
 use Rattle.sg_protocol.specs.Node.{Node, is_cast, stranger, has_joined, starter}
 use Rattle.sg_protocol.specs.NodeAfter.{still}
 use Rattle.sg_protocol.proofs.KnownSession.{SessionOfCast}
@@ -28,7 +28,7 @@ use Rattle.sg_protocol.proofs.Finding.{joined_more, joined_less, joined_now}
 use Rattle.sg_protocol.proofs.Calls.{transcript_in, quiet_event, Fresh, NodeOk, Out}
 use Rattle.sg_protocol.proofs.AfterCalls.{cast_parts, event_other, joined_other, kept_same, new_matches, join_now, join_status, nothing, no_two, joined_ok, other_joined}
 
-start_made : (c : Cast) (a : Answer) (nt : Note) → In (notes_of_start c a).made nt → ⊥
+pub start_made : (c : Cast) (a : Answer) (nt : Note) → In (notes_of_start c a).made nt → ⊥
 start_made c (NotStarted StartFault.UnknownGraph) nt i = i
 start_made c (NotStarted StartFault.BadCast) nt i = i
 start_made c (NotStarted (StartFault.UnknownPeer name)) nt i = i

@@ -15,8 +15,8 @@ use Rattle.sg_protocol.specs.Evidence.{Seen, View, IsView, IsViewTable, has_view
 use Rattle.sg_protocol.specs.Frame.{Cast, Item, Frame, IsItem}
 use Rattle.sg_protocol.specs.Spelling.{HasSpelling}
 use Rattle.sg_model.specs.Bytes.{AreBytes}
-use Rattle.sg_model.proofs.Small.{same_bytes, none_parts, range_at}
-use Rattle.sg_law.proofs.Members.{in_left, in_right, in_map}
+use Rattle.sg_model.proofs.Small.{same_bytes, none_parts, range_at, map_none}
+use Rattle.sg_model.proofs.Members.{In, in_left, in_right, in_map}
 use Rattle.sg_protocol.specs.Texts.{Hash, commitment, item_text_of}
 use Rattle.sg_protocol.specs.TextLaws.{IsVersion}
 use Rattle.sg_protocol.specs.Keyring.{Keyring, Program}
@@ -30,19 +30,19 @@ use Rattle.sg_protocol.specs.Walk.{is_typed_or_hidden}
 use Rattle.sg_protocol.specs.Schedule.{Schedule, is_honest, honest_role}
 use Rattle.sg_law.specs.Last as B
 use Rattle.sg_law.specs.Accept.{sender_of, TimedLabel}
-use Rattle.sg_law.specs.Run.{RisesFrom, Turn}
+use Rattle.sg_law.specs.Run.{RisesFrom}
 use Rattle.sg_law.specs.Run as R
 use Rattle.sg_law.specs.Values as V
-use Rattle.sg_law.specs.Values.{State, SentItem, transcript_with_item, com_of, Move, Commit, moved, MayTake, Tagged, Framed, Opened, own_part_of, is_variable, put}
-use Rattle.sg_law.specs.Values.Move.{Writes, Takes}
+use Rattle.sg_law.specs.Values.{State, transcript_with_item, com_of, Commit, moved, MayTake, Tagged, Framed, Opened, own_part_of}
+use Rattle.sg_law.specs.Values.Move.{Takes}
 use Rattle.sg_law.proofs.Lists.{has-map, has-last_of, eqb_same, last-append_some}
-use Rattle.sg_law.proofs.Upto.{In, upto-more}
+use Rattle.sg_law.proofs.Upto.{upto-more}
 use Rattle.sg_law.proofs.Cut.{last-option_map}
 use Rattle.sg_law.proofs.Times.{time_after-last}
 use Rattle.sg_protocol.proofs.Paths.{flat_map-append}
 use Rattle.sg_protocol.proofs.Bridge.{labels-view_of, has_view-Contains}
 use Rattle.sg_protocol.proofs.Entries.{entry, entries, entries-com, by, Roles, has-entries, up_to-entries, sight, view_ends, view_last_edge, seen_labels, has-after_last}
-use Rattle.sg_protocol.proofs.Moves.{step, FitItems, MadeItem, MadeFrame, NoteOk, Matches, row_none, map_none, no_position, take_all, no_find, note_text, note_both, fit-append, fit-left, roles-append, fit_up_to, are_held, Split, split, checked_in, rising_times, writes_below, variable_below}
+use Rattle.sg_protocol.proofs.Moves.{step, FitItems, MadeItem, MadeFrame, NoteOk, Matches, row_none, no_position, take_all, no_find, note_text, note_both, fit-append, fit-left, roles-append, fit_up_to, are_held, Split, split, checked_in, rising_times, writes_below, variable_below, sender_last}
 
 -- what the rows of a session say if none holds
 pub record Rows (sha : Hash) (keys : Keyring) (p : Program) (x : Session) (f : Frame) : Type 0 where
@@ -119,11 +119,7 @@ module _ (sha : Hash) (s : Schedule) (sid : List ℕ) (cast : Cast) (keys : Keyr
   n = end_of (shape g) 0 viewed.walk
 
   pub last_item : (i : Item) × (last f.items ≡ Some i) × (i.role ≡ f.sender)
-  last_item = go (last f.items) refl rows.by_sender
-    where
-      go : (o : Option Item) → last f.items ≡ o → option_map_or (λ (i : Item). i.role == f.sender) o false ≡ true → (i : Item) × (last f.items ≡ Some i) × (i.role ≡ f.sender)
-      go None e h = absurd (cc)
-      go (Some i) e h = (i, e, eqb-true i.role f.sender h)
+  last_item = sender_last f rows.by_sender
 
   f_roles : Roles (shape g) f.items
   f_roles = all_roles (shape g) f.items rows.senders

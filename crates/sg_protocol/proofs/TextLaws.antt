@@ -7,6 +7,7 @@ use Rattle.std.proofs.Math.Facts.{Fits-lt-pow, Fits-of_z}
 use Rattle.std.proofs.lemmas.Int.{to_z-of_z}
 use Rattle.std.proofs.lemmas.List.{append_assoc, append-nil, append_cancel_left, append_cancel_right}
 use Rattle.std.proofs.lemmas.Nat.{from_be_bytes-to_be_bytes_2, from_be_bytes-to_be_bytes_4, from_be_bytes-to_be_bytes_8}
+use Rattle.std.proofs.lemmas.Bool.{cases_Bool}
 use Rattle.sg_protocol.specs.Graph.{Graph, canonical}
 use Rattle.sg_protocol.specs.Spelling
 use Rattle.sg_protocol.specs.Frame
@@ -24,6 +25,16 @@ parts [] [] s t l e = (refl, e)
 parts [] (y ∷ b) s t l e = absurd (omega arith)
 parts (x ∷ a) [] s t l e = absurd (omega arith)
 parts (x ∷ a) (y ∷ b) s t l e = let r : (a ≡ b) × (s ≡ t) = parts a b s t (omega arith) (cc) in let f : a ≡ b = r.0 in let h : x ≡ y = cc in (cc, r.1)
+
+-- the words that texts begin with
+pub magic_long : (v : ℕ) → length (Spelling.magic v) ≡ 4
+magic_long v = elim (cases_Bool (v == 2)) [ inl e ↦ rw e refl | inr e ↦ rw e refl ]
+
+pub item_word : (v : ℕ) → length (if v == 2 then codes "sg-item-2" else codes "sg-item-1") ≡ 9
+item_word v = elim (cases_Bool (v == 2)) [ inl e ↦ rw e refl | inr e ↦ rw e refl ]
+
+pub frame_word : (v : ℕ) → length (if v == 2 then codes "sg-frame-2" else codes "sg-frame-1") ≡ 10
+frame_word v = elim (cases_Bool (v == 2)) [ inl e ↦ rw e refl | inr e ↦ rw e refl ]
 
 -- the fields, and what follows them
 abbrev pub fields : List (List ℕ) → List ℕ → List ℕ

@@ -14,15 +14,13 @@ use Rattle.std.proofs.Common.{arith}
 use Rattle.sg_protocol.specs.Texts.{Hash}
 use Rattle.sg_protocol.specs.Keyring.{Program}
 use Rattle.sg_protocol.specs.Schedule.{Schedule, honest_role, PairKey}
-use Rattle.sg_law.proofs.Upto.{In}
 use Rattle.sg_model.specs.Lists.{has_text}
-use Rattle.sg_protocol.proofs.Acts as C
 use Rattle.sg_protocol.specs.Past.{Past}
 use Rattle.sg_protocol.specs.World.{keyring_of}
 use Rattle.sg_protocol.specs.IsSchedule.{IsSchedule, AreCompiled, parts}
 use Rattle.sg_model.specs.Names.{is_name, is_name_byte, is_letter, reserved}
-use Rattle.sg_model.proofs.Small.{same_bytes, clash}
-use Rattle.sg_law.proofs.Members.{in_map, in_parts}
+use Rattle.sg_model.proofs.Small.{same_bytes, clash, bytes_eq-flip}
+use Rattle.sg_model.proofs.Members.{In, in_parts, in_map, map_in}
 use Rattle.sg_protocol.proofs.TextLaws as TL
 
 -- ---- graphs with one text
@@ -77,56 +75,29 @@ same_name g g' is is' e =
     let t = TL.parts (codes "graph ") (codes "graph ") (g.name ++ 59 ∷ f.0) (g'.name ++ 59 ∷ f'.0) refl (sym f.1 ∙ e ∙ f'.1) in
     cut_at g.name g'.name f.0 f'.0 (graph_name_free g is) (graph_name_free g' is') t.1
 
+-- a name that stands before is none of the later ones
+not_later : (x : Graph) (gs : List Graph) (y : Graph) → all_differ (map (λ (g : Graph). g.name) (x ∷ gs)) ≡ true → In gs y → x.name ≡ y.name → ⊥
+not_later x gs y d j e = clash (has_text x.name (map (λ (g : Graph). g.name) gs)) (there gs j) (not-true (has_text x.name (map (λ (g : Graph). g.name) gs)) (and_parts (not (has_text x.name (map (λ (g : Graph). g.name) gs))) (all_differ (map (λ (g : Graph). g.name) gs)) d).0)
+  where
+    there : (zs : List Graph) → In zs y → has_text x.name (map (λ (g : Graph). g.name) zs) ≡ true
+    there [] i = absurd i
+    there (z ∷ zs) (inl p) = rw ((bytes_eq-Decides x.name z.name).1 (e ∙ ap (λ (z : Graph). z.name) p)) refl
+    there (z ∷ zs) (inr i) = elim (cases_Bool (bytes_eq x.name z.name)) [ inl h ↦ rw h refl | inr h ↦ rw h (there zs i) ]
+
 pub same_named : (gs : List Graph) (g g' : Graph) → all_differ (map (λ (g : Graph). g.name) gs) ≡ true → In gs g → In gs g' → g.name ≡ g'.name → g ≡ g'
 same_named [] g g' d i j e = absurd i
 same_named (x ∷ gs) g g' d (inl p) (inl q) e = p ∙ sym q
-same_named (x ∷ gs) g g' d (inl p) (inr j) e = absurd (differs x gs g' d j (ap (λ (z : Graph). z.name) (sym p) ∙ e))
-  where
-    differs : (x : Graph) (gs : List Graph) (y : Graph) → all_differ (map (λ (g : Graph). g.name) (x ∷ gs)) ≡ true → In gs y → x.name ≡ y.name → ⊥
-    differs x gs y d j e = clash (has_text x.name (map (λ (g : Graph). g.name) gs)) (there gs j) (not-true (has_text x.name (map (λ (g : Graph). g.name) gs)) (and_parts (not (has_text x.name (map (λ (g : Graph). g.name) gs))) (all_differ (map (λ (g : Graph). g.name) gs)) d).0)
-      where
-        there : (zs : List Graph) → In zs y → has_text x.name (map (λ (g : Graph). g.name) zs) ≡ true
-        there [] i = absurd i
-        there (z ∷ zs) (inl p) = rw ((bytes_eq-Decides x.name z.name).1 (e ∙ ap (λ (z : Graph). z.name) p)) refl
-        there (z ∷ zs) (inr i) = elim (cases_Bool (bytes_eq x.name z.name)) [ inl h ↦ rw h refl | inr h ↦ rw h (there zs i) ]
-same_named (x ∷ gs) g g' d (inr i) (inl q) e = absurd (differs x gs g d i (ap (λ (z : Graph). z.name) (sym q) ∙ sym e))
-  where
-    differs : (x : Graph) (gs : List Graph) (y : Graph) → all_differ (map (λ (g : Graph). g.name) (x ∷ gs)) ≡ true → In gs y → x.name ≡ y.name → ⊥
-    differs x gs y d j e = clash (has_text x.name (map (λ (g : Graph). g.name) gs)) (there gs j) (not-true (has_text x.name (map (λ (g : Graph). g.name) gs)) (and_parts (not (has_text x.name (map (λ (g : Graph). g.name) gs))) (all_differ (map (λ (g : Graph). g.name) gs)) d).0)
-      where
-        there : (zs : List Graph) → In zs y → has_text x.name (map (λ (g : Graph). g.name) zs) ≡ true
-        there [] i = absurd i
-        there (z ∷ zs) (inl p) = rw ((bytes_eq-Decides x.name z.name).1 (e ∙ ap (λ (z : Graph). z.name) p)) refl
-        there (z ∷ zs) (inr i) = elim (cases_Bool (bytes_eq x.name z.name)) [ inl h ↦ rw h refl | inr h ↦ rw h (there zs i) ]
+same_named (x ∷ gs) g g' d (inl p) (inr j) e = absurd (not_later x gs g' d j (ap (λ (z : Graph). z.name) (sym p) ∙ e))
+same_named (x ∷ gs) g g' d (inr i) (inl q) e = absurd (not_later x gs g d i (ap (λ (z : Graph). z.name) (sym q) ∙ sym e))
 same_named (x ∷ gs) g g' d (inr i) (inr j) e = same_named gs g g' (and_parts (not (has_text x.name (map (λ (g : Graph). g.name) gs))) (all_differ (map (λ (g : Graph). g.name) gs)) d).1 i j e
 
 -- ---- look-ups
-
-pub found_in : {A : Type 0} (p : A → Bool) (xs : List A) (x : A) → find p xs ≡ Some x → In xs x
-found_in p [] x e = absurd (cc)
-found_in p (y ∷ ys) x e = elim (cases_Bool (p y)) [
-  | inl h ↦ (let f : Some y ≡ Some x = rw h at e in let q : y ≡ x = cc in inl (sym q))
-  | inr h ↦ inr (found_in p ys x (rw h at e))
-]
-
-pub find_some : {A : Type 0} (p : A → Bool) (xs : List A) (x : A) → In xs x → p x ≡ true → (y : A) × (find p xs ≡ Some y)
-find_some p [] x i h = absurd i
-find_some p (y ∷ ys) x i h = elim (cases_Bool (p y)) [
-  | inl k ↦ (y, rw k refl)
-  | inr k ↦ elim i [
-    | inl e ↦ absurd (no (p y) (subst (λ z. p z ≡ true) e h) k)
-    | inr j ↦ (let r = find_some p ys x j h in (r.0, rw k r.1))
-  ]
-]
-  where
-    no : (b : Bool) → b ≡ true → b ≡ false → ⊥
-    no b t f = absurd (cc)
 
 -- a program's graph is one of the graphs
 in_parts_of : (gs : List Graph) (y : Graph × ℕ) → In (parts gs) y → In gs y.0
 in_parts_of [] y i = absurd i
 in_parts_of (g ∷ gs) y i = elim (in_parts (map (λ r. (g, r)) (below (length g.roles))) (parts gs) y i) [
-  | inl j ↦ (let r = C.of_map (λ r. (g, r)) (below (length g.roles)) y j in inl (ap (λ (z : Graph × ℕ). z.0) r.1))
+  | inl j ↦ (let r = map_in (λ r. (g, r)) (below (length g.roles)) y j in inl (ap (λ (z : Graph × ℕ). z.0) r.2))
   | inr j ↦ inr (in_parts_of gs y j)
 ]
 
@@ -154,15 +125,15 @@ pub has_past : (keys : List PairKey) (programs : List Program) (names : List Nam
 has_past keys programs [] who h = absurd (cc)
 has_past keys programs (n ∷ ns) who h = elim (cases_Bool (bytes_eq n who)) [
   | inl e ↦ (new_past keys programs n, rw e refl)
-  | inr e ↦ (let r = has_past keys programs ns who (later (bytes_eq who n) (λ q. differs (bytes_eq n who) ((bytes_eq-Decides n who).1 (sym (same_bytes who n q))) e) h) in (r.0, rw e r.1))
+  | inr e ↦ (let r = has_past keys programs ns who (others e) in (r.0, rw e r.1))
 ]
   where
-    later : (b : Bool) → (b ≡ true → ⊥) → (b || has_text who ns) ≡ true → has_text who ns ≡ true
-    later true f k = absurd (f refl)
+    later : (b : Bool) → b ≡ false → (b || has_text who ns) ≡ true → has_text who ns ≡ true
+    later true f k = absurd (cc)
     later false f k = k
 
-    differs : (b : Bool) → b ≡ true → b ≡ false → ⊥
-    differs b t f = absurd (cc)
+    others : bytes_eq n who ≡ false → has_text who ns ≡ true
+    others e = later (bytes_eq who n) (bytes_eq-flip n who e) h
 
 -- an honest role is one of the cast
 pub honest_inside : (sha : Hash) (s : Schedule) → IsSchedule sha s → (c : Cast) (k : ℕ) → honest_role s c k ≡ true → k < length c.names

@@ -4,10 +4,8 @@ use Rattle.std.specs.List.{AllByRecursion}
 use Rattle.std.specs.Option.{option_map_or}
 use Rattle.std.proofs.Common.{sym, ◌∙◌, ap, subst, inl, inr, arith, append_assoc}
 use Rattle.sg_model.specs.Names.{Name}
-use Rattle.sg_model.proofs.Small.{length-more, length_map}
-use Rattle.sg_law.proofs.Members.{in_right, in_parts}
-use Rattle.sg_law.proofs.Take.{contains_from_in}
-use Rattle.sg_law.proofs.Upto.{In, in_from_Contains}
+use Rattle.sg_model.proofs.Small.{length-more, length_map, at_length}
+use Rattle.sg_model.proofs.Members.{In, in_from_Contains, contains_from_in, in_right}
 use Rattle.std.proofs.lemmas.List.{length-append}
 use Rattle.sg_protocol.specs.Texts.{Hash, IsHash, session_id}
 use Rattle.sg_protocol.specs.Keyring.{Program}
@@ -18,39 +16,22 @@ use Rattle.sg_protocol.specs.Schedule.{Schedule, NamedSession, Step, AbandonStep
 use Rattle.sg_protocol.specs.World.{Logged, World, past_of, new_world}
 use Rattle.sg_protocol.specs.Run.{called_if, world_after, world_after_all, run}
 use Rattle.sg_protocol.specs.Restarts.{StepOrRestart, Stepped, Restarted, live_of, world_restarted, world_over_restarts, run_with_restarts, IsStepOrRestart, moved_step, declared, dropped, abandon_steps, plain_steps, without_restarts}
-use Rattle.sg_protocol.proofs.Progressing.{Suffix, suffix_refl, suffix_trans, suffix_step, suffix_all, in_before, in_after}
-use Rattle.sg_protocol.proofs.FirstSteps.{OneMore, one_more}
+use Rattle.sg_protocol.proofs.Progressing.{suffix_all, in_before, in_after}
+use Rattle.sg_protocol.proofs.FirstSteps.{one_more, AreBelow, below_more}
 use Rattle.sg_protocol.proofs.Lives.{anew_if}
 use Rattle.sg_protocol.proofs.Restarts.{Same, plain, same_runs}
+use Rattle.sg_protocol.proofs.OverRestarts.{was_there}
+use Rattle.sg_protocol.proofs.LifeSteps.{over_suffix}
 use Rattle.sg_protocol.specs.IsSchedule.{AreCompiled, IsSchedule}
 use Rattle.sg_protocol.specs.Completeness.{HadAnswer}
 use Rattle.sg_restarts.specs.Dropped.{drops, WasDropped, DropsAreAbandonments}
-use Rattle.sg_restarts.proofs.Logs.{was_there, answer_there}
+use Rattle.sg_restarts.proofs.Logs.{answer_there}
 use Rattle.sg_restarts.proofs.Owns.{names, found_there, names_restarted, names_after, HasOwnSid, PastHasOwn, own_map, own_anew, own_step, own_new, own_live}
-use Rattle.sg_restarts.proofs.Drops.{at_length, names_left, steps_append, abandoned_or_dropped}
+use Rattle.sg_restarts.proofs.Drops.{names_left, steps_append, abandoned_or_dropped}
 
 module _ (sha : Hash) where
   module _ (s t : Schedule) where
     -- ---- each drop is abandoned
-
-    -- entries have smaller numbers
-    abbrev Below : ℕ → World → Type 0
-    Below k w = (l : Logged) → In w.log l → l.number < k
-
-    step_below : (w : World) (k : ℕ) (x : Step) → Below k w → Below (k + 1) (world_after sha s w k x)
-    step_below w k x a = now (one_more sha s w k x)
-      where
-        now : OneMore k w.log (world_after sha s w k x).log → Below (k + 1) (world_after sha s w k x)
-        now (inl e) l i = (let h = a l (subst (λ z. In z l) e i) in omega (arith, h))
-        now (inr m) l i = elim (in_parts w.log (m.0 ∷ []) l (subst (λ z. In z l) m.1 i)) [
-          | inl j ↦ (let h = a l j in omega (arith, h))
-          | inr j ↦ elim j [ inl q ↦ (let h = ap (λ (z : Logged). z.number) q ∙ m.2 in omega (arith, h)) | inr q ↦ absurd q ]
-        ]
-
-    over_suffix : (xs : List StepOrRestart) (w : World) (k : ℕ) → Suffix k w.log (world_over_restarts sha s w k xs).log
-    over_suffix [] w k = suffix_refl k w.log
-    over_suffix (Stepped x ∷ xs) w k = suffix_trans k (k + 1) w.log (world_after sha s w k x).log (world_over_restarts sha s (world_after sha s w k x) (k + 1) xs).log (omega arith) (suffix_step sha s w k x) (over_suffix xs (world_after sha s w k x) (k + 1))
-    over_suffix (Restarted who ∷ xs) w k = suffix_trans k (k + length (live_of w who)) w.log w.log (world_over_restarts sha s (world_restarted w who) (k + length (live_of w who)) xs).log (omega arith) (suffix_refl k w.log) (over_suffix xs (world_restarted w who) (k + length (live_of w who)))
 
     abbrev HasPast : World → Name → Type 0
     HasPast w who = (p : Past) × (past_of w who ≡ Some p)
@@ -124,12 +105,12 @@ module _ (sha : Hash) where
         go None e i = inl i
         go (Some p) e i = elim (in_live (node_of p).live i) [ inl h ↦ inl h | inr h ↦ inr (h.0, h.1, h.2, h.3, (p, e)) ]
 
-    added : (m : ℕ) (xs : List StepOrRestart) (w w' : World) (k o : ℕ) (pre : List NamedSession) → AllByRecursion (PastHasOwn sha) w.pasts → names w'.pasts ≡ names w.pasts → t.sessions ≡ pre ++ dropped sha s w k xs → o ≡ length pre → Below k w
+    added : (m : ℕ) (xs : List StepOrRestart) (w w' : World) (k o : ℕ) (pre : List NamedSession) → AllByRecursion (PastHasOwn sha) w.pasts → names w'.pasts ≡ names w.pasts → t.sessions ≡ pre ++ dropped sha s w k xs → o ≡ length pre → AreBelow k w.log
         → (who : Name) (sid : List ℕ) → In (drops sha s w k xs) (who, sid)
         → IsAdded (world_over_restarts sha s w k xs).log (world_after_all sha t w' k (plain_steps sha s m o w k xs)).log who sid
     added m [] w w' k o pre own same e at below who sid i = absurd i
     added m (Stepped x ∷ xs) w w' k o pre own same e at below who sid i =
-        added m xs (world_after sha s w k x) (world_after sha t w' k (moved_step s.sessions m x)) (k + 1) o pre (own_step sha s w k x own) (names_after sha t w' k (moved_step s.sessions m x) ∙ same ∙ sym (names_after sha s w k x)) e at (step_below w k x below) who sid i
+        added m xs (world_after sha s w k x) (world_after sha t w' k (moved_step s.sessions m x)) (k + 1) o pre (own_step sha s w k x own) (names_after sha t w' k (moved_step s.sessions m x) ∙ same ∙ sym (names_after sha s w k x)) e at (below_more k w.log (world_after sha s w k x).log (one_more sha s w k x) below) who sid i
     added m (Restarted me ∷ xs) w w' k o pre own same e at below who sid i =
         let ls : List Session = live_of w me in
         let now : World = world_restarted w me in
@@ -153,7 +134,7 @@ module _ (sha : Hash) where
                 new = λ z j q.
                     let early = r.early in
                     let late = r.late in
-                    let inside : In w.log z = in_before (k + n) now.log end.log (over_suffix xs now (k + n)) z j (omega (arith, early, q)) in
+                    let inside : In w.log z = in_before (k + n) now.log end.log (over_suffix sha s xs now (k + n)) z j (omega (arith, early, q)) in
                     let b = below z inside in
                     absurd (omega (arith, b, late, q));
               }

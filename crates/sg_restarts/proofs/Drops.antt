@@ -5,10 +5,8 @@ use Rattle.std.specs.Option.{option_map_or}
 use Rattle.std.proofs.Common.{sym, ◌∙◌, ap, subst, inl, inr, arith, append_assoc}
 use Rattle.sg_model.specs.Last.{last}
 use Rattle.sg_model.specs.Names.{Name}
-use Rattle.sg_model.proofs.Small.{length-more, length_map, some_same}
-use Rattle.sg_law.proofs.Members.{in_left, in_right, in_map, in_parts}
-use Rattle.sg_law.proofs.Take.{contains_from_in}
-use Rattle.sg_law.proofs.Upto.{In, in_from_Contains}
+use Rattle.sg_model.proofs.Small.{length-more, length_map, some_same, at_length}
+use Rattle.sg_model.proofs.Members.{In, in_from_Contains, contains_from_in, in_left, in_right, in_parts, in_map}
 use Rattle.std.proofs.lemmas.List.{length-append}
 use Rattle.sg_protocol.specs.Texts.{Hash, IsHash, session_id}
 use Rattle.sg_protocol.specs.Keyring.{Program}
@@ -24,15 +22,11 @@ use Rattle.sg_protocol.proofs.Progressing.{suffix_step, in_after}
 use Rattle.sg_protocol.proofs.FirstSteps.{is_last}
 use Rattle.sg_protocol.proofs.Lives.{anew_if}
 use Rattle.sg_protocol.proofs.Restarts.{Same, plain, same_runs}
+use Rattle.sg_protocol.proofs.OverRestarts.{is_in_more}
 use Rattle.sg_protocol.specs.IsSchedule.{AreCompiled, IsSchedule}
 use Rattle.sg_protocol.specs.Completeness.{HadAnswer}
 use Rattle.sg_restarts.specs.Dropped.{drops, WasDropped}
-use Rattle.sg_restarts.proofs.Logs.{is_in_more}
 use Rattle.sg_restarts.proofs.Owns.{names, found_there, names_restarted, names_after, HasOwnSid, PastHasOwn, own_map, own_anew, own_step, own_new, own_live}
-
-pub at_length : {A : Type 0} (pre : List A) (x : A) (post : List A) → slice_get (pre ++ x ∷ post) (length pre) ≡ Some x
-at_length [] x post = refl
-at_length (y ∷ pre) x post = at_length pre x post
 
 module _ (sha : Hash) where
   -- ---- a step in both runs

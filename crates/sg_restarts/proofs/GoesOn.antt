@@ -9,9 +9,7 @@ use Rattle.sg_model.specs.Names.{Name}
 use Rattle.sg_model.specs.Limits.{most_joins, most_live}
 use Rattle.sg_model.specs.Shape.{role_at, end_of}
 use Rattle.sg_model.proofs.Small.{same_bytes, bytes_same}
-use Rattle.sg_law.proofs.Members.{in_parts}
-use Rattle.sg_law.proofs.Take.{contains_from_in}
-use Rattle.sg_law.proofs.Upto.{In, in_from_Contains}
+use Rattle.sg_model.proofs.Members.{In, in_from_Contains, contains_from_in, in_parts}
 use Rattle.sg_protocol.specs.Frame.{Cast, Item}
 use Rattle.sg_protocol.specs.Graph.{Graph, shape}
 use Rattle.sg_protocol.specs.Spelling.{spelling}

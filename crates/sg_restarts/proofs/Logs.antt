@@ -1,13 +1,10 @@
 -- A log with more abandonments, and what is the same of a run with restarts and of the run without them.
-use Rattle.std.specs.Prelude.{◌≡◌, ℕ, ◌⊎◌, List, [], ◌∷◌, ◌++◌, map, filter, flat_map, find, bytes_eq, refl, Option, Some, None, option_map, Contains}
+use Rattle.std.specs.Prelude.{◌≡◌, ℕ, List, [], ◌∷◌, ◌++◌, map, filter, flat_map, find, bytes_eq, refl, Option, Some, None, option_map}
 use Rattle.std.specs.List.{cons_option}
 use Rattle.std.proofs.Common.{sym, ◌∙◌, ap, subst, inl, inr}
-use Rattle.std.proofs.lemmas.Bool.{cases_Bool}
 use Rattle.std.proofs.lemmas.List.Elements.{filter-append}
 use Rattle.sg_model.specs.Names.{Name}
-use Rattle.sg_model.proofs.Small.{some_same, heads, tails}
-use Rattle.sg_law.proofs.Upto.{In, in_from_Contains}
-use Rattle.sg_law.proofs.Take.{contains_from_in, not_empty}
+use Rattle.sg_model.proofs.Small.{some_same, heads, tails, not_empty}
 use Rattle.sg_protocol.specs.Frame.{Frame}
 use Rattle.sg_protocol.specs.Calls.{Event, sid_of, Call, Answer, Deliver, Happened}
 use Rattle.sg_protocol.specs.Past.{Past, node_of}
@@ -17,7 +14,8 @@ use Rattle.sg_protocol.specs.LastSteps.{honest_items, sent_item}
 use Rattle.sg_protocol.specs.Completeness.{IsSentTo, HadAnswer}
 use Rattle.sg_protocol.specs.Restarts.{IsAbandonment, HasMoreAbandonments}
 use Rattle.sg_protocol.proofs.Paths.{flat_map-append}
-use Rattle.sg_protocol.proofs.Restarts.{Same, Shown, shown}
+use Rattle.sg_protocol.proofs.Restarts.{Same, Shown, shown, find_shown}
+use Rattle.sg_protocol.proofs.OverRestarts.{entry_there, entry_back}
 
 -- ---- logs
 
@@ -51,19 +49,6 @@ items_more sid [] log e = ap (honest_items sid) e
 items_more sid (l ∷ ls) log (inl h) = items_more sid ls log h.1 ∙ sym (ap (λ o. cons_option o (honest_items sid ls)) (ap (sent_item sid) (h.0).outcome))
 items_more sid (l ∷ ls) log (inr h) = ap (honest_items sid) h.1 ∙ ap (cons_option (sent_item sid l.outcome)) (items_more sid ls h.0 h.2)
 
--- each entry is one of the longer log, and each of these is an abandonment or one
-pub is_in_more : (ls log : List Logged) → HasMoreAbandonments ls log → (l : Logged) → In log l → In ls l
-is_in_more [] log e l i = subst (λ z. In z l) e i
-is_in_more (x ∷ ls) log (inl h) l i = inr (is_in_more ls log h.1 l i)
-is_in_more (x ∷ ls) log (inr h) l i = elim (let z : In (x ∷ h.0) l = subst (λ z. In z l) h.1 i in z) [ inl e ↦ inl e | inr j ↦ inr (is_in_more ls h.0 h.2 l j) ]
-
-pub was_there : (ls log : List Logged) → HasMoreAbandonments ls log → (l : Logged) → In ls l → IsAbandonment l ⊎ In log l
-was_there [] log e l i = absurd i
-was_there (x ∷ ls) log (inl h) l (inl e) = inl (subst IsAbandonment (sym e) h.0)
-was_there (x ∷ ls) log (inl h) l (inr i) = was_there ls log h.1 l i
-was_there (x ∷ ls) log (inr h) l (inl e) = inr (subst (λ z. In z l) (sym h.1) (inl e))
-was_there (x ∷ ls) log (inr h) l (inr i) = elim (was_there ls h.0 h.2 l i) [ inl a ↦ inl a | inr j ↦ inr (subst (λ z. In z l) (sym h.1) (inr j)) ]
-
 -- where the log splits, the longer one does
 pub split_more : (ls before : List Logged) (l : Logged) (after : List Logged) → HasMoreAbandonments ls (before ++ l ∷ after) → (before' : List Logged) × (after' : List Logged) × (ls ≡ before' ++ l ∷ after') × HasMoreAbandonments before' before
 split_more [] before l after e = absurd (not_empty before l after e)
@@ -77,34 +62,24 @@ split_more (x ∷ ls) (b ∷ before) l after (inr h) =
 -- ---- two worlds
 
 module _ (w w' : World) (same : Same w w') where
-  pub entry_there : (l : Logged) → Contains w.log l → Contains w'.log l
-  entry_there l c = contains_from_in w'.log l (is_in_more w'.log w.log same.log l (in_from_Contains w.log l c))
-
-  pub entry_back : (l : Logged) → (IsAbandonment l → ⊥) → Contains w'.log l → Contains w.log l
-  entry_back l f c = elim (was_there w'.log w.log same.log l (in_from_Contains w'.log l c)) [ inl a ↦ absurd (f a) | inr i ↦ contains_from_in w.log l i ]
-
   -- an abandonment delivers nothing and sends nothing
   pub delivery_back : (who : Name) (bs : List ℕ) (e : Event) → HadAnswer w'.log who (Deliver bs) (Happened e) → HadAnswer w.log who (Deliver bs) (Happened e)
   delivery_back who bs e h =
       let (l, there, its, call, outcome) = h in
-      (l, entry_back l (λ a. let z : Answered (Happened e) ≡ _ = sym outcome ∙ a.outcome in absurd (cc)) there, its, call, outcome)
+      (l, entry_back w w' same l (λ a. let z : Answered (Happened e) ≡ _ = sym outcome ∙ a.outcome in absurd (cc)) there, its, call, outcome)
 
   pub answer_there : (who : Name) (c : Call) (a : Answer) → HadAnswer w.log who c a → HadAnswer w'.log who c a
-  answer_there who c a h = let (l, there, its, call, outcome) = h in (l, entry_there l there, its, call, outcome)
+  answer_there who c a h = let (l, there, its, call, outcome) = h in (l, entry_there w w' same l there, its, call, outcome)
 
   pub sent_there : (bs : List ℕ) (to : Name) (f : Frame) → IsSentTo w.log bs to f → IsSentTo w'.log bs to f
-  sent_there bs to f h = let (l, e, there, outcome, frame) = h in (l, e, entry_there l there, outcome, frame)
+  sent_there bs to f h = let (l, e, there, outcome, frame) = h in (l, e, entry_there w w' same l there, outcome, frame)
 
   pub sent_back : (bs : List ℕ) (to : Name) (f : Frame) → IsSentTo w'.log bs to f → IsSentTo w.log bs to f
   sent_back bs to f h =
       let (l, e, there, outcome, frame) = h in
-      (l, e, entry_back l (λ a. let z : Some bs ≡ None = sym frame ∙ a.frame in absurd (cc)) there, outcome, frame)
+      (l, e, entry_back w w' same l (λ a. let z : Some bs ≡ None = sym frame ∙ a.frame in absurd (cc)) there, outcome, frame)
 
 -- ---- pasts
-
-find_shown : (who : Name) (ps : List Past) → option_map shown (find (λ p. bytes_eq p.keys.me who) ps) ≡ find (λ (v : Shown). bytes_eq (v.0).me who) (map shown ps)
-find_shown who [] = refl
-find_shown who (p ∷ ps) = elim (cases_Bool (bytes_eq p.keys.me who)) [ inl e ↦ rw e refl | inr e ↦ rw e (find_shown who ps) ]
 
 -- a principal has a past in both, with the same keys and node
 pub past_there : (ps qs : List Past) → map shown ps ≡ map shown qs → (who : Name) (p : Past) → find (λ p. bytes_eq p.keys.me who) ps ≡ Some p →

@@ -19,11 +19,13 @@ use Rattle.sg_protocol.specs.Schedule.{Schedule, Step, StartStep, ActStep, Aband
 use Rattle.sg_protocol.specs.World.{World, past_of, new_world, call_of}
 use Rattle.sg_protocol.specs.Run.{called_if, world_after}
 use Rattle.sg_protocol.specs.Restarts.{live_of, world_restarted}
-use Rattle.sg_protocol.proofs.Progressing.{next_past}
-use Rattle.sg_protocol.proofs.Finding.{find_all}
+use Rattle.sg_protocol.proofs.Progressing.{next_past, node_next}
 use Rattle.sg_protocol.proofs.Nodes.{start_all, abandon_all, act_all, deliver_all}
-use Rattle.sg_protocol.proofs.Anew.{node_next, anew}
+use Rattle.sg_protocol.proofs.Anew.{anew}
 use Rattle.sg_protocol.proofs.Lives.{anew_if}
+use Rattle.sg_protocol.proofs.Restarts.{anew_keys}
+use Rattle.sg_protocol.proofs.Happenings.{next_keys}
+use Rattle.sg_model.proofs.Finding.{find_all}
 
 -- ---- names of pasts
 
@@ -46,20 +48,14 @@ found_there who (x ∷ ps) (y ∷ qs) e p is =
       | inr h ↦ let r = found_there who ps qs rest p (let k : bytes_eq x.keys.me who ≡ false = ap (λ n. bytes_eq n who) one ∙ h in rw k at is) in (r.0, rw h r.1)
     ]
 
-anew_keys : (who : Name) (p : Past) → (anew_if who p).keys ≡ p.keys
-anew_keys who p = elim (cases_Bool (bytes_eq p.keys.me who)) [ inl e ↦ rw e refl | inr e ↦ rw e refl ]
-
 pub names_restarted : (w : World) (who : Name) → names (world_restarted w who).pasts ≡ names w.pasts
 names_restarted w who = names_kept (anew_if who) (anew_keys who) w.pasts
 
 module _ (sha : Hash) where
-  next_keys : (who : Name) (c : Call) (p : Past) → (next_past sha who c p).keys ≡ p.keys
-  next_keys who c p = elim (cases_Bool (bytes_eq p.keys.me who)) [ inl e ↦ rw e refl | inr e ↦ rw e refl ]
-
   names_called : (w : World) (k : ℕ) (who : Name) (c : Option Call) (o : Option Past) → names (option_map_or (called_if sha w k who c) o w).pasts ≡ names w.pasts
   names_called w k who c None = refl
   names_called w k who None (Some p) = refl
-  names_called w k who (Some c) (Some p) = names_kept (next_past sha who c) (next_keys who c) w.pasts
+  names_called w k who (Some c) (Some p) = names_kept (next_past sha who c) (next_keys sha who c) w.pasts
 
   pub names_after : (s : Schedule) (w : World) (k : ℕ) (x : Step) → names (world_after sha s w k x).pasts ≡ names w.pasts
   names_after s w k (CraftStep c) = refl

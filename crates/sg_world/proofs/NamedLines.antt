@@ -6,8 +6,6 @@ use Rattle.std.proofs.Common.{sym, ◌∙◌, ap, subst, inl, inr}
 use Rattle.std.proofs.lemmas.Bool.{cases_Bool, eqb-true, or_right, lt-ltb, ltb-true}
 use Rattle.std.proofs.lemmas.List.Elements.{recursion_from_All}
 use Rattle.std.proofs.lemmas.Option.{same_Some}
-use Rattle.sg_law.proofs.Take.{contains_from_in}
-use Rattle.sg_law.proofs.Upto.{In, in_from_Contains}
 use Rattle.sg_model.specs.Lists.{is_in, keys_of, first_some}
 use Rattle.sg_model.specs.Names.{Name}
 use Rattle.sg_protocol.proofs.RealHash.{real_hash}
@@ -37,6 +35,7 @@ use Rattle.sg_world.specs.Account.{graph_reported, line_of_entry, lines_of, CanB
 use Rattle.sg_world.specs.Entries.{graph_of_entry, past_before}
 use Rattle.sg_world.specs.Replay.{Replay, run_of}
 use Rattle.sg_world.proofs.RunEntries.{EntryOf, IsSilent, entries_of_steps}
+use Rattle.sg_model.proofs.Members.{In, in_from_Contains, contains_from_in}
 
 -- ---- only acts are refused as acts
 

@@ -14,14 +14,12 @@ use Rattle.sg_certify.specs.Traces.{Trace, Traces}
 use Rattle.sg_certify.specs.Runs.{AreTraces, IsTraceOf, IsExplainedBy, IsUnbroken, sids_of}
 use Rattle.sg_certify.proofs.Traced.{traces_are_explained}
 use Rattle.sg_certify.specs.Events.{explaining_walk}
-use Rattle.sg_law.proofs.Members.{all_in}
 use Rattle.sg_text.proofs.Firsts.{has_text-firsts}
 use Rattle.sg_text.proofs.Steps.{HasSteps-IsStoredWalk}
 use Rattle.sg_text.specs.Sessions.{KnownSessions, all_sids, naming, session_name, sids_known}
 use Rattle.sg_text.specs.Walks.{HasSteps}
 use Rattle.sg_model.specs.Lists.{has_text}
 use Rattle.sg_protocol.proofs.RealHash.{real_hash}
-use Rattle.sg_protocol.proofs.Whole.{found_in}
 use Rattle.sg_protocol.specs.Calls.{Event, sid_of}
 use Rattle.sg_protocol.specs.Frame.{Cast}
 use Rattle.sg_protocol.specs.Graph.{Graph, IsGraph}
@@ -38,6 +36,8 @@ use Rattle.sg_walk.specs.declared.stored.StoredWalk.{StoredWalk}
 use Rattle.sg_world.specs.Account.{account, cast_met, graph_of, honest_in}
 use Rattle.sg_world.specs.Replay.{Replay, run_of}
 use Rattle.sg_world.specs.Walked.{CanWalkAll, IsPath, Path, PremisesHold, WalksAreMade, WalksAreWritten, path_at, path_of_trace, path_line, sid_and_steps, sid_and_walk, steps_of_trace}
+use Rattle.sg_model.proofs.Members.{all_in}
+use Rattle.sg_model.proofs.Finding.{found_in}
 
 -- ---- events
 

@@ -1,7 +1,6 @@
 -- The headline of principals that run apart.
 use Rattle.sg_protocol.proofs.RealHash.{real_hash}
-use Rattle.sg_apart.proofs.Whole.{sessions_follow_walks_apart}
-use Rattle.sg_apart.proofs.Once.{none_joins_twice_apart}
+use Rattle.sg_apart.proofs.Whole.{sessions_follow_walks_apart, none_joins_twice_apart}
 use Rattle.sg_apart.proofs.headline_apart.Goals as goal
 
 pub returns-clause-of_any : goal.returns-clause-of_any
