@@ -18,16 +18,13 @@ use Rattle.sg_protocol.specs.Ranges.{IsCallInRange}
 use Rattle.sg_apart.specs.Apart.{Begins, CallAt, AreCallsInRange, names_of, honest_are, run_apart}
 use Rattle.sg_apart.specs.Laws.{AnsweredAt, IsHonest, IsOrder, HonestPastsFollowWalks, as_begun, asked, own_calls}
 use Rattle.sg_apart.proofs.Whole.{sessions_follow_walks_apart}
+use Rattle.sg_apart.proofs.Once.{same_names}
 use Rattle.sg_model.proofs.Members.{In, rec_in}
 
 abbrev pub Ranged : AnsweredCall → Type 0
 Ranged c = IsCallInRange c.call
 
 -- as they begin, the same principals are honest, with the same graphs
-same_names : (ps : List Past) → names_of (map as_begun ps) ≡ names_of ps
-same_names [] = refl
-same_names (p ∷ ps) = ap (λ l. p.keys.me ∷ l) (same_names ps)
-
 same_graphs : (ps : List Past) → (honest_are (map as_begun ps)).graphs ≡ (honest_are ps).graphs
 same_graphs [] = refl
 same_graphs (p ∷ ps) = ap (λ l. map (λ (q : Program). q.graph) p.programs ++ l) (same_graphs ps)

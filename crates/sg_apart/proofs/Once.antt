@@ -110,16 +110,17 @@ module _ (sha : Hash) where
         ap (λ z. map answered_of (world_after_calls sha z (k + 1) (map asked cs)).log) is ∙ r.1 ∙ ap (λ l. l ++ map as_answered cs) (map-append answered_of w.log _ ∙ ap (λ z. map answered_of w.log ++ (Some a.who, Some (a.answered).call, Answered z) ∷ []) (sym e)) ∙ append_assoc (map answered_of w.log) (as_answered a ∷ []) (map as_answered cs),
       )
 
+-- they have their names as they begin
+pub same_names : (qs : List Past) → names_of (map as_begun qs) ≡ names_of qs
+same_names [] = refl
+same_names (q ∷ qs) = ap (λ l. q.keys.me ∷ l) (same_names qs)
+
 pub pasts_run_apart : (sha : Hash) → PastsRunApart sha
 pasts_run_apart sha ps calls order answered =
     let own = recursion_from_All (λ (p : Past). own_calls p.keys.me calls ≡ p.calls) ps order.own in
     let r = all_run sha (record { pasts = map as_begun ps; log = [] }) 1 calls (subst (λ ns. AllByRecursion (λ (a : AnsweredAt). has_text a.who ns ≡ true) calls) (sym (same_names ps)) (recursion_from_All (λ (a : AnsweredAt). IsTrue (has_text a.who (names_of ps))) calls order.whose)) (begun_answers ps own (recursion_from_All (λ (p : Past). AreAnswers sha (new_node p.keys p.programs p.first) p.calls) ps answered)) in
     (r.0 ∙ all_finished ps own, r.1)
   where
-    same_names : (qs : List Past) → names_of (map as_begun qs) ≡ names_of qs
-    same_names [] = refl
-    same_names (q ∷ qs) = ap (λ l. q.keys.me ∷ l) (same_names qs)
-
     begun_answers : (qs : List Past) → AllByRecursion (λ (p : Past). own_calls p.keys.me calls ≡ p.calls) qs → AllByRecursion (λ (p : Past). AreAnswers sha (new_node p.keys p.programs p.first) p.calls) qs → AllByRecursion (Answers sha calls) (map as_begun qs)
     begun_answers [] o a = tt
     begun_answers (q ∷ qs) o a = (subst (AreAnswers sha (new_node q.keys q.programs q.first)) (sym o.0) a.0, begun_answers qs o.1 a.1)

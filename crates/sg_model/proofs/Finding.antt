@@ -90,6 +90,10 @@ pub none_any : {A : Type 0} (q : A → Bool) (xs : List A) → filter q xs ≡ [
 none_any q [] e = refl
 none_any q (x ∷ xs) e = elim (cases_Bool (q x)) [ inl h ↦ (let f = rw h at e in absurd (cc)) | inr h ↦ rw h (none_any q xs (rw h at e)) ]
 
+pub none_filter : {A : Type 0} (q : A → Bool) (xs : List A) → list_any q xs ≡ false → filter q xs ≡ []
+none_filter q [] h = refl
+none_filter q (x ∷ xs) h = elim (cases_Bool (q x)) [ inl e ↦ absurd (let z : true ≡ false = (rw e at h) in cc) | inr e ↦ rw e (none_filter q xs (rw e at h)) ]
+
 pub find-filter : {A : Type 0} (p q : A → Bool) → ((x : A) → p x ≡ true → q x ≡ true) → (xs : List A) → find p (filter q xs) ≡ find p xs
 find-filter p q h [] = refl
 find-filter p q h (x ∷ xs) = elim (cases_Bool (q x)) [

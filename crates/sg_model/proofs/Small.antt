@@ -84,6 +84,9 @@ upto k n u = elim (cases_Bool (nat_lt k n)) [ inl y ↦ inl (grind (arith, nat_t
 pub some_same : {A : Type 0} {x y : A} → Some x ≡ Some y → x ≡ y
 some_same h = cc
 
+pub none_some : {A : Type 0} (x : A) → None ≡ Some x → ⊥
+none_some x e = absurd (cc)
+
 -- bytes
 pub same_bytes : (a b : List ℕ) → bytes_eq a b ≡ true → a ≡ b
 same_bytes a b h = (bytes_eq-Decides a b).0 h

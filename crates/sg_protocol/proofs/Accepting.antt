@@ -3,7 +3,7 @@ use Rattle.std.specs.Prelude.{◌≡◌, ◌≢◌, ℕ, zero, suc, ◌<◌, ◌
 use Rattle.std.specs.List.{AllByRecursion, list_any}
 use Rattle.std.specs.Option.{option_map_or}
 use Rattle.std.proofs.Common.{sym, ◌∙◌, ap, subst, inl, inr, arith}
-use Rattle.std.proofs.lemmas.Bool.{cases_Bool, eqb-true, eq-eqb, ne_eqb, and_from, and_parts, lt-ltb}
+use Rattle.std.proofs.lemmas.Bool.{cases_Bool, eqb-true, eq-eqb, ne_eqb, and_from, and_parts, lt-ltb, not-true}
 use Rattle.std.proofs.lemmas.Bool.Decides.{nat_tests}
 use Rattle.std.proofs.lemmas.List.Elements.{All-head, All-tail}
 use Rattle.sg_model.specs.Last.{Map, has, last, after_last}
@@ -14,7 +14,7 @@ use Rattle.sg_model.specs.Names.{Name}
 use Rattle.sg_model.specs.Values.{Opening, Value}
 use Rattle.sg_model.proofs.Small.{clash, same_bytes, bytes_same, first_false, second_false, right_empty, not_empty}
 use Rattle.sg_model.proofs.Members.{In, in_from_Contains, contains_from_in, all_in, in_split, split_in}
-use Rattle.sg_model.proofs.Finding.{find_passes, find_all, found_in, find-filter}
+use Rattle.sg_model.proofs.Finding.{find_passes, find_all, found_in, find-filter, in_any}
 use Rattle.sg_protocol.specs.Graph.{Graph, Edge, IsGraph, shape, reads}
 use Rattle.sg_protocol.specs.Evidence.{View, IsView, IsViewTable, same_origin}
 use Rattle.sg_protocol.specs.Targets.{IsTargetTable}
@@ -62,7 +62,7 @@ use Rattle.sg_protocol.proofs.Happenings.{Happening, IsCourse, IsRight, Own, Hav
 use Rattle.sg_protocol.proofs.Senders.{receipts_are_of_sends, some_event}
 use Rattle.sg_protocol.proofs.Showing.{facts_of, first_progress, agree_first, of_run}
 use Rattle.sg_protocol.proofs.Anew.{keys_stay}
-use Rattle.sg_protocol.proofs.OfSid.{of_sid}
+use Rattle.sg_protocol.proofs.OfSid.{of_sid, for_sid}
 
 not_over : (a b : ℕ) → a < b → nat_le b a ≡ false
 not_over a b l = elim (cases_Bool (nat_le b a)) [ inl e ↦ absurd (let m : b ≤ a = grind (arith, nat_tests) in omega (arith, l, m)) | inr e ↦ e ]
@@ -542,7 +542,7 @@ module _ (sha : Hash) (hash : IsHash sha) (s : Schedule) (ps : List Past) (cours
         ∙ ap (λ b. first_some (row b NotWaiting ∷ rows_of_session sha n.keys the_p.0 x f)) (subst (λ z. at_turn z x ≡ false) (sym p_graph) wt) ∙ rs.rows_
       where
         own : (z : Session) → is_for f z ≡ true → of_sid sid z ≡ true
-        own z e = bytes_same z.sid sid (same_bytes z.sid f.sid (and_parts (bytes_eq z.sid f.sid) (z.role == f.receiver) (and_parts (bytes_eq z.sid f.sid && (z.role == f.receiver)) (z.cast.version == f.version) e).0).0 ∙ of_sid_)
+        own z e = bytes_same z.sid sid (for_sid f z e ∙ of_sid_)
 
     -- ---- a session that is gone
 
@@ -559,18 +559,9 @@ module _ (sha : Hash) (hash : IsHash sha) (s : Schedule) (ps : List Past) (cours
         ∙ ap (λ b. if b then not (list_any (λ e. e.source == place (the_p.0).graph x) (the_p.0).graph.edges) else not (option_map_or (may_return the_p.0) (origin x) true)) (subst (λ z. at_turn z x ≡ false) (sym p_graph) wt)) ∙ o in
         returns (origin x) refl (in_from_Contains (the_p.0).views (record { origin = origin x; items = map seen f.items }) there) over_
       where
-        any_in : (e : ℕ) (vs : List View) (v : View) → In vs v → v.origin ≡ Some e → list_any (λ (v : View). same_origin v.origin (Some e)) vs ≡ true
-        any_in e [] v i q = absurd i
-        any_in e (u ∷ vs) v (inl d) q = rw (ap (λ o. same_origin o (Some e)) (ap (λ (z : View). z.origin) (sym d) ∙ q) ∙ eq-eqb e e refl) refl
-        any_in e (u ∷ vs) v (inr i) q = elim (cases_Bool (same_origin u.origin (Some e))) [ inl h ↦ rw h refl | inr h ↦ rw h (any_in e vs v i q) ]
-
         returns : (o : Option ℕ) → origin x ≡ o → In (the_p.0).views (record { origin = origin x; items = map seen f.items }) → not (option_map_or (may_return the_p.0) (origin x) true) ≡ true → ⊥
         returns None q i h = (let z : false ≡ true = ap (λ o. not (option_map_or (may_return the_p.0) o true)) (sym q) ∙ h in absurd (cc))
-        returns (Some e) q i h = not_both (may_return the_p.0 e) (any_in e (the_p.0).views (record { origin = origin x; items = map seen f.items }) i q) (ap (λ o. not (option_map_or (may_return the_p.0) o true)) (sym q) ∙ h)
-          where
-            not_both : (b : Bool) → b ≡ true → not b ≡ true → ⊥
-            not_both true a b = absurd (cc)
-            not_both false a b = absurd (cc)
+        returns (Some e) q i h = clash (may_return the_p.0 e) (in_any (λ (v : View). same_origin v.origin (Some e)) (the_p.0).views (record { origin = origin x; items = map seen f.items }) i (ap (λ o. same_origin o (Some e)) q ∙ eq-eqb e e refl)) (not-true _ (ap (λ o. not (option_map_or (may_return the_p.0) o true)) (sym q) ∙ h))
 
     -- ---- a frame that joins
 

@@ -6,16 +6,15 @@ use Rattle.std.proofs.Common.{sym, ◌∙◌, ap, subst, inl, inr}
 use Rattle.std.proofs.lemmas.Bool.{eq-eqb, cases_Bool}
 use Rattle.std.proofs.lemmas.Slice.Eq.{bytes_eq-Decides}
 use Rattle.sg_model.specs.Last.{Map, last}
-use Rattle.sg_model.specs.Lists.{first_some, all_differ}
+use Rattle.sg_model.specs.Lists.{first_some}
 use Rattle.sg_model.specs.Shape.{sender, receiver}
 use Rattle.sg_model.specs.Values.{Value, Opening}
 use Rattle.sg_model.specs.Names.{Name}
 use Rattle.sg_protocol.specs.Graph.{Graph, IsGraph, shape}
-use Rattle.sg_protocol.specs.Evidence.{IsViewTable}
 use Rattle.sg_protocol.specs.Frame.{Cast, Item, Frame}
 use Rattle.sg_protocol.specs.Spelling.{HasSpelling, body}
-use Rattle.sg_protocol.specs.Texts.{Hash, IsHash, commitment, commitment_text_of}
-use Rattle.sg_protocol.specs.TextLaws.{IsVersion, OpeningFits}
+use Rattle.sg_protocol.specs.Texts.{Hash, commitment, commitment_text_of}
+use Rattle.sg_protocol.specs.TextLaws.{OpeningFits}
 use Rattle.sg_protocol.specs.Keyring.{Program, targets_of}
 use Rattle.sg_protocol.specs.Session.{Session, Gave, principal, transcript, time, place, at_turn, commitments, extended}
 use Rattle.sg_protocol.specs.Sending.{text_of, text_to, frame_sent, own_item}
@@ -23,7 +22,6 @@ use Rattle.sg_protocol.specs.Calls.{ActFault, Event, Sent, Act, Answer, Sends, N
 use Rattle.sg_protocol.specs.Notes.{Note, note_of, notes_of_sent, Notes, notes, notes_of_act, no_notes}
 use Rattle.sg_protocol.specs.Walk.{is_typed_or_hidden, shown}
 use Rattle.sg_protocol.specs.Schedule.{Schedule, is_honest, honest_role}
-use Rattle.sg_law.specs.Run.{Turn}
 use Rattle.sg_law.specs.Values as V
 use Rattle.sg_law.specs.Values.{State, Commit, moved}
 use Rattle.sg_law.specs.Values.Move.{Writes}
@@ -35,7 +33,7 @@ use Rattle.sg_protocol.specs.Acting.{rows_of_act, openings_for, answer, answer_a
 use Rattle.sg_protocol.proofs.TextLaws.{kinds_differ}
 use Rattle.sg_protocol.specs.Accepted.{Accepted}
 use Rattle.sg_protocol.proofs.Gives.{item_sid, frame_sid, opened_values}
-use Rattle.sg_model.proofs.Small.{clash, same_bytes}
+use Rattle.sg_model.proofs.Small.{clash, same_bytes, none_some}
 use Rattle.sg_model.proofs.Members.{In, in_left, in_parts, in_map, map_in}
 use Rattle.sg_model.proofs.Finding.{find_passes, find_all}
 use Rattle.sg_protocol.specs.Node.{Node, session_with, program_for}
@@ -48,31 +46,7 @@ use Rattle.sg_protocol.proofs.Calls.{transcript_in, sent_in, quiet_event, NodeOk
 use Rattle.sg_protocol.proofs.AfterCalls.{still_lengths, replace_lengths, event_other, kept_writes, transcript_step, goes_now, goes_status, other_status, nothing, the_session}
 use Rattle.sg_protocol.proofs.OfSid.{of_sid, replace-other, still-own, still-other}
 
-none_some : (t : Turn) → None ≡ Some t → ⊥
-none_some t e = absurd (cc)
-
 module _ {sha : Hash} {programs : List Program} {sid : List ℕ} {cast : Cast} {g : Graph} {Hashed : List ℕ → Type 0} (known : SessionOfCast sha programs sid cast g Hashed) (s : Schedule) (LeftBy : Name → Type 0) (st : State) (who : Name) (n : Node) (ok : NodeOk known s LeftBy st who n) (hon : is_honest s who ≡ true) where
-  abbrev hash : IsHash sha
-  hash = known.is_hash
-
-  abbrev is : IsGraph g
-  is = known.is_graph
-
-  abbrev acc : Accepted g
-  acc = known.accepted
-
-  abbrev version : IsVersion cast.version
-  version = known.is_version
-
-  abbrev long : length sid ≡ 32
-  long = known.long_sid
-
-  abbrev differ : all_differ cast.names ≡ true
-  differ = known.names_differ
-
-  abbrev prog : (r : ℕ) (p : Program) → program_for programs cast.graph r ≡ Some p → (p.graph ≡ g) × IsViewTable p.graph r p.views
-  prog = known.programs_of
-
   abbrev commit : Commit
   commit o = commitment sha sid o
 
@@ -92,12 +66,12 @@ module _ {sha : Hash} {programs : List Program} {sid : List ℕ} {cast : Cast} {
       frame_note : NoteOk g sid st.log (note_of n.keys.me (principal x.cast f.receiver) (text_of f))
       frame_note = record {
         item = λ v from to label' time' held fits e. absurd (kinds_differ.item_frame v sid from to label' time' held f.version (body f) (sym e ∙ note_text n.keys.me (principal x.cast f.receiver) (text_of f)));
-        frame = λ v f' spelled' same e. absurd (differs (sym fs ∙ frame_sid f.version v f f' (ap length fs ∙ l) (ap length same ∙ long) (sym (note_text n.keys.me (principal x.cast f.receiver) (text_of f)) ∙ e) ∙ same));
+        frame = λ v f' spelled' same e. absurd (differs (sym fs ∙ frame_sid f.version v f f' (ap length fs ∙ l) (ap length same ∙ known.long_sid) (sym (note_text n.keys.me (principal x.cast f.receiver) (text_of f)) ∙ e) ∙ same));
       }
 
       item_note : (i : Item) (t : ℕ) → NoteOk g sid st.log (note_of n.keys.me (principal x.cast t) (text_to p.graph x (transcript x) i t))
       item_note i t = record {
-        item = λ v from to label' time' held fits e. absurd (differs (item_sid x.cast.version v x.sid sid i.role from t to i.label label' i.time time' (commitments p.graph (transcript x ++ i ∷ [])) held l long (sym (note_text n.keys.me (principal x.cast t) (text_to p.graph x (transcript x) i t)) ∙ e)));
+        item = λ v from to label' time' held fits e. absurd (differs (item_sid x.cast.version v x.sid sid i.role from t to i.label label' i.time time' (commitments p.graph (transcript x ++ i ∷ [])) held l known.long_sid (sym (note_text n.keys.me (principal x.cast t) (text_to p.graph x (transcript x) i t)) ∙ e)));
         frame = λ v f' spelled' same e. absurd (kinds_differ.item_frame x.cast.version x.sid i.role t i.label i.time (commitments p.graph (transcript x ++ i ∷ [])) v (body f') (sym (note_text n.keys.me (principal x.cast t) (text_to p.graph x (transcript x) i t)) ∙ e));
       }
 
@@ -167,21 +141,21 @@ module _ {sha : Hash} {programs : List Program} {sid : List ℕ} {cast : Cast} {
 
       given_in : p.graph ≡ g → Matches g sid cast st who x → Given g
       given_in pg m =
-          let is' : IsGraph p.graph = subst IsGraph (sym pg) is in
-          let acc' : Accepted p.graph = subst Accepted (sym pg) acc in
+          let is' : IsGraph p.graph = subst IsGraph (sym pg) known.is_graph in
+          let acc' : Accepted p.graph = subst Accepted (sym pg) known.accepted in
           let m' : Matches p.graph sid cast st who x = subst (λ z. Matches z sid cast st who x) (sym pg) m in
           let rs : C.ActRows p.graph x label values = C.act_rows p x label values rows in
           subst Given pg record {
-            gi = (C.gave sha hash s sid cast n.keys p x label values F st who is' acc' m' hon version long small rs).0;
-            its_last = C.its_last sha hash s sid cast n.keys p x label values F st who is' acc' m' hon version long small rs;
-            may = C.may_write sha hash s sid cast n.keys p x label values F st who is' acc' m' hon version long small rs;
-            matches = C.given sha hash s sid cast n.keys p x label values F st who is' acc' m' hon version long small rs;
-            notes_ok = C.notes_ok sha hash s sid cast n.keys p x label values F st who is' acc' m' hon version long small rs spelled;
-            by_x = C.by_x sha hash s sid cast n.keys p x label values F st who is' acc' m' hon version long small rs;
-            typed = C.values_typed sha hash s sid cast n.keys p x label values F st who is' acc' m' hon version long small rs;
-            own_entry = (C.gave sha hash s sid cast n.keys p x label values F st who is' acc' m' hon version long small rs).2;
-            its_role = (C.gave sha hash s sid cast n.keys p x label values F st who is' acc' m' hon version long small rs).3;
-            made = C.entry_made sha hash s sid cast n.keys p x label values F st who is' acc' m' hon version long small rs;
+            gi = (C.gave sha known.is_hash s sid cast n.keys p x label values F st who is' acc' m' hon known.is_version known.long_sid small rs).0;
+            its_last = C.its_last sha known.is_hash s sid cast n.keys p x label values F st who is' acc' m' hon known.is_version known.long_sid small rs;
+            may = C.may_write sha known.is_hash s sid cast n.keys p x label values F st who is' acc' m' hon known.is_version known.long_sid small rs;
+            matches = C.given sha known.is_hash s sid cast n.keys p x label values F st who is' acc' m' hon known.is_version known.long_sid small rs;
+            notes_ok = C.notes_ok sha known.is_hash s sid cast n.keys p x label values F st who is' acc' m' hon known.is_version known.long_sid small rs spelled;
+            by_x = C.by_x sha known.is_hash s sid cast n.keys p x label values F st who is' acc' m' hon known.is_version known.long_sid small rs;
+            typed = C.values_typed sha known.is_hash s sid cast n.keys p x label values F st who is' acc' m' hon known.is_version known.long_sid small rs;
+            own_entry = (C.gave sha known.is_hash s sid cast n.keys p x label values F st who is' acc' m' hon known.is_version known.long_sid small rs).2;
+            its_role = (C.gave sha known.is_hash s sid cast n.keys p x label values F st who is' acc' m' hon known.is_version known.long_sid small rs).3;
+            made = C.entry_made sha known.is_hash s sid cast n.keys p x label values F st who is' acc' m' hon known.is_version known.long_sid small rs;
           }
 
       act_transcript : (gi : Item) → last f.items ≡ Some gi → x.sid ≡ sid → transcript_in sid x.role (Act sid0 label values (map F values)) its_answer ≡ gi ∷ []
@@ -197,7 +171,7 @@ module _ {sha : Hash} {programs : List Program} {sid : List ℕ} {cast : Cast} {
           let t = the_session known s LeftBy st who n ok which own x found_x in
           let alone_ : filter (of_sid sid) n.live ≡ x ∷ [] = (t.0).alone ∙ ap (λ z. z ∷ []) (sym t.1) in
           let m : Matches g sid cast st who x = subst (Matches g sid cast st who) (sym t.1) (t.0).matches in
-          let pr = prog x.role p (subst (λ ps. program_for ps cast.graph x.role ≡ Some p) ok.has_programs (subst (λ (c : Cast). program_for n.programs c.graph x.role ≡ Some p) m.same_cast found_p)) in
+          let pr = known.programs_of x.role p (subst (λ ps. program_for ps cast.graph x.role ≡ Some p) ok.has_programs (subst (λ (c : Cast). program_for n.programs c.graph x.role ≡ Some p) m.same_cast found_p)) in
           let gv : Given g = given_in pr.0 m in
           let sid_true : bytes_eq x.sid sid ≡ true = (bytes_eq-Decides x.sid sid).1 m.same_sid in
           record {
@@ -217,7 +191,7 @@ module _ {sha : Hash} {programs : List Program} {sid : List ℕ} {cast : Cast} {
             made = gv.notes_ok;
             log = λ mk i. in_left st.log (V.made_by commit st x.role label os ∷ []) mk i;
             transcript = λ r e l. subst (λ k. ((moved commit st (Writes x.role label os)).transcript k ≡ st.transcript k ++ entries (transcript_in sid k (Act sid0 label values (map F values)) its_answer)) × Roles (shape g) (transcript_in sid k (Act sid0 label values (map F values)) its_answer))
-                (one_index cast.names x.role r differ m.inside l (m.is_who ∙ sym e))
+                (one_index cast.names x.role r known.names_differ m.inside l (m.is_who ∙ sym e))
                 (rw (act_transcript gv.gi gv.its_last m.same_sid) (transcript_step known s LeftBy st (moved commit st (Writes x.role label os)) who x (Gave gv.gi os) m gv.matches));
             sent = rw (act_sent gv.gi gv.its_last m.same_sid) (ap (λ z. st.machine.sent ++ V.step_of z ∷ []) (sym gv.made), (transcript_step known s LeftBy st (moved commit st (Writes x.role label os)) who x (Gave gv.gi os) m gv.matches).1);
             took = λ f t. (let e = t.is_call in absurd (cc));
@@ -252,7 +226,7 @@ module _ {sha : Hash} {programs : List Program} {sid : List ℕ} {cast : Cast} {
         where
           no_turn_now : principal cast x.role ≡ who → x.role < length cast.names → (y : Session) → Matches g sid cast (moved commit st (Writes x.role label os)) who y → (at_turn g y ≡ true) ⊎ (at_turn g y ≡ false) → at_turn g y ≡ false
           no_turn_now who_x in_x y m' (inr b) = b
-          no_turn_now who_x in_x y m' (inl a) = absurd (no_turn_law y.role (m'.turns a) (one_index cast.names y.role x.role differ m'.inside in_x (m'.is_who ∙ sym who_x)))
+          no_turn_now who_x in_x y m' (inl a) = absurd (no_turn_law y.role (m'.turns a) (one_index cast.names y.role x.role known.names_differ m'.inside in_x (m'.is_who ∙ sym who_x)))
             where
               no_turn_law : (r : ℕ) → ((moved commit st (Writes x.role label os)).machine.at r).turn ≡ Some (record { node = place g y; time = time y }) → r ≡ x.role → ⊥
               no_turn_law r e q = none_some (record { node = place g y; time = time y }) (rw (eq-eqb r x.role q) at e)

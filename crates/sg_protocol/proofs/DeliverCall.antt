@@ -7,7 +7,7 @@ use Rattle.std.proofs.Common.{sym, ◌∙◌, ap, subst, inl, inr, append-nil}
 use Rattle.std.proofs.lemmas.Bool.{eqb-true, eq-eqb, cases_Bool, and_parts, not-false}
 use Rattle.std.proofs.lemmas.Slice.Eq.{bytes_eq-Decides}
 use Rattle.sg_model.specs.Last.{has, last, up_to_last}
-use Rattle.sg_model.specs.Lists.{first_some, all_differ}
+use Rattle.sg_model.specs.Lists.{first_some}
 use Rattle.sg_model.specs.Shape.{role_at, target, receiver}
 use Rattle.sg_model.specs.Values.{Opening, Code}
 use Rattle.sg_model.specs.Names.{Name}
@@ -25,7 +25,6 @@ use Rattle.sg_protocol.specs.Notes.{Note, notes_in_session, Notes, notes, no_not
 use Rattle.sg_protocol.specs.Walk.{is_typed_or_hidden, shown}
 use Rattle.sg_protocol.specs.Schedule.{Schedule, is_honest, honest_role}
 use Rattle.sg_law.specs.Last as B
-use Rattle.sg_law.specs.Run.{Turn}
 use Rattle.sg_law.specs.Run as R
 use Rattle.sg_law.specs.Values as V
 use Rattle.sg_law.specs.Values.{State, Commit, moved, MayTake}
@@ -38,7 +37,7 @@ use Rattle.sg_protocol.proofs.Moves.{NoteOk, Matches, row_none}
 use Rattle.sg_protocol.specs.Acting.{answer}
 use Rattle.std.specs.Prelude.{Result, Ok, Err, option_and_then}
 use Rattle.sg_model.specs.Bytes.{IsBytes}
-use Rattle.sg_model.proofs.Small.{none_parts, same_bytes}
+use Rattle.sg_model.proofs.Small.{none_parts, same_bytes, none_some}
 use Rattle.sg_model.proofs.Members.{In, in_left, in_right, in_map}
 use Rattle.sg_model.proofs.Finding.{find_passes}
 use Rattle.sg_protocol.specs.Reading.{read}
@@ -60,28 +59,7 @@ use Rattle.sg_protocol.proofs.OfSid.{of_sid, replace-other, still-own, still-oth
 ok_same : (r : Result Frame ℕ) (f f' : Frame) → r ≡ Ok f → r ≡ Ok f' → f ≡ f'
 ok_same r f f' a b = cc
 
-none_some : (t : Turn) → None ≡ Some t → ⊥
-none_some t e = absurd (cc)
-
 module _ {sha : Hash} {programs : List Program} {sid : List ℕ} {cast : Cast} {g : Graph} {Hashed : List ℕ → Type 0} (known : SessionOfCast sha programs sid cast g Hashed) (s : Schedule) (LeftBy : Name → Type 0) (st : State) (who : Name) (n : Node) (ok : NodeOk known s LeftBy st who n) (hon : is_honest s who ≡ true) where
-  abbrev is : IsGraph g
-  is = known.is_graph
-
-  abbrev version : IsVersion cast.version
-  version = known.is_version
-
-  abbrev long : length sid ≡ 32
-  long = known.long_sid
-
-  abbrev differ : all_differ cast.names ≡ true
-  differ = known.names_differ
-
-  abbrev prog : (r : ℕ) (p : Program) → program_for programs cast.graph r ≡ Some p → (p.graph ≡ g) × IsViewTable p.graph r p.views
-  prog = known.programs_of
-
-  abbrev one_cast : (c : Cast) → CastFits c → Hashed (session_text_of c) → session_id sha c ≡ sid → c ≡ cast
-  one_cast = known.one_cast
-
   abbrev commit : Commit
   commit o = commitment sha sid o
 
@@ -105,21 +83,21 @@ module _ {sha : Hash} {programs : List Program} {sid : List ℕ} {cast : Cast} {
     taken_at : (x : Session) (p : Program) → p.graph ≡ g → IsViewTable p.graph x.role p.views → Matches g sid cast st who x → at_turn g x ≡ false → f.sid ≡ sid → f.receiver ≡ x.role → T.Rows sha n.keys p x f
         → ((nt : Note) → In (notes_in_session sha n.keys p x f 16).found nt → is_honest s nt.one ≡ true → is_honest s nt.two ≡ true → NoteOk g sid st.log nt) → TakenAt g x
     taken_at x p pg views m wait fs fr rs found =
-        let is' : IsGraph p.graph = subst IsGraph (sym pg) is in
+        let is' : IsGraph p.graph = subst IsGraph (sym pg) known.is_graph in
         let m' : Matches p.graph sid cast st who x = subst (λ z. Matches z sid cast st who x) (sym pg) m in
         let wait' : at_turn p.graph x ≡ false = subst (λ z. at_turn z x ≡ false) (sym pg) wait in
         let found' : (nt : Note) → In (notes_in_session sha n.keys p x f 16).found nt → is_honest s nt.one ≡ true → is_honest s nt.two ≡ true → NoteOk p.graph sid st.log nt = subst (λ z. (nt : Note) → In (notes_in_session sha n.keys p x f 16).found nt → is_honest s nt.one ≡ true → is_honest s nt.two ≡ true → NoteOk z sid st.log nt) (sym pg) found in
         subst (λ z. TakenAt z x) pg record {
-          node = T.n sha s sid cast n.keys p x f st who is' m' ok.me hon views version long wait' spelled fs fr rs found';
-          may = T.may sha s sid cast n.keys p x f st who is' m' ok.me hon views version long wait' spelled fs fr rs found';
-          matches = T.taken sha s sid cast n.keys p x f st who is' m' ok.me hon views version long wait' spelled fs fr rs found';
-          last_one = (T.last_item sha s sid cast n.keys p x f st who is' m' ok.me hon views version long wait' spelled fs fr rs found').0;
-          is_last = (T.last_item sha s sid cast n.keys p x f st who is' m' ok.me hon views version long wait' spelled fs fr rs found').1;
-          no_own = T.no_own sha s sid cast n.keys p x f st who is' m' ok.me hon views version long wait' spelled fs fr rs found';
-          view = T.law_view sha s sid cast n.keys p x f st who is' m' ok.me hon views version long wait' spelled fs fr rs found';
-          by_me = T.by_me sha s sid cast n.keys p x f st who is' m' ok.me hon views version long wait' spelled fs fr rs found';
-          its_origin = T.law_origin sha s sid cast n.keys p x f st who is' m' ok.me hon views version long wait' spelled fs fr rs found';
-          typed = T.values_typed sha s sid cast n.keys p x f st who is' m' ok.me hon views version long wait' spelled fs fr rs found';
+          node = T.n sha s sid cast n.keys p x f st who is' m' ok.me hon views known.is_version known.long_sid wait' spelled fs fr rs found';
+          may = T.may sha s sid cast n.keys p x f st who is' m' ok.me hon views known.is_version known.long_sid wait' spelled fs fr rs found';
+          matches = T.taken sha s sid cast n.keys p x f st who is' m' ok.me hon views known.is_version known.long_sid wait' spelled fs fr rs found';
+          last_one = (T.last_item sha s sid cast n.keys p x f st who is' m' ok.me hon views known.is_version known.long_sid wait' spelled fs fr rs found').0;
+          is_last = (T.last_item sha s sid cast n.keys p x f st who is' m' ok.me hon views known.is_version known.long_sid wait' spelled fs fr rs found').1;
+          no_own = T.no_own sha s sid cast n.keys p x f st who is' m' ok.me hon views known.is_version known.long_sid wait' spelled fs fr rs found';
+          view = T.law_view sha s sid cast n.keys p x f st who is' m' ok.me hon views known.is_version known.long_sid wait' spelled fs fr rs found';
+          by_me = T.by_me sha s sid cast n.keys p x f st who is' m' ok.me hon views known.is_version known.long_sid wait' spelled fs fr rs found';
+          its_origin = T.law_origin sha s sid cast n.keys p x f st who is' m' ok.me hon views known.is_version known.long_sid wait' spelled fs fr rs found';
+          typed = T.values_typed sha s sid cast n.keys p x f st who is' m' ok.me hon views known.is_version known.long_sid wait' spelled fs fr rs found';
         }
 
     abbrev nts_in : ℕ → Option (Program × Session) → Notes
@@ -166,7 +144,7 @@ module _ {sha : Hash} {programs : List Program} {sid : List ℕ} {cast : Cast} {
       made = λ nt i. absurd (no_made 16 (Some (p, x)) nt i);
       log = λ mk i. i;
       transcript = λ r e l. subst (λ k. ((moved commit st (Takes x.role t.node (entries f.items) f.openings)).transcript k ≡ st.transcript k ++ entries (transcript_in sid k (Deliver bs) (Happened (receipt f)))) × Roles (shape g) (transcript_in sid k (Deliver bs) (Happened (receipt f))))
-          (one_index cast.names x.role r differ m.inside l (m.is_who ∙ sym e))
+          (one_index cast.names x.role r known.names_differ m.inside l (m.is_who ∙ sym e))
           (rw took_transcript (transcript_step known s LeftBy st (moved commit st (Takes x.role t.node (entries f.items) f.openings)) who x (Took f) m t.matches));
       sent = (sym (append-nil st.machine.sent), tt);
       took = λ f' q. (
@@ -291,14 +269,14 @@ module _ {sha : Hash} {programs : List Program} {sid : List ℕ} {cast : Cast} {
           let co = subst (λ o. IfSome o (Frame'.IsCastOf f.version)) jc spelled.fields.join in
           let fits : CastFits c = cast_fits c (subst IsVersion (sym co.version) spelled.fields.version) (subst (λ v. Frame'.IsCastOf v c) (sym co.version) co) in
           let in_hashed : In (notes_of_read sha n (Ok f)).hashed (session_text_of c) = subst (λ (z : Notes). In z.hashed (session_text_of c)) (sym nts) (in_left (hashed_of_join f 16) (nts_in 16 (Some (p, x))).hashed (session_text_of c) (subst (λ o. In (option_map_or (λ c. session_text_of c ∷ []) o []) (session_text_of c)) (sym jc) (inl refl))) in
-          let its : c ≡ cast = one_cast c fits (hs (session_text_of c) in_hashed) of_c in
+          let its : c ≡ cast = known.one_cast c fits (hs (session_text_of c) in_hashed) of_c in
           let cp = cast_parts n.keys p.graph c f.receiver (and_parts (is_cast n.keys p.graph c f.receiver) (nat_lt f.sender (length c.names)) (not-false (is_cast n.keys p.graph c f.receiver && nat_lt f.sender (length c.names)) (row_none _ _ r1.0))).0 in
           let free : has_joined n.joins sid f.receiver ≡ false = subst (λ z. has_joined n.joins z f.receiver ≡ false) fs (row_none _ _ r4.0) in
           let is_who : principal cast f.receiver ≡ who = subst (λ (z : Cast). principal z f.receiver ≡ who) its (cp.1 ∙ ok.me) in
           let inside : f.receiver < length cast.names = subst (λ (z : Cast). f.receiver < length z.names) its cp.0 in
           let fresh : Fresh known s LeftBy st who n = no_two known s LeftBy st who n f.receiver ok.status is_who inside free in
           let m : Matches g sid cast st who x = new_matches known s LeftBy st who c f.sid f.receiver fs its is_who inside (fresh.all f.receiver is_who inside) in
-          let pr = prog f.receiver p (subst (λ ps. program_for ps cast.graph f.receiver ≡ Some p) ok.has_programs (subst (λ (z : Cast). program_for n.programs z.graph f.receiver ≡ Some p) its pc)) in
+          let pr = known.programs_of f.receiver p (subst (λ ps. program_for ps cast.graph f.receiver ≡ Some p) ok.has_programs (subst (λ (z : Cast). program_for n.programs z.graph f.receiver ≡ Some p) its pc)) in
           let wait : at_turn g x ≡ false = no_turn p x pr.0 pr.1 rs refl in
           let t : TakenAt g x = taken_at x p pr.0 pr.1 m wait fs refl rs (λ nt i. founds nt (subst (λ (z : Notes). In z.found nt) (sym nts) i)) in
           subst (Out known s LeftBy st who n (Deliver bs) (Happened (receipt f))) (sym nts)
@@ -323,7 +301,7 @@ module _ {sha : Hash} {programs : List Program} {sid : List ℕ} {cast : Cast} {
           let own : (z : Session) → is_for f z ≡ true → of_sid sid z ≡ true = λ z w. (bytes_eq-Decides z.sid sid).1 (for_sid f z w ∙ fs) in
           let h = the_session known s LeftBy st who n ok (is_for f) own x sx in
           let m : Matches g sid cast st who x = subst (Matches g sid cast st who) (sym h.1) (h.0).matches in
-          let pr = prog x.role p (subst (λ ps. program_for ps cast.graph x.role ≡ Some p) ok.has_programs (subst (λ (c : Cast). program_for n.programs c.graph x.role ≡ Some p) m.same_cast px)) in
+          let pr = known.programs_of x.role p (subst (λ ps. program_for ps cast.graph x.role ≡ Some p) ok.has_programs (subst (λ (c : Cast). program_for n.programs c.graph x.role ≡ Some p) m.same_cast px)) in
           let r1 = none_parts (row (at_turn p.graph x) NotWaiting) (rows_of_session sha n.keys p x f) rn in
           let rs : T.Rows sha n.keys p x f = T.rows_of sha n.keys p x f r1.1 in
           let wait : at_turn g x ≡ false = subst (λ z. at_turn z x ≡ false) pr.0 (row_none _ _ r1.0) in

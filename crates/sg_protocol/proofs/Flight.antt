@@ -12,7 +12,7 @@ use Rattle.sg_model.specs.Values.{Opening}
 use Rattle.sg_model.specs.Names.{Name}
 use Rattle.sg_model.proofs.Small.{clash, same_bytes, bytes_same, or_true, all_weaker, first_false, lt_of, not_empty}
 use Rattle.sg_model.proofs.Members.{In, in_from_Contains, contains_from_in, in_left, in_parts, in_last, split_at_end, in_split, split_in, two_splits}
-use Rattle.sg_model.proofs.Finding.{find_passes, found_in, find_some, find-filter}
+use Rattle.sg_model.proofs.Finding.{find_passes, found_in, find_some, find-filter, none_filter}
 use Rattle.sg_protocol.specs.Graph.{Graph, IsGraph, shape, reads}
 use Rattle.sg_protocol.specs.Accepted.{Accepted}
 use Rattle.sg_protocol.specs.Frame.{Cast, Frame, Item}
@@ -65,7 +65,7 @@ use Rattle.sg_protocol.proofs.Showing.{SessionFacts, shows_called}
 use Rattle.sg_protocol.proofs.Splits.{rises_mid, role_small}
 use Rattle.sg_protocol.proofs.First.{keys_after}
 use Rattle.sg_protocol.proofs.LiveSessions.{sends_sid}
-use Rattle.sg_protocol.proofs.OfSid.{of_sid}
+use Rattle.sg_protocol.proofs.OfSid.{of_sid, for_sid}
 
 next_programs : (sha : Hash) (who : Name) (c : Call) (p : Past) → (next_past sha who c p).programs ≡ p.programs
 next_programs sha who c p = elim (cases_Bool (bytes_eq p.keys.me who)) [ inl e ↦ rw e refl | inr e ↦ rw e refl ]
@@ -318,10 +318,6 @@ module _ {sha : Hash} {s : Schedule} {sid : List ℕ} {cast : Cast} {g : Graph} 
   -- an entry that takes nothing in the session
   abbrev NoTake : Logged → Type 0
   NoTake l = (f : Frame) → f.sid ≡ sid → l.outcome ≡ Answered (Happened (receipt f)) → ⊥
-
-  none_filter : (q : Event → Bool) (xs : List Event) → list_any q xs ≡ false → filter q xs ≡ []
-  none_filter q [] h = refl
-  none_filter q (x ∷ xs) h = elim (cases_Bool (q x)) [ inl e ↦ absurd (let z : true ≡ false = (rw e at h) in cc) | inr e ↦ rw e (none_filter q xs (rw e at h)) ]
 
   events_more : (log : List Logged) (l0 : Logged) → filter (λ e. bytes_eq (sid_of e) sid) (events_of_outcome l0.outcome) ≡ [] → events_of sid (log ++ l0 ∷ []) ≡ events_of sid log
   events_more log l0 h =
@@ -811,7 +807,7 @@ module _ {sha : Hash} {s : Schedule} {sid : List ℕ} {cast : Cast} {g : Graph} 
           by_for (inr e) r = absurd (let z : Some UnknownSession ≡ None = rw e at r in cc)
 
       of_session : (z : Session) → is_for f z ≡ true → of_sid sid z ≡ true
-      of_session z e = bytes_same z.sid sid (same_bytes z.sid f.sid (and_parts (bytes_eq z.sid f.sid) (z.role == f.receiver) (and_parts (bytes_eq z.sid f.sid && (z.role == f.receiver)) (z.cast.version == f.version) e).0).0 ∙ h.took.is_sid)
+      of_session z e = bytes_same z.sid sid (for_sid f z e ∙ h.took.is_sid)
 
       taken_program : Under
       taken_program = elim (cases_Bool (has by_role f.receiver (honest_items sid sp.0))) [

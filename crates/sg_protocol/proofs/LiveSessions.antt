@@ -26,7 +26,7 @@ use Rattle.sg_protocol.specs.Acting.{rows_of_act, openings_for, answer, started,
 use Rattle.std.specs.Prelude.{Result, Ok, Err, option_and_then}
 use Rattle.sg_model.proofs.Small.{same_bytes, none_parts, both_nil, all-append}
 use Rattle.sg_model.proofs.Members.{In, in_left}
-use Rattle.sg_model.proofs.Finding.{find_passes, find_all}
+use Rattle.sg_model.proofs.Finding.{find_passes, find_all, none_any}
 use Rattle.sg_protocol.specs.Reading.{read}
 use Rattle.sg_protocol.specs.Node.{Node, is_for, is_cast, stranger, session_with, session_for, has_joined, program_for, starter}
 use Rattle.sg_protocol.specs.NodeAfter.{node_after, joined, goes_on, replace, still, is_over, takes_read}
@@ -44,16 +44,12 @@ replace_all {P} which now (x ∷ xs) f a = elim (cases_Bool (which x)) [
   | inr e ↦ rw e (a.0, replace_all {P = P} which now xs f a.1)
 ]
 
-any_none : (sid : List ℕ) (es : List Event) → filter (λ e. bytes_eq (sid_of e) sid) es ≡ [] → list_any (λ e. bytes_eq (sid_of e) sid) es ≡ false
-any_none sid [] h = refl
-any_none sid (e ∷ es) h = elim (cases_Bool (bytes_eq (sid_of e) sid)) [ inl k ↦ (let f = rw k at h in absurd (cc)) | inr k ↦ rw k (any_none sid es (rw k at h)) ]
-
 -- if a session has no event, no entry is of it
 pub no_entry : (sid : List ℕ) (log : List Logged) → events_of sid log ≡ [] → find (λ (l : Logged). list_any (λ e. bytes_eq (sid_of e) sid) (events_of_outcome l.outcome)) log ≡ None
 no_entry sid [] h = refl
 no_entry sid (l ∷ ls) h =
     let p = both_nil (filter (λ e. bytes_eq (sid_of e) sid) (events_of_outcome l.outcome)) (events_of sid ls) (sym (filter-append (λ e. bytes_eq (sid_of e) sid) (events_of_outcome l.outcome) (flat_map (λ (l : Logged). events_of_outcome l.outcome) ls)) ∙ h) in
-    rw (any_none sid (events_of_outcome l.outcome) p.0) (no_entry sid ls p.1)
+    rw (none_any (λ e. bytes_eq (sid_of e) sid) (events_of_outcome l.outcome) p.0) (no_entry sid ls p.1)
 
 -- ---- a key is shared both ways
 

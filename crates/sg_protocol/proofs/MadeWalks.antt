@@ -1,8 +1,7 @@
 -- In each call of a run the walk that is made event by event goes on as the law makes it move by move.
-use Rattle.std.specs.Prelude.{◌≡◌, ℕ, ◌+◌, Bool, true, false, List, [], ◌∷◌, ◌++◌, map, filter, filter_map, flat_map, bytes_eq, refl, Option, Some, None, option_map, Ok}
-use Rattle.std.specs.List.{list_any, AllByRecursion}
+use Rattle.std.specs.Prelude.{◌≡◌, ℕ, ◌+◌, Bool, true, List, [], ◌∷◌, ◌++◌, map, filter, filter_map, flat_map, bytes_eq, refl, Option, Some, None, option_map, Ok}
+use Rattle.std.specs.List.{AllByRecursion}
 use Rattle.std.proofs.Common.{sym, ◌∙◌, ap, subst, inl, inr, append-nil}
-use Rattle.std.proofs.lemmas.Bool.{cases_Bool}
 use Rattle.std.proofs.lemmas.List.{map-append}
 use Rattle.std.proofs.lemmas.Slice.Eq.{bytes_eq-Decides}
 use Rattle.sg_model.specs.Last.{Map, last, after_last}
@@ -11,6 +10,7 @@ use Rattle.sg_model.specs.Values.{Value, Opening, Code}
 use Rattle.sg_model.specs.Names.{Name}
 use Rattle.sg_model.proofs.Small.{no_last}
 use Rattle.sg_model.proofs.Members.{In, split_at_end}
+use Rattle.sg_model.proofs.Finding.{none_filter}
 use Rattle.sg_law.specs.Accept.{TimedLabel}
 use Rattle.sg_law.specs.Last as B
 use Rattle.sg_law.specs.Run as R
@@ -148,11 +148,7 @@ module _ {sha : Hash} {s : Schedule} {sid : List ℕ} {cast : Cast} {g : Graph} 
           (add_none p.moves m (l, walk) made (λ steps. ap (λ es. walk_after_events g honest steps es walk) here_is ∙ e steps))
 
       quiet_case : Quiet sid a → Now
-      quiet_case q = (let none : here ≡ [] = no_event (events_of_answer a) q in made_none (ap (flat_map acts_of_event) none) (λ steps. ap (λ es. walk_after_events g honest steps es walk) none))
-        where
-          no_event : (es : List Event) → list_any (λ e. bytes_eq (sid_of e) sid) es ≡ false → filter (λ e. bytes_eq (sid_of e) sid) es ≡ []
-          no_event [] q = refl
-          no_event (e ∷ es) q = elim (cases_Bool (bytes_eq (sid_of e) sid)) [ inl d ↦ (let f = rw d at q in absurd (cc)) | inr d ↦ rw d (no_event es (rw d at q)) ]
+      quiet_case q = (let none : here ≡ [] = none_filter (λ e. bytes_eq (sid_of e) sid) (events_of_answer a) q in made_none (ap (flat_map acts_of_event) none) (λ steps. ap (λ es. walk_after_events g honest steps es walk) none))
 
       one_event : (e : Event) (b : Answer) → a ≡ b → events_of_answer b ≡ e ∷ [] → sid_of e ≡ sid → here ≡ e ∷ []
       one_event e b q r i = ap (λ z. filter (λ e. bytes_eq (sid_of e) sid) (events_of_answer z)) q ∙ ap (filter (λ e. bytes_eq (sid_of e) sid)) r ∙ (rw ((bytes_eq-Decides (sid_of e) sid).1 i) refl)

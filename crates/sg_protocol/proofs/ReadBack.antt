@@ -9,7 +9,7 @@ use Rattle.std.proofs.lemmas.List.{append_assoc, append-nil, take-append-drop, l
 use Rattle.std.proofs.Math.Facts.{sfits_to_z, Fits-of_lt}
 use Rattle.std.proofs.lemmas.Int.{of_z-to_z}
 use Rattle.std.proofs.Math.Seq.{take-append_seam, drop-append_seam}
-use Rattle.std.proofs.lemmas.Bool.{leb-true, ltb-false, le-ltb, eq-eqb, cases_Bool, and_from}
+use Rattle.std.proofs.lemmas.Bool.{leb-true, ltb-false, le-ltb, eq-eqb, cases_Bool, and_from, not-true}
 use Rattle.std.proofs.lemmas.Nat.{be_bytes_2, be_bytes_4, be_bytes_8}
 use Rattle.sg_model.specs.Last.{Map}
 use Rattle.sg_model.specs.Lists.{rises_from, keys_of}
@@ -19,7 +19,7 @@ use Rattle.sg_protocol.specs.Reading
 use Rattle.sg_protocol.specs.Spelling
 use Rattle.sg_protocol.specs.Frame
 use Rattle.sg_model.specs.Values
-use Rattle.sg_model.proofs.Small.{and_left, and_right}
+use Rattle.sg_model.proofs.Small.{and_left, and_right, clash}
 
 -- ---- bytes
 
@@ -404,11 +404,7 @@ versions x h = elim (cases_Bool (bytes_eq x (Spelling.magic 2))) [
         true_false e = cc
 
 not_same : (m n : ℕ) → not (m == n) ≡ true → m ≡ n → ⊥
-not_same m n h e = clash (m == n) (eq-eqb m n e) h
-  where
-    clash : (b : Bool) → b ≡ true → not b ≡ true → ⊥
-    clash true e h = cc
-    clash false e h = cc
+not_same m n h e = clash (m == n) (eq-eqb m n e) (not-true (m == n) h)
 
 took-version : ReadsBack Reading.read_version Spelling.magic (λ v. (v ≡ 1) ⊎ (v ≡ 2))
 took-version at bs o s h =
