@@ -1,11 +1,12 @@
 -- Ranges of numbers, lists of numbers that rise, and which numbers stand in a list.
-use Rattle.std.proofs.Common.{◌≡◌, ℕ, zero, suc, ◌+◌, ◌<◌, ◌≤◌, ◌==◌, nat_lt, Bool, true, false, not, ◌||◌, List, [], ◌∷◌, ◌++◌, filter, map, length, get_or, refl, sym, ap, ◌∙◌, inl, inr, arith, add-zero, zero-add, add-one, append-nil, subst}
+use Rattle.std.proofs.Common.{◌≡◌, ℕ, zero, suc, ◌+◌, ◌<◌, ◌≤◌, ◌==◌, nat_lt, Bool, true, false, not, ◌||◌, List, [], ◌∷◌, ◌++◌, filter, map, length, get_or, refl, sym, ap, ◌∙◌, inl, inr, arith, add-zero, zero-add, add-one, append-nil, subst, None}
 use Rattle.std.specs.List.{AllByRecursion}
 use Rattle.std.proofs.lemmas.Bool.{cases_Bool, eqb-true, not-true, and_parts}
 use Rattle.std.proofs.lemmas.Bool.Decides.{nat_tests}
 use Rattle.std.proofs.lemmas.List.{map-append}
 use Rattle.std.proofs.lemmas.List.Elements.{filter-append}
-use Rattle.sg_model.specs.Lists.{range_from, below, is_in, rises_from}
+use Rattle.sg_model.specs.Lists.{range_from, below, is_in, rises_from, keys_of, value_at}
+use Rattle.sg_model.specs.Last.{Map}
 use Rattle.sg_model.proofs.Small.{or_false, or_assoc}
 
 -- a range with one number more
@@ -80,3 +81,15 @@ absent least i le (x ∷ xs) h =
     let out : (x == i) ≡ false = grind (arith, nat_tests, here) in
     let up : i < suc x = grind (arith, nat_tests, here) in
     rw out (absent (suc x) i up xs parts.1)
+
+-- a name below those that rise is none of them
+pub low_none : {A : Type 0} (m : Map A) (x n : ℕ) → x < n → rises_from n (keys_of m) ≡ true → value_at m x ≡ None
+low_none [] x n l r = refl
+low_none (w ∷ ws) x n l r =
+    elim (cases_Bool (nat_lt w.0 n)) [
+      | inl e ↦ (let f = rw e at r in absurd (cc))
+      | inr e ↦ elim (cases_Bool (w.0 == x)) [
+        | inl d ↦ absurd (let s : w.0 ≡ x = eqb-true w.0 x d in grind (arith, nat_tests))
+        | inr d ↦ rw d (low_none ws x (suc w.0) (grind (arith, nat_tests)) (rw e at r))
+      ]
+    ]

@@ -3,7 +3,7 @@ use Rattle.std.specs.Prelude.{◌≡◌, ◌≢◌, ℕ, zero, suc, ◌<◌, ◌
 use Rattle.std.specs.List.{AllByRecursion, list_any}
 use Rattle.std.specs.Option.{option_map_or}
 use Rattle.std.proofs.Common.{sym, ◌∙◌, ap, subst, inl, inr, arith}
-use Rattle.std.proofs.lemmas.Bool.{cases_Bool, eqb-true, eq-eqb, ne_eqb, and_from, and_parts, lt-ltb, not-true}
+use Rattle.std.proofs.lemmas.Bool.{cases_Bool, eqb-true, eq-eqb, ne_eqb, and_from, lt-ltb, not-true}
 use Rattle.std.proofs.lemmas.Bool.Decides.{nat_tests}
 use Rattle.std.proofs.lemmas.List.Elements.{All-head, All-tail}
 use Rattle.sg_model.specs.Last.{Map, has, last, after_last}
@@ -13,8 +13,8 @@ use Rattle.sg_model.specs.Limits.{most_joins, most_live}
 use Rattle.sg_model.specs.Names.{Name}
 use Rattle.sg_model.specs.Values.{Opening, Value}
 use Rattle.sg_model.proofs.Small.{clash, same_bytes, bytes_same, first_false, second_false, right_empty, not_empty}
-use Rattle.sg_model.proofs.Members.{In, in_from_Contains, contains_from_in, all_in, in_split, split_in}
-use Rattle.sg_model.proofs.Finding.{find_passes, find_all, found_in, find-filter, in_any}
+use Rattle.sg_model.proofs.Members.{In, in_from_Contains, contains_from_in, all_in, in_split, split_in, rec_in}
+use Rattle.sg_model.proofs.Finding.{found_in, find-filter, in_any}
 use Rattle.sg_protocol.specs.Graph.{Graph, Edge, IsGraph, shape, reads}
 use Rattle.sg_protocol.specs.Evidence.{View, IsView, IsViewTable, same_origin}
 use Rattle.sg_protocol.specs.Targets.{IsTargetTable}
@@ -24,11 +24,11 @@ use Rattle.sg_protocol.specs.Reading.{read}
 use Rattle.sg_protocol.specs.Texts.{Hash, IsHash, graph_digest, session_id}
 use Rattle.sg_protocol.specs.Keyring.{Keyring, Program, key_of, targets_of, may_return}
 use Rattle.sg_protocol.specs.Session.{Session, principal, origin, place, time, at_turn, new_session}
-use Rattle.sg_protocol.specs.Calls.{Refusal, UnknownGraph, BadCast, UnknownPeer, BadSession, Joined, CacheFull, SessionsFull, UnknownSession, NotWaiting, Event, Call, Start, Act, Abandon, Deliver, Happened, Sends, Abandoned, NotStarted, NotActed, NotAbandoned, NotDelivered, ActFault, NotYourTurn, Send, NoSuchLabel, BadValues, TimeSpent}
+use Rattle.sg_protocol.specs.Calls.{Refusal, BadCast, UnknownPeer, BadSession, Joined, CacheFull, SessionsFull, UnknownSession, NotWaiting, Event, Call, Start, Act, Abandon, Deliver, Happened, Sends, Abandoned, NotStarted, NotActed, NotAbandoned, NotDelivered, ActFault, NotYourTurn, Send, NoSuchLabel, BadValues, TimeSpent}
 use Rattle.sg_protocol.specs.Node.{Node, is_for, is_cast, stranger, session_with, session_for, program_for, starter, has_joined}
 use Rattle.sg_protocol.specs.NodeAfter.{is_over}
 use Rattle.sg_protocol.specs.Acting.{answer, acted, sent, is_bad, leaves, rows_of_act}
-use Rattle.sg_protocol.specs.Verdict.{row, seen, rows_of_session, rows_of_join, rows_of_next, join_rows, next_rows, rows, receipt, decided, verdict_on}
+use Rattle.sg_protocol.specs.Verdict.{row, seen, rows_of_session, rows, receipt, decided, verdict_on}
 use Rattle.sg_protocol.specs.Past.{Past, node_of, new_node}
 use Rattle.sg_protocol.specs.Premises.{Premises}
 use Rattle.sg_protocol.specs.Receipts.{IsTaken, WasSent}
@@ -63,6 +63,7 @@ use Rattle.sg_protocol.proofs.Senders.{receipts_are_of_sends, some_event}
 use Rattle.sg_protocol.proofs.Showing.{facts_of, first_progress, agree_first, of_run}
 use Rattle.sg_protocol.proofs.Anew.{keys_stay}
 use Rattle.sg_protocol.proofs.OfSid.{of_sid, for_sid}
+use Rattle.sg_protocol.proofs.NoRows.{rows_next, program_found, starter_found, rows_join}
 
 not_over : (a b : ℕ) → a < b → nat_le b a ≡ false
 not_over a b l = elim (cases_Bool (nat_le b a)) [ inl e ↦ absurd (let m : b ≤ a = grind (arith, nat_tests) in omega (arith, l, m)) | inr e ↦ e ]
@@ -197,7 +198,7 @@ module _ (sha : Hash) (hash : IsHash sha) (s : Schedule) (ps : List Past) (cours
   same_key a b l m ne = pairs_hold (key_at w0) first.cast.names agree (principal first.cast a) (principal first.cast b) (in_at first.cast.names a l) (in_at first.cast.names b m) (λ e. ne (one_index first.cast.names a b first.differ l m e))
 
   is_program : (xs : List Program) → Own_ xs → (r : ℕ) (p : Program) → program_for xs first.cast.graph r ≡ Some p → IsProgram sha p
-  is_program xs own r p e = (find_all (λ (p : Program). bytes_eq p.digest first.cast.graph && (p.role == r)) (λ (q : Program). IsProgram sha q × In s.graphs q.graph) xs p own e).0
+  is_program xs own r p e = (rec_in (λ (q : Program). IsProgram sha q × In s.graphs q.graph) xs p own (program_found xs first.cast.graph r p e).2).0
 
   same_targets : (xs : List Program) → Own_ xs → (r : ℕ) (p : Program) → program_for xs first.cast.graph r ≡ Some p → (e : ℕ) → targets_of p e ≡ targets_of first.program e
   same_targets xs own r p q e = one_table g p.targets first.program.targets (subst (λ z. IsTargetTable z p.targets) (prog xs own r p q).0 (is_program xs own r p q).targets) tp.targets e
@@ -207,10 +208,10 @@ module _ (sha : Hash) (hash : IsHash sha) (s : Schedule) (ps : List Past) (cours
 
   starts : (xs : List Program) → Own_ xs → (p : Program) → starter xs first.cast.graph ≡ Some p → role_at (shape first.program.graph) 0 ≡ p.role
   starts xs own p e =
-      let h = and_parts (bytes_eq p.digest first.cast.graph) (p.role == role_at (shape p.graph) 0) (find_passes (λ (p : Program). bytes_eq p.digest first.cast.graph && (p.role == role_at (shape p.graph) 0)) xs p e) in
-      let ip = find_all (λ (p : Program). bytes_eq p.digest first.cast.graph && (p.role == role_at (shape p.graph) 0)) (λ (q : Program). IsProgram sha q × In s.graphs q.graph) xs p own e in
-      let q : p.graph ≡ first.program.graph = W.same_digest sha hash s ps course is_course sid premises first p.graph first.program.graph ip.1 (first.own).1 (sym (ip.0).digest ∙ same_bytes p.digest first.cast.graph h.0 ∙ sym first.digest ∙ tp.digest) in
-      ap (λ z. role_at (shape z) 0) (sym q) ∙ sym (eqb-true p.role (role_at (shape p.graph) 0) h.1)
+      let h = starter_found xs first.cast.graph p e in
+      let ip = rec_in (λ (q : Program). IsProgram sha q × In s.graphs q.graph) xs p own h.2 in
+      let q : p.graph ≡ first.program.graph = W.same_digest sha hash s ps course is_course sid premises first p.graph first.program.graph ip.1 (first.own).1 (sym (ip.0).digest ∙ h.0 ∙ sym first.digest ∙ tp.digest) in
+      ap (λ z. role_at (shape z) 0) (sym q) ∙ sym h.1
 
   was_sent_ : (l : Logged) (who : Name) (bs : List ℕ) (f : Frame) → IsTaken (run_of sha ps course) l who bs f → f.sid ≡ sid → honest_role s first.cast f.sender ≡ true → In first.cast.names who → In first.cast.names (principal first.cast f.sender) → WasSent (run_of sha ps course) l.number (principal first.cast f.sender) bs f
   was_sent_ l who bs f t q h i j = (receipts_are_of_sends sha hash s ps course is_course premises l who bs f first.cast t (ap (λ z. cast_of_session z (run_of sha ps course).log) q ∙ first.is_cast) h).1
@@ -536,9 +537,7 @@ module _ (sha : Hash) (hash : IsHash sha) (s : Schedule) (ps : List Past) (cours
         let found : session_for n.live f ≡ Some x = sym (find-filter (is_for f) (of_sid sid) (λ z e. own z e) n.live) ∙ ap (find (is_for f)) alone ∙ rw for_x refl in
         let prog_x : program_for n.programs x.cast.graph x.role ≡ Some the_p.0 = ap (λ (c : Cast). program_for n.programs c.graph x.role) ok.same_cast ∙ ap (program_for n.programs first.cast.graph) role ∙ program_n in
         let rs = rows_of_ x ok.same_sid ok.same_cast role ok.relay wt in
-        ap (λ o. first_some (option_map_or (join_rows sha n f) o (next_rows sha n f))) jn
-        ∙ ap (λ o. first_some (option_map_or (λ z. option_map_or (rows_of_next sha n f z) (program_for n.programs z.cast.graph z.role) (Some UnknownSession ∷ [])) o (Some UnknownSession ∷ []))) found
-        ∙ ap (λ o. first_some (option_map_or (rows_of_next sha n f x) o (Some UnknownSession ∷ []))) prog_x
+        rows_next sha n f x jn found (Some the_p.0) prog_x
         ∙ ap (λ b. first_some (row b NotWaiting ∷ rows_of_session sha n.keys the_p.0 x f)) (subst (λ z. at_turn z x ≡ false) (sym p_graph) wt) ∙ rs.rows_
       where
         own : (z : Session) → is_for f z ≡ true → of_sid sid z ≡ true
@@ -584,8 +583,7 @@ module _ (sha : Hash) (hash : IsHash sha) (s : Schedule) (ps : List Past) (cours
         and_from _ (bytes_eq (principal first.cast f.receiver) n.keys.me) (and_from _ (nat_lt f.receiver (length first.cast.names)) (and_from (length first.cast.names == length (the_p.0).graph.roles) (all_differ first.cast.names) (eq-eqb (length first.cast.names) (length (the_p.0).graph.roles) (first.lengths ∙ ap (λ (z : Graph). length z.roles) (sym p_graph))) first.differ) (lt-ltb f.receiver (length first.cast.names) r_in))
         (bytes_same (principal first.cast f.receiver) n.keys.me (who_is ∙ sym n_me)) in
         let stranger_ok : stranger n.keys first.cast ≡ None = ap (λ z. stranger z first.cast) keys_of_past ∙ ap (stranger past.keys) (sym cast_aw) ∙ aw.covered in
-        ap (λ o. first_some (option_map_or (join_rows sha n f) o (next_rows sha n f))) jn
-        ∙ ap (λ o. first_some (option_map_or (rows_of_join sha n f first.cast) o (Some UnknownGraph ∷ []))) program_n
+        rows_join sha n f first.cast jn (Some the_p.0) program_n
         ∙ all_none (rows_of_session sha n.keys the_p.0 (new_session f.sid first.cast f.receiver) f) (row (not (is_cast n.keys (the_p.0).graph first.cast f.receiver && nat_lt f.sender (length first.cast.names))) BadCast) (option_map UnknownPeer (stranger n.keys first.cast)) (row (not (bytes_eq f.sid (session_id sha first.cast))) BadSession) (row (has_joined n.joins f.sid f.receiver) Joined) (row (nat_le 65536 (length n.joins)) CacheFull) (row (nat_le 4096 (length n.live)) SessionsFull)
         (ap (λ b. row (not b) BadCast) (and_from (is_cast n.keys (the_p.0).graph first.cast f.receiver) (nat_lt f.sender (length first.cast.names)) cast_ok (lt-ltb f.sender (length first.cast.names) sender_small)))
         (ap (option_map UnknownPeer) stranger_ok)

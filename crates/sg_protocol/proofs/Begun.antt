@@ -1,41 +1,38 @@
 -- The first event of a session, at whichever node, starts or joins it.
-use Rattle.std.specs.Prelude.{◌≡◌, ℕ, ◌==◌, nat_lt, nat_le, ◌&&◌, ◌⊎◌, Bool, true, false, not, List, [], ◌∷◌, ◌++◌, filter, length, find, bytes_eq, refl, Option, Some, None, option_map, IfSome}
+use Rattle.std.specs.Prelude.{◌≡◌, ℕ, ◌==◌, nat_lt, ◌⊎◌, Bool, true, false, List, [], ◌∷◌, ◌++◌, filter, length, find, bytes_eq, refl, Option, Some, None}
 use Rattle.std.specs.List.{list_any}
 use Rattle.std.specs.Option.{option_map_or}
 use Rattle.std.proofs.Common.{sym, ◌∙◌, ap, subst, inl, inr}
-use Rattle.std.proofs.lemmas.Bool.{eqb-true, cases_Bool, and_parts, not-false}
+use Rattle.std.proofs.lemmas.Bool.{eqb-true, cases_Bool, and_parts}
 use Rattle.std.proofs.lemmas.Slice.Eq.{bytes_eq-Decides}
 use Rattle.sg_model.specs.Last.{Map, last}
 use Rattle.sg_model.specs.Lists.{first_some, all_differ}
-use Rattle.sg_model.specs.Shape.{role_at}
 use Rattle.sg_model.specs.Values.{Value}
-use Rattle.sg_protocol.specs.Graph.{Graph, shape}
+use Rattle.sg_protocol.specs.Graph.{Graph}
 use Rattle.sg_protocol.specs.Frame.{Cast, Item, Frame}
 use Rattle.sg_protocol.specs.Spelling.{HasSpelling}
 use Rattle.sg_protocol.specs.Texts.{Hash, session_id, session_text_of}
-use Rattle.sg_protocol.specs.TextLaws.{IsVersion, CastFits}
+use Rattle.sg_protocol.specs.TextLaws.{CastFits}
 use Rattle.sg_protocol.specs.Keyring.{Keyring, Program}
 use Rattle.sg_protocol.specs.Session.{Session, Took, Gave, principal, extended, new_session}
-use Rattle.sg_protocol.specs.Calls.{Refusal, ActFault, Started, Call, Start, Act, Abandon, Deliver, Answer, Happened, Abandoned, NotStarted, NotActed, NotAbandoned, StartFault, UnknownGraph, UnknownSession, BadCast, BadSession, UnknownPeer, Joined, CacheFull, SessionsFull, events_of_answer, sid_of}
-use Rattle.sg_protocol.specs.Verdict.{row, rows_of_session, decided, receipt, verdict_on, rows_of_join, rows_of_next, join_rows, next_rows, rows}
-use Rattle.sg_protocol.proofs.Moves.{row_none}
+use Rattle.sg_protocol.specs.Calls.{Refusal, ActFault, Started, Call, Start, Act, Abandon, Deliver, Answer, Happened, Abandoned, NotStarted, NotActed, NotAbandoned, StartFault, UnknownGraph, UnknownSession, events_of_answer, sid_of}
+use Rattle.sg_protocol.specs.Verdict.{decided, receipt, verdict_on, rows_of_join, rows_of_next, join_rows, next_rows, rows}
 use Rattle.sg_protocol.specs.Sending.{frame_sent}
 use Rattle.sg_protocol.specs.Acting.{rows_of_act, openings_for, answer, started, acted, sent, rows_of_start}
-use Rattle.sg_protocol.specs.Notes.{Notes, notes, notes_of_start, notes_of_read, hashed_of_join, row_number}
+use Rattle.sg_protocol.specs.Notes.{Notes, notes, notes_of_start, notes_of_read}
 use Rattle.std.specs.Prelude.{Result, Ok, Err, option_and_then}
 use Rattle.sg_model.specs.Bytes.{IsBytes}
-use Rattle.sg_model.proofs.Small.{same_bytes, none_parts}
-use Rattle.sg_model.proofs.Members.{In, in_left}
-use Rattle.sg_model.proofs.Finding.{find_passes, found_in, nil_none, find-filter}
+use Rattle.sg_model.proofs.Small.{same_bytes}
+use Rattle.sg_model.proofs.Members.{In}
+use Rattle.sg_model.proofs.Finding.{find_passes, nil_none, find-filter}
 use Rattle.sg_protocol.specs.Reading.{read}
-use Rattle.sg_protocol.specs.Node.{Node, is_for, is_cast, stranger, session_with, session_for, has_joined, program_for, starter}
+use Rattle.sg_protocol.specs.Node.{Node, is_for, is_cast, session_with, session_for, program_for, starter}
 use Rattle.sg_protocol.specs.NodeAfter.{node_after, joined, goes_on, replace, still, takes_read}
-use Rattle.sg_protocol.specs.Frame as Frame'
-use Rattle.sg_protocol.proofs.TextLaws.{cast_fits}
 use Rattle.sg_protocol.proofs.ReadBack.{read-SpellsFrame}
 use Rattle.sg_protocol.specs.Run.{cast_in}
 use Rattle.sg_protocol.proofs.Happenings.{IsGiven, cast_given}
 use Rattle.sg_protocol.proofs.OfSid.{of_sid, replace-other, replace-own, still-other, for_sid}
+use Rattle.sg_protocol.proofs.NoRows.{JoinRows, no_start_row, no_join_row, rows_join, text_hashed, join_fits, program_found, starter_found}
 use Rattle.std.specs.Result.{result_ok}
 use Rattle.std.proofs.lemmas.List.Elements.{filter-append}
 
@@ -70,7 +67,6 @@ module _ (sha : Hash) (sid : List ℕ) where
     start_done : (c : Cast) → CastFits c → (p : Program) → starter n.programs c.graph ≡ Some p → first_some (rows_of_start n p (session_id sha c) c) ≡ None → Either n (Start c) (Happened (Started (session_id sha c) p.role)) (record { made = []; found = []; hashed = session_text_of c ∷ [] })
     start_done c fits p sp e = elim (cases_Bool (bytes_eq (session_id sha c) sid)) [
       | inl h ↦
-          let one = none_parts (row (not (is_cast n.keys p.graph c p.role)) StartFault.BadCast) (option_map StartFault.UnknownPeer (stranger n.keys c) ∷ row (has_joined n.joins (session_id sha c) p.role) StartFault.Joined ∷ row (nat_le 65536 (length n.joins)) StartFault.CacheFull ∷ row (nat_le 4096 (length n.live)) StartFault.SessionsFull ∷ []) e in
           inr record {
             cast = c;
             has_event = rw h refl;
@@ -79,10 +75,10 @@ module _ (sha : Hash) (sid : List ℕ) where
             fits = fits;
             is_hashed = inl refl;
             program = p;
-            there = (found_in (λ (p : Program). bytes_eq p.digest c.graph && (p.role == role_at (shape p.graph) 0)) n.programs p sp);
-            digest = same_bytes p.digest c.graph (and_parts (bytes_eq p.digest c.graph) (p.role == role_at (shape p.graph) 0) (find_passes (λ (p : Program). bytes_eq p.digest c.graph && (p.role == role_at (shape p.graph) 0)) n.programs p sp)).0;
-            differ = cast_differ n.keys p.graph c p.role (not-false (is_cast n.keys p.graph c p.role) (row_none _ _ one.0));
-            lengths = cast_length n.keys p.graph c p.role (not-false (is_cast n.keys p.graph c p.role) (row_none _ _ one.0));
+            there = (starter_found n.programs c.graph p sp).2;
+            digest = (starter_found n.programs c.graph p sp).0;
+            differ = cast_differ n.keys p.graph c p.role (no_start_row sha n c p e).cast;
+            lengths = cast_length n.keys p.graph c p.role (no_start_row sha n c p e).cast;
           }
       | inr h ↦ inl (rw h refl, filter-append (of_sid sid) n.live (still n.programs (new_session (session_id sha c) c p.role)) ∙ ap (λ l. l ++ filter (of_sid sid) (still n.programs (new_session (session_id sha c) c p.role))) quiet ∙ still-other sid n.programs (new_session (session_id sha c) c p.role) h)
     ]
@@ -152,31 +148,24 @@ module _ (sha : Hash) (sid : List ℕ) where
 
       join_first : first_some (rows sha n f) ≡ None → f.sid ≡ sid → (c : Cast) → f.join ≡ Some c → (p : Program) → program_for n.programs c.graph f.receiver ≡ Some p → first_some (rows_of_join sha n f c p) ≡ None → BegunBy n (Deliver bs) (Happened (receipt f)) (notes_of_read sha n (Ok f))
       join_first e fs c jc p pc rj =
-          let x : Session = new_session f.sid c f.receiver in
-          let r1 = none_parts (row (not (is_cast n.keys p.graph c f.receiver && nat_lt f.sender (length c.names))) BadCast) (option_map UnknownPeer (stranger n.keys c) ∷ row (not (bytes_eq f.sid (session_id sha c))) BadSession ∷ row (has_joined n.joins f.sid f.receiver) Joined ∷ row (nat_le 65536 (length n.joins)) CacheFull ∷ row (nat_le 4096 (length n.live)) SessionsFull ∷ rows_of_session sha n.keys p x f) rj in
-          let r2 = none_parts (option_map UnknownPeer (stranger n.keys c)) (row (not (bytes_eq f.sid (session_id sha c))) BadSession ∷ row (has_joined n.joins f.sid f.receiver) Joined ∷ row (nat_le 65536 (length n.joins)) CacheFull ∷ row (nat_le 4096 (length n.live)) SessionsFull ∷ rows_of_session sha n.keys p x f) r1.1 in
-          let r3 = none_parts (row (not (bytes_eq f.sid (session_id sha c))) BadSession) (row (has_joined n.joins f.sid f.receiver) Joined ∷ row (nat_le 65536 (length n.joins)) CacheFull ∷ row (nat_le 4096 (length n.live)) SessionsFull ∷ rows_of_session sha n.keys p x f) r2.1 in
-          let co = subst (λ o. IfSome o (Frame'.IsCastOf f.version)) jc spelled.fields.join in
+          let r : JoinRows sha n f c p = no_join_row sha n f c p rj in
           record {
             cast = c;
             has_event = rw ((bytes_eq-Decides f.sid sid).1 fs) refl;
             in_call = ap (λ r. option_and_then (λ (f : Frame). f.join) (result_ok r)) is_read ∙ jc;
-            sid_is = sym (same_bytes f.sid (session_id sha c) (not-false (bytes_eq f.sid (session_id sha c)) (row_none _ _ r3.0))) ∙ fs;
-            fits = cast_fits c (subst IsVersion (sym co.version) spelled.fields.version) (subst (λ v. Frame'.IsCastOf v c) (sym co.version) co);
-            is_hashed = in_left (hashed_of_join f (row_number (first_some (rows sha n f)))) _ (session_text_of c) (subst (λ o. In (hashed_of_join f (row_number o)) (session_text_of c)) (sym e) (subst (λ o. In (option_map_or (λ c. session_text_of c ∷ []) o []) (session_text_of c)) (sym jc) (inl refl)));
+            sid_is = sym r.sid ∙ fs;
+            fits = join_fits sha n f c jc spelled;
+            is_hashed = text_hashed sha n f c jc e;
             program = p;
-            there = (found_in (λ (p : Program). bytes_eq p.digest c.graph && (p.role == f.receiver)) n.programs p pc);
-            digest = same_bytes p.digest c.graph (and_parts (bytes_eq p.digest c.graph) (p.role == f.receiver) (find_passes (λ (p : Program). bytes_eq p.digest c.graph && (p.role == f.receiver)) n.programs p pc)).0;
-            differ = cast_differ n.keys p.graph c f.receiver (and_parts (is_cast n.keys p.graph c f.receiver) (nat_lt f.sender (length c.names)) (not-false (is_cast n.keys p.graph c f.receiver && nat_lt f.sender (length c.names)) (row_none _ _ r1.0))).0;
-            lengths = cast_length n.keys p.graph c f.receiver (and_parts (is_cast n.keys p.graph c f.receiver) (nat_lt f.sender (length c.names)) (not-false (is_cast n.keys p.graph c f.receiver && nat_lt f.sender (length c.names)) (row_none _ _ r1.0))).0;
+            there = (program_found n.programs c.graph f.receiver p pc).2;
+            digest = (program_found n.programs c.graph f.receiver p pc).0;
+            differ = cast_differ n.keys p.graph c f.receiver r.cast;
+            lengths = cast_length n.keys p.graph c f.receiver r.cast;
           }
 
-      rows_join : (c : Cast) → f.join ≡ Some c → (o : Option Program) → program_for n.programs c.graph f.receiver ≡ o → first_some (rows sha n f) ≡ first_some (option_map_or (rows_of_join sha n f c) o (Some UnknownGraph ∷ []))
-      rows_join c jc o pc = ap (λ o. first_some (option_map_or (join_rows sha n f) o (next_rows sha n f))) jc ∙ ap (λ o. first_some (option_map_or (rows_of_join sha n f c) o (Some UnknownGraph ∷ []))) pc
-
       by_program : first_some (rows sha n f) ≡ None → f.sid ≡ sid → (c : Cast) → f.join ≡ Some c → (o : Option Program) → program_for n.programs c.graph f.receiver ≡ o → BegunBy n (Deliver bs) (Happened (receipt f)) (notes_of_read sha n (Ok f))
-      by_program e fs c jc None pc = (let q : first_some (rows sha n f) ≡ Some UnknownGraph = rows_join c jc None pc in absurd (cc))
-      by_program e fs c jc (Some p) pc = join_first e fs c jc p pc (sym (rows_join c jc (Some p) pc) ∙ e)
+      by_program e fs c jc None pc = (let q : first_some (rows sha n f) ≡ Some UnknownGraph = rows_join sha n f c jc None pc in absurd (cc))
+      by_program e fs c jc (Some p) pc = join_first e fs c jc p pc (sym (rows_join sha n f c jc (Some p) pc) ∙ e)
 
       by_join : first_some (rows sha n f) ≡ None → f.sid ≡ sid → (o : Option Cast) → f.join ≡ o → BegunBy n (Deliver bs) (Happened (receipt f)) (notes_of_read sha n (Ok f))
       by_join e fs None jn =

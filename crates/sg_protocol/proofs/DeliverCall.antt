@@ -1,10 +1,10 @@
 -- What a frame that is delivered is to the law.
 use Rattle.sg_law.specs.Accept.{TimedLabel}
-use Rattle.std.specs.Prelude.{◌≡◌, ℕ, ◌<◌, ◌==◌, nat_lt, nat_le, ◌&&◌, ◌⊎◌, Bool, true, false, not, List, [], ◌∷◌, ◌++◌, map, filter, flat_map, length, bytes_eq, refl, Option, Some, None, option_map, unwrap_or, IfSome}
+use Rattle.std.specs.Prelude.{◌≡◌, ℕ, ◌<◌, ◌==◌, ◌⊎◌, Bool, true, false, List, [], ◌∷◌, ◌++◌, map, filter, flat_map, length, bytes_eq, refl, Option, Some, None, option_map, unwrap_or}
 use Rattle.std.specs.List.{list_all, AllByRecursion}
 use Rattle.std.specs.Option.{option_map_or}
 use Rattle.std.proofs.Common.{sym, ◌∙◌, ap, subst, inl, inr, append-nil}
-use Rattle.std.proofs.lemmas.Bool.{eqb-true, eq-eqb, cases_Bool, and_parts, not-false}
+use Rattle.std.proofs.lemmas.Bool.{eqb-true, eq-eqb, cases_Bool, and_parts}
 use Rattle.std.proofs.lemmas.Slice.Eq.{bytes_eq-Decides}
 use Rattle.sg_model.specs.Last.{has, last, up_to_last}
 use Rattle.sg_model.specs.Lists.{first_some}
@@ -15,11 +15,11 @@ use Rattle.sg_protocol.specs.Graph.{Graph, IsGraph, shape}
 use Rattle.sg_protocol.specs.Evidence.{IsView, IsViewTable}
 use Rattle.sg_protocol.specs.Frame.{Cast, Item, Frame, IsOpening}
 use Rattle.sg_protocol.specs.Spelling.{HasSpelling}
-use Rattle.sg_protocol.specs.Texts.{Hash, commitment, commitment_text_of, session_id, session_text_of}
-use Rattle.sg_protocol.specs.TextLaws.{IsVersion, CastFits, OpeningFits}
+use Rattle.sg_protocol.specs.Texts.{Hash, commitment, commitment_text_of, session_text_of}
+use Rattle.sg_protocol.specs.TextLaws.{OpeningFits}
 use Rattle.sg_protocol.specs.Keyring.{Program}
 use Rattle.sg_protocol.specs.Session.{Session, Took, principal, items_of, origin, place, at_turn, last_label, extended, new_session}
-use Rattle.sg_protocol.specs.Calls.{Refusal, Deliver, Happened, NotDelivered, UnknownGraph, UnknownSession, NotWaiting, BadCast, BadSession, UnknownPeer, Joined, CacheFull, SessionsFull, Malformed}
+use Rattle.sg_protocol.specs.Calls.{Refusal, Deliver, Happened, NotDelivered, UnknownGraph, UnknownSession, NotWaiting, Malformed}
 use Rattle.sg_protocol.specs.Verdict.{row, rows_of_session, is_right, seen, decided, receipt, verdict_on, rows_of_join, rows_of_next, join_rows, next_rows, rows}
 use Rattle.sg_protocol.specs.Notes.{Note, notes_in_session, Notes, notes, no_notes, notes_of_read, session_of_frame, hashed_of_join, hashed_openings, row_number}
 use Rattle.sg_protocol.specs.Walk.{is_typed_or_hidden, shown}
@@ -35,18 +35,17 @@ use Rattle.sg_protocol.proofs.Bridge.{has_view-Contains}
 use Rattle.sg_protocol.proofs.Entries.{entry, entries, Roles}
 use Rattle.sg_protocol.proofs.Moves.{NoteOk, Matches, row_none}
 use Rattle.sg_protocol.specs.Acting.{answer}
-use Rattle.std.specs.Prelude.{Result, Ok, Err, option_and_then}
+use Rattle.std.specs.Prelude.{Result, Ok, Err}
 use Rattle.sg_model.specs.Bytes.{IsBytes}
 use Rattle.sg_model.proofs.Small.{none_parts, same_bytes, none_some}
-use Rattle.sg_model.proofs.Members.{In, in_left, in_right, in_map}
+use Rattle.sg_model.proofs.Members.{In, in_right, in_map}
 use Rattle.sg_model.proofs.Finding.{find_passes}
 use Rattle.sg_protocol.specs.Reading.{read}
-use Rattle.sg_protocol.specs.Node.{Node, is_for, is_cast, stranger, session_for, has_joined, program_for}
+use Rattle.sg_protocol.specs.Node.{Node, is_for, session_for, has_joined, program_for}
 use Rattle.sg_protocol.specs.NodeAfter.{node_after, joined, goes_on, still, takes_read}
 use Rattle.sg_protocol.specs.Walk as Walk'
-use Rattle.sg_protocol.specs.Frame as Frame'
 use Rattle.sg_protocol.proofs.Paths.{acts_of}
-use Rattle.sg_protocol.proofs.TextLaws.{cast_fits, opening_fits}
+use Rattle.sg_protocol.proofs.TextLaws.{opening_fits}
 use Rattle.sg_protocol.proofs.ReadBack.{read-SpellsFrame}
 use Rattle.sg_protocol.proofs.Entries.{not_start}
 use Rattle.sg_protocol.proofs.KnownSession.{SessionOfCast}
@@ -55,6 +54,7 @@ use Rattle.sg_protocol.proofs.Finding.{one_index, joined_more, joined_less, join
 use Rattle.sg_protocol.proofs.Calls.{transcript_in, quiet_event, Fresh, NodeOk, TakesFrame, Out}
 use Rattle.sg_protocol.proofs.AfterCalls.{still_lengths, replace_lengths, cast_parts, event_other, joined_other, kept_takes, new_matches, transcript_step, join_now, goes_now, join_status, goes_status, other_status, nothing, no_two, joined_ok, other_joined, the_session}
 use Rattle.sg_protocol.proofs.OfSid.{of_sid, replace-other, still-own, still-other, for_sid}
+use Rattle.sg_protocol.proofs.NoRows.{JoinRows, no_join_row, joining_session, continued_session, text_hashed, join_fits, rows_join, rows_next}
 
 ok_same : (r : Result Frame ℕ) (f f' : Frame) → r ≡ Ok f → r ≡ Ok f' → f ≡ f'
 ok_same r f f' a b = cc
@@ -256,22 +256,13 @@ module _ {sha : Hash} {programs : List Program} {sid : List ℕ} {cast : Cast} {
       join_done : first_some (rows sha n f) ≡ None → f.sid ≡ sid → (c : Cast) → f.join ≡ Some c → (p : Program) → program_for n.programs c.graph f.receiver ≡ Some p → first_some (rows_of_join sha n f c p) ≡ None → Out known s LeftBy st who n (Deliver bs) (Happened (receipt f)) (notes_of_read sha n (Ok f))
       join_done e fs c jc p pc rj =
           let x : Session = new_session f.sid c f.receiver in
-          let r1 = none_parts (row (not (is_cast n.keys p.graph c f.receiver && nat_lt f.sender (length c.names))) BadCast) (option_map UnknownPeer (stranger n.keys c) ∷ row (not (bytes_eq f.sid (session_id sha c))) BadSession ∷ row (has_joined n.joins f.sid f.receiver) Joined ∷ row (nat_le 65536 (length n.joins)) CacheFull ∷ row (nat_le 4096 (length n.live)) SessionsFull ∷ rows_of_session sha n.keys p x f) rj in
-          let r2 = none_parts (option_map UnknownPeer (stranger n.keys c)) (row (not (bytes_eq f.sid (session_id sha c))) BadSession ∷ row (has_joined n.joins f.sid f.receiver) Joined ∷ row (nat_le 65536 (length n.joins)) CacheFull ∷ row (nat_le 4096 (length n.live)) SessionsFull ∷ rows_of_session sha n.keys p x f) r1.1 in
-          let r3 = none_parts (row (not (bytes_eq f.sid (session_id sha c))) BadSession) (row (has_joined n.joins f.sid f.receiver) Joined ∷ row (nat_le 65536 (length n.joins)) CacheFull ∷ row (nat_le 4096 (length n.live)) SessionsFull ∷ rows_of_session sha n.keys p x f) r2.1 in
-          let r4 = none_parts (row (has_joined n.joins f.sid f.receiver) Joined) (row (nat_le 65536 (length n.joins)) CacheFull ∷ row (nat_le 4096 (length n.live)) SessionsFull ∷ rows_of_session sha n.keys p x f) r3.1 in
-          let r5 = none_parts (row (nat_le 65536 (length n.joins)) CacheFull) (row (nat_le 4096 (length n.live)) SessionsFull ∷ rows_of_session sha n.keys p x f) r4.1 in
-          let r6 = none_parts (row (nat_le 4096 (length n.live)) SessionsFull) (rows_of_session sha n.keys p x f) r5.1 in
-          let rs : T.Rows sha n.keys p x f = T.rows_of sha n.keys p x f r6.1 in
-          let sess : session_of_frame n f ≡ Some (p, x) = ap (λ o. option_and_then (λ (z : Session). option_map (λ (q : Program). (q, z)) (program_for n.programs z.cast.graph z.role)) (option_map_or (λ c. Some (new_session f.sid c f.receiver)) o (session_for n.live f))) jc ∙ ap (λ o. option_map (λ (q : Program). (q, x)) o) pc in
+          let r : JoinRows sha n f c p = no_join_row sha n f c p rj in
+          let rs : T.Rows sha n.keys p x f = T.rows_of sha n.keys p x f r.rows in
+          let sess : session_of_frame n f ≡ Some (p, x) = joining_session sha n f c jc p pc in
           let nts : notes_of_read sha n (Ok f) ≡ nts_of 16 (Some (p, x)) = notes_are e (p, x) sess in
-          let of_c : session_id sha c ≡ sid = sym (same_bytes f.sid (session_id sha c) (not-false (bytes_eq f.sid (session_id sha c)) (row_none _ _ r3.0))) ∙ fs in
-          let co = subst (λ o. IfSome o (Frame'.IsCastOf f.version)) jc spelled.fields.join in
-          let fits : CastFits c = cast_fits c (subst IsVersion (sym co.version) spelled.fields.version) (subst (λ v. Frame'.IsCastOf v c) (sym co.version) co) in
-          let in_hashed : In (notes_of_read sha n (Ok f)).hashed (session_text_of c) = subst (λ (z : Notes). In z.hashed (session_text_of c)) (sym nts) (in_left (hashed_of_join f 16) (nts_in 16 (Some (p, x))).hashed (session_text_of c) (subst (λ o. In (option_map_or (λ c. session_text_of c ∷ []) o []) (session_text_of c)) (sym jc) (inl refl))) in
-          let its : c ≡ cast = known.one_cast c fits (hs (session_text_of c) in_hashed) of_c in
-          let cp = cast_parts n.keys p.graph c f.receiver (and_parts (is_cast n.keys p.graph c f.receiver) (nat_lt f.sender (length c.names)) (not-false (is_cast n.keys p.graph c f.receiver && nat_lt f.sender (length c.names)) (row_none _ _ r1.0))).0 in
-          let free : has_joined n.joins sid f.receiver ≡ false = subst (λ z. has_joined n.joins z f.receiver ≡ false) fs (row_none _ _ r4.0) in
+          let its : c ≡ cast = known.one_cast c (join_fits sha n f c jc spelled) (hs (session_text_of c) (text_hashed sha n f c jc e)) (sym r.sid ∙ fs) in
+          let cp = cast_parts n.keys p.graph c f.receiver r.cast in
+          let free : has_joined n.joins sid f.receiver ≡ false = subst (λ z. has_joined n.joins z f.receiver ≡ false) fs r.unjoined in
           let is_who : principal cast f.receiver ≡ who = subst (λ (z : Cast). principal z f.receiver ≡ who) its (cp.1 ∙ ok.me) in
           let inside : f.receiver < length cast.names = subst (λ (z : Cast). f.receiver < length z.names) its cp.0 in
           let fresh : Fresh known s LeftBy st who n = no_two known s LeftBy st who n f.receiver ok.status is_who inside free in
@@ -306,8 +297,7 @@ module _ {sha : Hash} {programs : List Program} {sid : List ℕ} {cast : Cast} {
           let rs : T.Rows sha n.keys p x f = T.rows_of sha n.keys p x f r1.1 in
           let wait : at_turn g x ≡ false = subst (λ z. at_turn z x ≡ false) pr.0 (row_none _ _ r1.0) in
           let role : f.receiver ≡ x.role = sym (eqb-true x.role f.receiver (and_parts (bytes_eq x.sid f.sid) (x.role == f.receiver) (and_parts _ (x.cast.version == f.version) (find_passes (is_for f) n.live x sx)).0).1) in
-          let sess : session_of_frame n f ≡ Some (p, x) = ap (λ o. option_and_then (λ (z : Session). option_map (λ (q : Program). (q, z)) (program_for n.programs z.cast.graph z.role)) (option_map_or (λ c. Some (new_session f.sid c f.receiver)) o (session_for n.live f))) jn
-          ∙ ap (λ o. option_and_then (λ (z : Session). option_map (λ (q : Program). (q, z)) (program_for n.programs z.cast.graph z.role)) o) sx ∙ ap (λ o. option_map (λ (q : Program). (q, x)) o) px in
+          let sess : session_of_frame n f ≡ Some (p, x) = continued_session sha n f x jn sx p px in
           let nts : notes_of_read sha n (Ok f) ≡ nts_of 16 (Some (p, x)) = notes_are e (p, x) sess in
           let t : TakenAt g x = taken_at x p pr.0 pr.1 m wait fs role rs (λ nt i. founds nt (subst (λ (z : Notes). In z.found nt) (sym nts) i)) in
           subst (Out known s LeftBy st who n (Deliver bs) (Happened (receipt f))) (sym nts)
@@ -324,15 +314,12 @@ module _ {sha : Hash} {programs : List Program} {sid : List ℕ} {cast : Cast} {
           (λ r j. subst (λ (m : Node). has_joined m.joins sid r ≡ true) (sym (ap (takes_read n) is_read ∙ ap nexts jn)) j))
 
       join_program : first_some (rows sha n f) ≡ None → f.sid ≡ sid → (c : Cast) → f.join ≡ Some c → (o : Option Program) → program_for n.programs c.graph f.receiver ≡ o → Out known s LeftBy st who n (Deliver bs) (Happened (receipt f)) (notes_of_read sha n (Ok f))
-      join_program e fs c jc None pc = (let q : first_some (rows sha n f) ≡ Some UnknownGraph = ap (λ o. first_some (option_map_or (join_rows sha n f) o (next_rows sha n f))) jc ∙ ap (λ o. first_some (option_map_or (rows_of_join sha n f c) o (Some UnknownGraph ∷ []))) pc in absurd (cc))
-      join_program e fs c jc (Some p) pc = join_done e fs c jc p pc (sym (ap (λ o. first_some (option_map_or (join_rows sha n f) o (next_rows sha n f))) jc ∙ ap (λ o. first_some (option_map_or (rows_of_join sha n f c) o (Some UnknownGraph ∷ []))) pc) ∙ e)
-
-      next_rows_are : (x : Session) → f.join ≡ None → session_for n.live f ≡ Some x → first_some (rows sha n f) ≡ first_some (option_map_or (rows_of_next sha n f x) (program_for n.programs x.cast.graph x.role) (Some UnknownSession ∷ []))
-      next_rows_are x jn sx = ap (λ o. first_some (option_map_or (join_rows sha n f) o (next_rows sha n f))) jn ∙ ap (λ o. first_some (option_map_or (λ z. option_map_or (rows_of_next sha n f z) (program_for n.programs z.cast.graph z.role) (Some UnknownSession ∷ [])) o (Some UnknownSession ∷ []))) sx
+      join_program e fs c jc None pc = (let q : first_some (rows sha n f) ≡ Some UnknownGraph = rows_join sha n f c jc None pc in absurd (cc))
+      join_program e fs c jc (Some p) pc = join_done e fs c jc p pc (sym (rows_join sha n f c jc (Some p) pc) ∙ e)
 
       next_program : first_some (rows sha n f) ≡ None → f.sid ≡ sid → f.join ≡ None → (x : Session) → session_for n.live f ≡ Some x → (o : Option Program) → program_for n.programs x.cast.graph x.role ≡ o → Out known s LeftBy st who n (Deliver bs) (Happened (receipt f)) (notes_of_read sha n (Ok f))
-      next_program e fs jn x sx None px = (let q : first_some (rows sha n f) ≡ Some UnknownSession = next_rows_are x jn sx ∙ ap (λ o. first_some (option_map_or (rows_of_next sha n f x) o (Some UnknownSession ∷ []))) px in absurd (cc))
-      next_program e fs jn x sx (Some p) px = next_done e fs jn x sx p px (sym (next_rows_are x jn sx ∙ ap (λ o. first_some (option_map_or (rows_of_next sha n f x) o (Some UnknownSession ∷ []))) px) ∙ e)
+      next_program e fs jn x sx None px = (let q : first_some (rows sha n f) ≡ Some UnknownSession = rows_next sha n f x jn sx None px in absurd (cc))
+      next_program e fs jn x sx (Some p) px = next_done e fs jn x sx p px (sym (rows_next sha n f x jn sx (Some p) px) ∙ e)
 
       next_session : first_some (rows sha n f) ≡ None → f.sid ≡ sid → f.join ≡ None → (o : Option Session) → session_for n.live f ≡ o → Out known s LeftBy st who n (Deliver bs) (Happened (receipt f)) (notes_of_read sha n (Ok f))
       next_session e fs jn None sx = (let q : first_some (rows sha n f) ≡ Some UnknownSession = ap (λ o. first_some (option_map_or (join_rows sha n f) o (next_rows sha n f))) jn ∙ ap (λ o. first_some (option_map_or (λ z. option_map_or (rows_of_next sha n f z) (program_for n.programs z.cast.graph z.role) (Some UnknownSession ∷ [])) o (Some UnknownSession ∷ []))) sx in absurd (cc))

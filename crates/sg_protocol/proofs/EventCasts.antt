@@ -1,12 +1,11 @@
 -- The cast of each event that a principal's node answers.
-use Rattle.std.specs.Prelude.{◌≡◌, ℕ, ◌<◌, true, not, List, length, refl, Option, Some, None, option_and_then, Result, Ok, Err}
+use Rattle.std.specs.Prelude.{◌≡◌, ℕ, ◌<◌, true, List, length, refl, Option, Some, None, option_and_then, Result, Ok, Err}
 use Rattle.std.specs.Option.{option_map_or}
 use Rattle.std.specs.Result.{result_ok}
 use Rattle.std.proofs.Common.{sym, ◌∙◌, ap, subst, inl, inr}
-use Rattle.std.proofs.lemmas.Bool.{not-false}
 use Rattle.sg_model.specs.Lists.{first_some}
 use Rattle.sg_model.specs.Names.{Name}
-use Rattle.sg_model.proofs.Small.{contradicts, none_parts}
+use Rattle.sg_model.proofs.Small.{contradicts}
 use Rattle.sg_model.proofs.Members.{In, contains_from_in, rec_in}
 use Rattle.sg_protocol.specs.Graph.{Graph}
 use Rattle.sg_protocol.specs.Frame.{Cast, Frame}
@@ -16,8 +15,8 @@ use Rattle.sg_protocol.specs.TextLaws.{CastFits}
 use Rattle.sg_protocol.specs.Keyring.{Program}
 use Rattle.sg_protocol.specs.Session.{Session, principal}
 use Rattle.sg_protocol.specs.Calls.{Refusal, StartFault, Event, Started, Call, Start, Act, Abandon, Deliver, Answer, Happened, Sends, NotStarted, events_of_answer, does_join, role_of, sid_of}
-use Rattle.sg_protocol.specs.Node.{Node, has_joined, is_cast, starter}
-use Rattle.sg_protocol.specs.Verdict.{row, rows, decided, receipt, verdict_on}
+use Rattle.sg_protocol.specs.Node.{Node, has_joined, starter}
+use Rattle.sg_protocol.specs.Verdict.{rows, decided, receipt, verdict_on}
 use Rattle.sg_protocol.specs.Acting.{answer, rows_of_start, started}
 use Rattle.sg_protocol.specs.Notes.{notes, notes_of_read}
 use Rattle.sg_protocol.specs.Schedule.{Schedule}
@@ -27,12 +26,12 @@ use Rattle.sg_protocol.specs.Bounds.{IsSession}
 use Rattle.sg_protocol.specs.Named.{GivesVariables, HasNamed, names_numbers}
 use Rattle.sg_protocol.proofs.AfterCalls.{cast_parts}
 use Rattle.sg_protocol.proofs.Progressing.{small_values}
-use Rattle.sg_protocol.proofs.Moves.{row_none}
 use Rattle.sg_protocol.proofs.ReadBack.{read-SpellsFrame}
 use Rattle.sg_protocol.proofs.LiveSessions.{took}
 use Rattle.sg_protocol.proofs.Named.{call_named}
 use Rattle.sg_protocol.proofs.KnownNodes.{Hashed, IsKnown, KnownNode, compiled, fits_cast, fresh, owned}
 use Rattle.sg_protocol.proofs.Happenings.{IsGiven, cast_given}
+use Rattle.sg_protocol.proofs.NoRows.{no_start_row}
 
 -- an answer with an event names its numbers
 names : (a : Answer) (e : Event) → In (events_of_answer a) e → names_numbers a ≡ true
@@ -83,8 +82,7 @@ module _ (sha : Hash) (hash : IsHash sha) (s : Schedule) (wf : World) (who : Nam
       by_rows p (Some f) q i = absurd i
       by_rows p None q (inr i) = absurd i
       by_rows p None q (inl i) =
-          let one = none_parts (row (not (is_cast n.keys p.graph d p.role)) StartFault.BadCast) _ q in
-          ap (λ z. principal d (role_of z)) i ∙ (cast_parts n.keys p.graph d p.role (not-false (is_cast n.keys p.graph d p.role) (row_none _ _ one.0))).1 ∙ k.me
+          ap (λ z. principal d (role_of z)) i ∙ (cast_parts n.keys p.graph d p.role (no_start_row sha n d p q).cast).1 ∙ k.me
 
       by_program : (o : Option Program) → In (events_of_answer (option_map_or (λ (p : Program). started (session_id sha d) p.role (first_some (rows_of_start n p (session_id sha d) d))) o (NotStarted StartFault.UnknownGraph))) e → principal d (role_of e) ≡ who
       by_program None i = absurd i

@@ -16,6 +16,7 @@ use Rattle.sg_law.specs.Values as V
 use Rattle.sg_protocol.proofs.Moves.{writes_below}
 use Rattle.sg_model.specs.Lists.{rises_from, keys_of, in_order}
 use Rattle.sg_model.proofs.Small.{clash, lt_of}
+use Rattle.sg_model.proofs.Numbers.{low_none}
 use Rattle.sg_protocol.specs.Acting.{is_bad, is_typed, is_out_of_order, openings_for}
 use Rattle.sg_protocol.proofs.Paths.{writes_rise}
 use Rattle.sg_protocol.proofs.TextLaws.{parts, magic_long, item_word, frame_word}
@@ -24,17 +25,6 @@ use Rattle.sg_protocol.proofs.TextLaws.{parts, magic_long, item_word, frame_word
 
 abbrev picks : {A : Type 0} → Map A → List ℕ → Map A
 picks m xs = filter_map (λ x. option_map (λ v. (x, v)) (value_at m x)) xs
-
-low_none : {A : Type 0} (m : Map A) (x n : ℕ) → x < n → rises_from n (keys_of m) ≡ true → value_at m x ≡ None
-low_none [] x n l r = refl
-low_none (w ∷ ws) x n l r =
-    elim (cases_Bool (nat_lt w.0 n)) [
-      | inl e ↦ (let f = rw e at r in absurd (cc))
-      | inr e ↦ elim (cases_Bool (w.0 == x)) [
-        | inl d ↦ absurd (let s : w.0 ≡ x = eqb-true w.0 x d in grind (arith, nat_tests))
-        | inr d ↦ rw d (low_none ws x (suc w.0) (grind (arith, nat_tests)) (rw e at r))
-      ]
-    ]
 
 picks_nil : {A : Type 0} (xs : List ℕ) → picks {A = A} [] xs ≡ []
 picks_nil [] = refl

@@ -8,7 +8,7 @@ use Rattle.sg_model.specs.Last.{Map, last}
 use Rattle.sg_model.specs.Lists.{first_some, rises_from}
 use Rattle.sg_model.specs.Shape.{role_at}
 use Rattle.sg_model.specs.Values.{Value, Opening}
-use Rattle.sg_model.proofs.Small.{clash, same_bytes}
+use Rattle.sg_model.proofs.Small.{clash}
 use Rattle.sg_model.proofs.LastOf.{eqb_same}
 use Rattle.sg_model.proofs.Finding.{find_passes, find_all}
 use Rattle.sg_protocol.specs.Graph.{shape, writes}
@@ -45,6 +45,7 @@ use Rattle.sg_protocol.proofs.Paths.{writes_rise}
 use Rattle.sg_protocol.proofs.Ranges.{new_in_range, extended_in_range, taken_in_range, joined_in_range, GivesInRange, gives_in_range}
 use Rattle.sg_protocol.proofs.ReadBack.{read-SpellsFrame}
 use Rattle.sg_protocol.proofs.Takes.{Rows, rows_of}
+use Rattle.sg_protocol.proofs.NoRows.{IsFor, found_for}
 
 -- ---- sessions
 
@@ -147,20 +148,6 @@ found_too A p q (z ∷ zs) x e h = elim (cases_Bool (q z)) [
 ]
 
 module _ (sha : Hash) (hash : IsHash sha) (n : Node) (programs : AllByRecursion (IsProgram sha) n.programs) where
-  pub record Found (digest : List ℕ) (r : ℕ) (p : Program) : Type 0 where
-    pub is_program : IsProgram sha p
-    pub digest_is : digest ≡ p.digest
-    pub role_is : r ≡ p.role
-
-  pub found : (digest : List ℕ) (r : ℕ) (p : Program) → program_for n.programs digest r ≡ Some p → Found digest r p
-  found digest r p q =
-      let b = and_parts (bytes_eq p.digest digest) (p.role == r) (find_passes (λ (p : Program). bytes_eq p.digest digest && (p.role == r)) n.programs p q) in
-      record {
-        is_program = find_all (λ (p : Program). bytes_eq p.digest digest && (p.role == r)) (IsProgram sha) n.programs p programs q;
-        digest_is = sym (same_bytes p.digest digest b.0);
-        role_is = sym (eqb-true p.role r b.1);
-      }
-
   abbrev Live : Session → Type 0
   Live s = IsLive sha n.programs s
 
@@ -177,7 +164,7 @@ module _ (sha : Hash) (hash : IsHash sha) (n : Node) (programs : AllByRecursion 
       let d : bytes_eq p.digest c.graph ≡ true = (and_parts (bytes_eq p.digest c.graph) (p.role == role_at (shape p.graph) 0) (find_passes st n.programs p b.found)).0 in
       let s : Session = new_session (session_id sha c) c p.role in
       let too = found_too Program st (λ (q : Program). bytes_eq q.digest c.graph && (q.role == p.role)) n.programs p b.found (rw d (eq-eqb p.role p.role refl)) in
-      let f : Found c.graph p.role too.0 = found c.graph p.role too.0 too.1 in
+      let f : IsFor sha n.programs c.graph p.role too.0 = found_for sha n.programs programs c.graph p.role too.0 too.1 in
       at_live s too.0 too.1 (new_sound sha too.0 s refl (new_in_range (session_id sha c) c p.role (hash (session_text_of c)) h (role_in p ip)) f.digest_is f.role_is)
     where
       role_in : (p : Program) → IsProgram sha p → p.role < 16
@@ -185,13 +172,13 @@ module _ (sha : Hash) (hash : IsHash sha) (n : Node) (programs : AllByRecursion 
 
   pub join_sound : (f : Frame) (c : Cast) → HasSpelling f → f.join ≡ Some c → JoinTaken sha n f c → IsLive sha n.programs (extended (new_session f.sid c f.receiver) (Took f))
   join_sound f c sp e t =
-      let q = found c.graph f.receiver t.p t.found_p in
+      let q = found_for sha n.programs programs c.graph f.receiver t.p t.found_p in
       at_live (extended (new_session f.sid c f.receiver) (Took f)) t.p t.found_p (joins_sound sha n.keys t.p f c q.is_program sp e q.digest_is q.role_is t.rows).0
 
   module _ (live : AllByRecursion (IsLive sha n.programs) n.live) where
     act_sound : (sid0 : List ℕ) (label : ℕ) (values : Map Value) (confs : List (List ℕ)) → AreValues values confs → (f : Frame) (a : ActSent sha n sid0 label values confs f) → Live a.x → IfSome (last f.items) (λ i. Live (extended a.x (Gave i (openings_for values confs))))
     act_sound sid0 label values confs good f a h =
-        let r = gives_sound sha hash n.keys a.p a.x label values confs (found (a.x).cast.graph (a.x).role a.p a.found_p).is_program (live_at a.x a.p a.found_p h) a.rows good in
+        let r = gives_sound sha hash n.keys a.p a.x label values confs (found_for sha n.programs programs (a.x).cast.graph (a.x).role a.p a.found_p).is_program (live_at a.x a.p a.found_p h) a.rows good in
         let own_last : last f.items ≡ Some (own_item sha n.keys a.p a.x label (openings_for values confs)) = ap (λ (z : Frame). last z.items) (sym a.its) ∙ r.own_last in
         subst (λ o. IfSome o (λ i. Live (extended a.x (Gave i (openings_for values confs))))) (sym own_last)
         (at_live (extended a.x (Gave (own_item sha n.keys a.p a.x label (openings_for values confs)) (openings_for values confs))) a.p a.found_p r.sound)
@@ -199,7 +186,7 @@ module _ (sha : Hash) (hash : IsHash sha) (n : Node) (programs : AllByRecursion 
     next_sound : (f : Frame) (s : Session) → HasSpelling f → NextTaken sha n f s → Live s → Live (extended s (Took f))
     next_sound f s sp t h =
         let v : s.cast.version ≡ f.version = eqb-true s.cast.version f.version (and_parts (bytes_eq s.sid f.sid && (s.role == f.receiver)) (s.cast.version == f.version) (find_passes (is_for f) n.live s t.found)).1 in
-        at_live (extended s (Took f)) t.p t.found_p (takes_sound sha n.keys t.p s f (found s.cast.graph s.role t.p t.found_p).is_program (live_at s t.p t.found_p h) t.waits sp (sym v) t.rows).0
+        at_live (extended s (Took f)) t.p t.found_p (takes_sound sha n.keys t.p s f (found_for sha n.programs programs s.cast.graph s.role t.p t.found_p).is_program (live_at s t.p t.found_p h) t.waits sp (sym v) t.rows).0
 
     pub node_sound : (c : Call) → IsCallInRange c → AllByRecursion (IsLive sha n.programs) (node_after n c (answer sha n c)).live
     node_sound (Start c) h = start_all sha n (IsLive sha n.programs) live c (start_sound c h)

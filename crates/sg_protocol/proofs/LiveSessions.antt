@@ -1,5 +1,5 @@
 -- What is known of the live sessions of nodes, and what a receipt checked.
-use Rattle.std.specs.Prelude.{◌≡◌, ◌≢◌, ℕ, ◌+◌, ◌==◌, nat_lt, nat_le, ◌&&◌, ◌⊎◌, Bool, true, false, not, List, [], ◌∷◌, filter, flat_map, length, find, position, bytes_eq, refl, Option, Some, None, option_map, IfSome}
+use Rattle.std.specs.Prelude.{◌≡◌, ◌≢◌, ℕ, ◌+◌, ◌==◌, nat_lt, ◌&&◌, ◌⊎◌, Bool, true, false, not, List, [], ◌∷◌, filter, flat_map, length, find, position, bytes_eq, refl, Option, Some, None, option_map, IfSome}
 use Rattle.std.specs.List.{list_any, AllByRecursion}
 use Rattle.std.specs.Option.{option_map_or}
 use Rattle.std.proofs.Common.{sym, ◌∙◌, ap, subst, inl, inr}
@@ -12,23 +12,23 @@ use Rattle.sg_model.specs.Names.{Name}
 use Rattle.sg_protocol.specs.Frame.{Cast, Item, Frame, IsCastOf}
 use Rattle.sg_protocol.specs.Spelling.{HasSpelling}
 use Rattle.sg_protocol.specs.Texts.{Hash, session_id, session_text_of}
-use Rattle.sg_protocol.specs.TextLaws.{IsVersion, CastFits}
+use Rattle.sg_protocol.specs.TextLaws.{CastFits}
 use Rattle.sg_protocol.specs.Keyring.{Keyring, Program, key_of}
 use Rattle.sg_protocol.specs.Session.{Session, Exchange, Took, Gave, principal, own_time, time, at_turn, extended, new_session}
 use Rattle.sg_protocol.specs.Sending.{text_of, frame_sent, tag_for}
 use Rattle.sg_protocol.specs.Checks.{texts_checked}
-use Rattle.sg_protocol.specs.Calls.{Refusal, BadFrameTag, NoSuchView, BadEvidence, BadOpening, ActFault, Event, Sent, Call, Start, Act, Abandon, Deliver, Answer, Sends, Abandoned, NotStarted, NotActed, StartFault, UnknownGraph, UnknownSession, NotWaiting, BadCast, BadSession, UnknownPeer, Joined, CacheFull, SessionsFull, sid_of, role_of}
+use Rattle.sg_protocol.specs.Calls.{Refusal, BadFrameTag, NoSuchView, BadEvidence, BadOpening, ActFault, Event, Sent, Call, Start, Act, Abandon, Deliver, Answer, Sends, Abandoned, NotStarted, NotActed, StartFault, UnknownGraph, UnknownSession, NotWaiting, sid_of, role_of}
 use Rattle.sg_protocol.specs.Verdict.{row, rows_of_session, has_frame_tag, is_shown, bad_time, has_item_tag, is_right, decided, receipt, verdict_on, rows_of_join, rows_of_next, join_rows, next_rows, rows}
-use Rattle.sg_protocol.specs.Notes.{note_of, notes_in_session, Notes, notes, notes_of_start, no_notes, notes_of_read, session_of_frame, hashed_of_join, row_number}
+use Rattle.sg_protocol.specs.Notes.{note_of, notes_in_session, Notes, notes, notes_of_start, no_notes, notes_of_read, session_of_frame, row_number}
 use Rattle.sg_protocol.specs.Schedule.{PairKey}
 use Rattle.sg_protocol.proofs.Moves.{row_none}
 use Rattle.sg_protocol.specs.Acting.{rows_of_act, openings_for, answer, started, acted, sent, rows_of_start}
-use Rattle.std.specs.Prelude.{Result, Ok, Err, option_and_then}
+use Rattle.std.specs.Prelude.{Result, Ok, Err}
 use Rattle.sg_model.proofs.Small.{same_bytes, none_parts, both_nil, all-append}
-use Rattle.sg_model.proofs.Members.{In, in_left}
+use Rattle.sg_model.proofs.Members.{In}
 use Rattle.sg_model.proofs.Finding.{find_passes, find_all, none_any}
 use Rattle.sg_protocol.specs.Reading.{read}
-use Rattle.sg_protocol.specs.Node.{Node, is_for, is_cast, stranger, session_with, session_for, has_joined, program_for, starter}
+use Rattle.sg_protocol.specs.Node.{Node, is_for, session_with, session_for, program_for, starter}
 use Rattle.sg_protocol.specs.NodeAfter.{node_after, joined, goes_on, replace, still, is_over, takes_read}
 use Rattle.sg_protocol.specs.World.{Logged, keyring_of}
 use Rattle.sg_protocol.specs.Run.{events_of, events_of_outcome}
@@ -36,6 +36,7 @@ use Rattle.sg_protocol.proofs.TextLaws as TL
 use Rattle.sg_protocol.proofs.Sent.{FitSession}
 use Rattle.sg_protocol.proofs.TextLaws as TL
 use Rattle.sg_protocol.proofs.Nodes.{start_sends, abandon_sends, deliver_sends}
+use Rattle.sg_protocol.proofs.NoRows.{JoinRows, no_start_row, no_join_row, rows_join, joining_session, continued_session, text_hashed, join_fits}
 
 replace_all : {P : Session → Type 0} (which : Session → Bool) (now : Session → List Session) (xs : List Session) → ((z : Session) → which z ≡ true → P z → AllByRecursion P (now z)) → AllByRecursion P xs → AllByRecursion P (replace which now xs)
 replace_all which now [] f a = tt
@@ -124,9 +125,7 @@ module _ (sha : Hash) (Hashed : List ℕ → Type 0) where
         by_rows : (p : Program) (o : Option StartFault) → first_some (rows_of_start n p (session_id sha c) c) ≡ o → ((t : List ℕ) → In (notes_of_start c (started (session_id sha c) p.role o)).hashed t → Hashed t) → AllByRecursion (Known who) (node_after n (Start c) (started (session_id sha c) p.role o)).live
         by_rows p (Some f) e hs = live
         by_rows p None e hs =
-            let one = none_parts (row (not (is_cast n.keys p.graph c p.role)) StartFault.BadCast) (option_map StartFault.UnknownPeer (stranger n.keys c) ∷ row (has_joined n.joins (session_id sha c) p.role) StartFault.Joined ∷ row (nat_le 65536 (length n.joins)) StartFault.CacheFull ∷ row (nat_le 4096 (length n.live)) StartFault.SessionsFull ∷ []) e in
-            let ic : is_cast n.keys p.graph c p.role ≡ true = not-false (is_cast n.keys p.graph c p.role) (row_none _ _ one.0) in
-            all-append (Known who) n.live (still n.programs (new_session (session_id sha c) c p.role)) live (still_known who n.programs (new_session (session_id sha c) c p.role) record { id = refl; is_hashed = hs (session_text_of c) (inl refl); me = same_bytes (principal c p.role) n.keys.me (and_parts _ (bytes_eq (principal c p.role) n.keys.me) ic).1 ∙ me })
+            all-append (Known who) n.live (still n.programs (new_session (session_id sha c) c p.role)) live (still_known who n.programs (new_session (session_id sha c) c p.role) record { id = refl; is_hashed = hs (session_text_of c) (inl refl); me = same_bytes (principal c p.role) n.keys.me (and_parts _ (bytes_eq (principal c p.role) n.keys.me) (no_start_row sha n c p e).cast).1 ∙ me })
 
         by_program : (o : Option Program) → let a : Answer = option_map_or (λ (p : Program). started (session_id sha c) p.role (first_some (rows_of_start n p (session_id sha c) c))) o (NotStarted StartFault.UnknownGraph) in
             ((t : List ℕ) → In (notes_of_start c a).hashed t → Hashed t) → AllByRecursion (Known who) (node_after n (Start c) a).live
@@ -152,22 +151,15 @@ module _ (sha : Hash) (Hashed : List ℕ → Type 0) where
         took_ f e hs None j = replace_all {P = Known who} (is_for f) (λ z. still n.programs (extended z (Took f))) n.live (λ z q h. still_known who n.programs (extended z (Took f)) (more_known who z (Took f) h)) live
         took_ f e hs (Some c) j = by_program (program_for n.programs c.graph f.receiver) refl
           where
-            rows_join : (o : Option Program) → program_for n.programs c.graph f.receiver ≡ o → first_some (option_map_or (rows_of_join sha n f c) o (Some UnknownGraph ∷ [])) ≡ None
-            rows_join o pc = sym (ap (λ o. first_some (option_map_or (join_rows sha n f) o (next_rows sha n f))) j ∙ ap (λ o. first_some (option_map_or (rows_of_join sha n f c) o (Some UnknownGraph ∷ []))) pc) ∙ e
-
             done : (p : Program) → first_some (rows_of_join sha n f c p) ≡ None → AllByRecursion (Known who) (joined n (extended (new_session f.sid c f.receiver) (Took f))).live
             done p rj =
+                let r : JoinRows sha n f c p = no_join_row sha n f c p rj in
                 let x : Session = new_session f.sid c f.receiver in
-                let r1 = none_parts (row (not (is_cast n.keys p.graph c f.receiver && nat_lt f.sender (length c.names))) BadCast) (option_map UnknownPeer (stranger n.keys c) ∷ row (not (bytes_eq f.sid (session_id sha c))) BadSession ∷ row (has_joined n.joins f.sid f.receiver) Joined ∷ row (nat_le 65536 (length n.joins)) CacheFull ∷ row (nat_le 4096 (length n.live)) SessionsFull ∷ rows_of_session sha n.keys p x f) rj in
-                let r2 = none_parts (option_map UnknownPeer (stranger n.keys c)) (row (not (bytes_eq f.sid (session_id sha c))) BadSession ∷ row (has_joined n.joins f.sid f.receiver) Joined ∷ row (nat_le 65536 (length n.joins)) CacheFull ∷ row (nat_le 4096 (length n.live)) SessionsFull ∷ rows_of_session sha n.keys p x f) r1.1 in
-                let r3 = none_parts (row (not (bytes_eq f.sid (session_id sha c))) BadSession) (row (has_joined n.joins f.sid f.receiver) Joined ∷ row (nat_le 65536 (length n.joins)) CacheFull ∷ row (nat_le 4096 (length n.live)) SessionsFull ∷ rows_of_session sha n.keys p x f) r2.1 in
-                let ic : is_cast n.keys p.graph c f.receiver ≡ true = (and_parts (is_cast n.keys p.graph c f.receiver) (nat_lt f.sender (length c.names)) (not-false (is_cast n.keys p.graph c f.receiver && nat_lt f.sender (length c.names)) (row_none _ _ r1.0))).0 in
-                let in_hashed : In (notes_of_read sha n (Ok f)).hashed (session_text_of c) = in_left (hashed_of_join f (row_number (first_some (rows sha n f)))) _ (session_text_of c) (subst (λ o. In (hashed_of_join f (row_number o)) (session_text_of c)) (sym e) (subst (λ o. In (option_map_or (λ c. session_text_of c ∷ []) o []) (session_text_of c)) (sym j) (inl refl))) in
-                all-append (Known who) n.live (still n.programs (extended x (Took f))) live (still_known who n.programs (extended x (Took f)) record { id = sym (same_bytes f.sid (session_id sha c) (not-false (bytes_eq f.sid (session_id sha c)) (row_none _ _ r3.0))); is_hashed = hs (session_text_of c) in_hashed; me = same_bytes (principal c f.receiver) n.keys.me (and_parts _ (bytes_eq (principal c f.receiver) n.keys.me) ic).1 ∙ me })
+                all-append (Known who) n.live (still n.programs (extended x (Took f))) live (still_known who n.programs (extended x (Took f)) record { id = sym r.sid; is_hashed = hs (session_text_of c) (text_hashed sha n f c j e); me = same_bytes (principal c f.receiver) n.keys.me (and_parts _ (bytes_eq (principal c f.receiver) n.keys.me) r.cast).1 ∙ me })
 
             by_program : (o : Option Program) → program_for n.programs c.graph f.receiver ≡ o → AllByRecursion (Known who) (joined n (extended (new_session f.sid c f.receiver) (Took f))).live
-            by_program None pc = (let q : Some UnknownGraph ≡ None = rows_join None pc in absurd (cc))
-            by_program (Some p) pc = done p (rows_join (Some p) pc)
+            by_program None pc = (let q : Some UnknownGraph ≡ None = sym (rows_join sha n f c j None pc) ∙ e in absurd (cc))
+            by_program (Some p) pc = done p (sym (rows_join sha n f c j (Some p) pc) ∙ e)
 
         by_rows : (f : Frame) → read bs ≡ Ok f → (o : Option Refusal) → first_some (rows sha n f) ≡ o → AllByRecursion (Known who) (node_after n (Deliver bs) (decided (receipt f) o)).live
         by_rows f e None q = subst (λ r. AllByRecursion (Known who) (takes_read n r).live) (sym e) (took_ f q (subst (λ r. (t : List ℕ) → In (notes_of_read sha n r).hashed t → Hashed t) e hs) f.join refl)
@@ -212,25 +204,18 @@ module _ (sha : Hash) (Hashed : List ℕ → Type 0) where
     took_join : (c : Cast) → f.join ≡ Some c → (o : Option Program) → program_for n.programs c.graph f.receiver ≡ o → first_some (option_map_or (rows_of_join sha n f c) o (Some UnknownGraph ∷ [])) ≡ None → Took_ who n f (notes_of_read sha n (Ok f))
     took_join c j None pc e = absurd (cc)
     took_join c j (Some p) pc e =
+        let r : JoinRows sha n f c p = no_join_row sha n f c p e in
         let x : Session = new_session f.sid c f.receiver in
-        let r1 = none_parts (row (not (is_cast n.keys p.graph c f.receiver && nat_lt f.sender (length c.names))) BadCast) (option_map UnknownPeer (stranger n.keys c) ∷ row (not (bytes_eq f.sid (session_id sha c))) BadSession ∷ row (has_joined n.joins f.sid f.receiver) Joined ∷ row (nat_le 65536 (length n.joins)) CacheFull ∷ row (nat_le 4096 (length n.live)) SessionsFull ∷ rows_of_session sha n.keys p x f) e in
-        let r2 = none_parts (option_map UnknownPeer (stranger n.keys c)) (row (not (bytes_eq f.sid (session_id sha c))) BadSession ∷ row (has_joined n.joins f.sid f.receiver) Joined ∷ row (nat_le 65536 (length n.joins)) CacheFull ∷ row (nat_le 4096 (length n.live)) SessionsFull ∷ rows_of_session sha n.keys p x f) r1.1 in
-        let r3 = none_parts (row (not (bytes_eq f.sid (session_id sha c))) BadSession) (row (has_joined n.joins f.sid f.receiver) Joined ∷ row (nat_le 65536 (length n.joins)) CacheFull ∷ row (nat_le 4096 (length n.live)) SessionsFull ∷ rows_of_session sha n.keys p x f) r2.1 in
-        let r4 = none_parts (row (has_joined n.joins f.sid f.receiver) Joined) (row (nat_le 65536 (length n.joins)) CacheFull ∷ row (nat_le 4096 (length n.live)) SessionsFull ∷ rows_of_session sha n.keys p x f) r3.1 in
-        let r5 = none_parts (row (nat_le 65536 (length n.joins)) CacheFull) (row (nat_le 4096 (length n.live)) SessionsFull ∷ rows_of_session sha n.keys p x f) r4.1 in
-        let r6 = none_parts (row (nat_le 4096 (length n.live)) SessionsFull) (rows_of_session sha n.keys p x f) r5.1 in
-        let ic : is_cast n.keys p.graph c f.receiver ≡ true = (and_parts (is_cast n.keys p.graph c f.receiver) (nat_lt f.sender (length c.names)) (not-false (is_cast n.keys p.graph c f.receiver && nat_lt f.sender (length c.names)) (row_none _ _ r1.0))).0 in
         let co = subst (λ o. IfSome o (IsCastOf f.version)) j spelled.fields.join in
-        let sess : session_of_frame n f ≡ Some (p, x) = ap (λ o. option_and_then (λ (z : Session). option_map (λ (q : Program). (q, z)) (program_for n.programs z.cast.graph z.role)) (option_map_or (λ c. Some (new_session f.sid c f.receiver)) o (session_for n.live f))) j ∙ ap (λ o. option_map (λ (q : Program). (q, x)) o) pc in
         record {
           cast = c;
-          fits = TL.cast_fits c (subst IsVersion (sym co.version) spelled.fields.version) (subst (λ v. IsCastOf v c) (sym co.version) co);
-          id = sym (same_bytes f.sid (session_id sha c) (not-false (bytes_eq f.sid (session_id sha c)) (row_none _ _ r3.0)));
-          is_hashed = hs (session_text_of c) (in_left (hashed_of_join f (row_number (first_some (rows sha n f)))) _ (session_text_of c) (subst (λ o. In (hashed_of_join f (row_number o)) (session_text_of c)) (sym none) (subst (λ o. In (option_map_or (λ c. session_text_of c ∷ []) o []) (session_text_of c)) (sym j) (inl refl))));
-          me = same_bytes (principal c f.receiver) n.keys.me (and_parts _ (bytes_eq (principal c f.receiver) n.keys.me) ic).1 ∙ me;
+          fits = join_fits sha n f c j spelled;
+          id = sym r.sid;
+          is_hashed = hs (session_text_of c) (text_hashed sha n f c j none);
+          me = same_bytes (principal c f.receiver) n.keys.me (and_parts _ (bytes_eq (principal c f.receiver) n.keys.me) r.cast).1 ∙ me;
           version = co.version;
-          found = note_there p x sess;
-          tag_is = tag_row n.keys p x f r6.1;
+          found = note_there p x (joining_session sha n f c j p pc);
+          tag_is = tag_row n.keys p x f r.rows;
           joins = λ c' e'. (let q : Some c ≡ Some c' = sym j ∙ e' in cc);
         }
 
@@ -246,8 +231,6 @@ module _ (sha : Hash) (Hashed : List ℕ → Type 0) where
             let fx : FitSession x = find_all (is_for f) FitSession n.live x fit sx in
             let w1 = and_parts (bytes_eq x.sid f.sid && (x.role == f.receiver)) (x.cast.version == f.version) (find_passes (is_for f) n.live x sx) in
             let w2 = and_parts (bytes_eq x.sid f.sid) (x.role == f.receiver) w1.0 in
-            let sess : session_of_frame n f ≡ Some (p, x) = ap (λ o. option_and_then (λ (z : Session). option_map (λ (q : Program). (q, z)) (program_for n.programs z.cast.graph z.role)) (option_map_or (λ c. Some (new_session f.sid c f.receiver)) o (session_for n.live f))) j
-            ∙ ap (λ o. option_and_then (λ (z : Session). option_map (λ (q : Program). (q, z)) (program_for n.programs z.cast.graph z.role)) o) sx ∙ ap (λ o. option_map (λ (q : Program). (q, x)) o) px in
             record {
               cast = x.cast;
               fits = TL.cast_fits x.cast fx.version fx.cast;
@@ -255,7 +238,7 @@ module _ (sha : Hash) (Hashed : List ℕ → Type 0) where
               is_hashed = k.is_hashed;
               me = ap (principal x.cast) (sym (eqb-true x.role f.receiver w2.1)) ∙ k.me;
               version = eqb-true x.cast.version f.version w1.1;
-              found = note_there p x sess;
+              found = note_there p x (continued_session sha n f x j sx p px);
               tag_is = tag_row n.keys p x f r1.1;
               joins = λ c' e'. (let q : None ≡ Some c' = sym j ∙ e' in absurd (cc));
             }

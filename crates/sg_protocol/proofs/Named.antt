@@ -39,6 +39,7 @@ use Rattle.sg_protocol.proofs.Gives.{keys_are}
 use Rattle.sg_protocol.proofs.Moves.{writes_below}
 use Rattle.sg_protocol.proofs.Sent.{reads_in}
 use Rattle.sg_protocol.proofs.Takes.{Rows, rows_of}
+use Rattle.sg_protocol.proofs.NoRows.{IsFor, found_for}
 
 -- ---- lists
 
@@ -167,22 +168,6 @@ module _ (sha : Hash) (n : Node) (programs : AllByRecursion (IsProgram sha) n.pr
     pub there : In n.programs is_named.program
     pub is_from : IsFrom c is_named.session
 
-  record IsFor (digest : List ℕ) (r : ℕ) (p : Program) : Type 0 where
-    is_program : IsProgram sha p
-    digest_is : digest ≡ p.digest
-    role_is : r ≡ p.role
-    there : In n.programs p
-
-  program_is : (digest : List ℕ) (r : ℕ) (p : Program) → program_for n.programs digest r ≡ Some p → IsFor digest r p
-  program_is digest r p q =
-      let b = and_parts (bytes_eq p.digest digest) (p.role == r) (find_passes (λ (p : Program). bytes_eq p.digest digest && (p.role == r)) n.programs p q) in
-      record {
-        is_program = find_all (λ (p : Program). bytes_eq p.digest digest && (p.role == r)) (IsProgram sha) n.programs p programs q;
-        digest_is = sym (same_bytes p.digest digest b.0);
-        role_is = sym (eqb-true p.role r b.1);
-        there = found_in (λ (p : Program). bytes_eq p.digest digest && (p.role == r)) n.programs p q;
-      }
-
   -- ---- a start
 
   start_named : (c : Cast) (a : Answer) → answer sha n (Start c) ≡ a → names_numbers a ≡ true → NamesFrom (Start c) a
@@ -229,7 +214,7 @@ module _ (sha : Hash) (n : Node) (programs : AllByRecursion (IsProgram sha) n.pr
     where
       named_by : (x : Session) → session_with n.live sid0 ≡ Some x → (p : Program) → program_for n.programs x.cast.graph x.role ≡ Some p → (a : Answer) → HasNamed p.graph (Act sid0 label values confs) a → ((v : Event) → Contains (events_of_answer a) v → (sid_of v ≡ x.sid) × (role_of v ≡ x.role)) → NamesFrom (Act sid0 label values confs) a
       named_by x q p q2 a named event =
-          let w : IsFor x.cast.graph x.role p = program_is x.cast.graph x.role p q2 in
+          let w : IsFor sha n.programs x.cast.graph x.role p = found_for sha n.programs programs x.cast.graph x.role p q2 in
           record {
             is_named = record {
               program = p;
@@ -247,7 +232,7 @@ module _ (sha : Hash) (n : Node) (programs : AllByRecursion (IsProgram sha) n.pr
 
       by_rows : (x : Session) → session_with n.live sid0 ≡ Some x → (p : Program) → program_for n.programs x.cast.graph x.role ≡ Some p → (o : Option ActFault) → first_some (rows_of_act p x label values) ≡ o → acted (sent sha n.keys p x label values confs) o ≡ a → NamesFrom (Act sid0 label values confs) a
       by_rows x q p q2 None q3 e =
-          let w : IsFor x.cast.graph x.role p = program_is x.cast.graph x.role p q2 in
+          let w : IsFor sha n.programs x.cast.graph x.role p = found_for sha n.programs programs x.cast.graph x.role p q2 in
           let ip : IsProgram sha p = w.is_program in
           let rs : C.ActRows p.graph x label values = C.act_rows p x label values q3 in
           let r : x.role < length p.graph.roles = subst (λ z. z < length p.graph.roles) (sym w.role_is) ip.role in
@@ -255,7 +240,7 @@ module _ (sha : Hash) (n : Node) (programs : AllByRecursion (IsProgram sha) n.pr
           subst (NamesFrom (Act sid0 label values confs)) e
           (named_by x q p q2 (sent sha n.keys p x label values confs) (r, lt_of label (length p.graph.edges) rs.edge, ks) (λ v i. let s = one_event (Sent x.sid x.role label (time x + 1) values) v i in (ap sid_of s, ap role_of s)))
       by_rows x q p q2 (Some (Send (BadValues v))) q3 e =
-          let ip : IsProgram sha p = (program_is x.cast.graph x.role p q2).is_program in
+          let ip : IsProgram sha p = (found_for sha n.programs programs x.cast.graph x.role p q2).is_program in
           let spent : Bool = nat_le 1000000 (time x) in
           let bad : Option ℕ = find (is_bad p.graph label values) (below 256) in
           let rest : List (Option ActFault) = option_map Send (option_map BadValues bad) ∷ option_map Send (row spent SendFault.TimeSpent) ∷ [] in
@@ -291,7 +276,7 @@ module _ (sha : Hash) (n : Node) (programs : AllByRecursion (IsProgram sha) n.pr
     p : Program
     x : Session
     found : session_of_frame n f ≡ Some (p, x)
-    its : IsFor x.cast.graph x.role p
+    its : IsFor sha n.programs x.cast.graph x.role p
     receiver : f.receiver ≡ x.role
     sid : f.sid ≡ x.sid
     its_from : IsFrom (Deliver bs) x
@@ -313,7 +298,7 @@ module _ (sha : Hash) (n : Node) (programs : AllByRecursion (IsProgram sha) n.pr
             p = p;
             x = x;
             found = ap (λ m. frame_session f (option_map_or (λ (c : Cast). Some (new_session f.sid c f.receiver)) m (session_for n.live f))) j ∙ ap (frame_session f) q ∙ ap (option_map (λ (p : Program). (p, x))) q2;
-            its = program_is x.cast.graph x.role p q2;
+            its = found_for sha n.programs programs x.cast.graph x.role p q2;
             receiver = sym (eqb-true x.role f.receiver b'.1);
             sid = sym (same_bytes x.sid f.sid b'.0);
             its_from = inl (found_in (is_for f) n.live x q);
@@ -349,7 +334,7 @@ module _ (sha : Hash) (n : Node) (programs : AllByRecursion (IsProgram sha) n.pr
             p = p;
             x = x;
             found = ap (λ m. frame_session f (option_map_or (λ (c : Cast). Some (new_session f.sid c f.receiver)) m (session_for n.live f))) j ∙ ap (option_map (λ (p : Program). (p, x))) q;
-            its = program_is c.graph f.receiver p q;
+            its = found_for sha n.programs programs c.graph f.receiver p q;
             receiver = refl;
             sid = refl;
             its_from = inr (ap (λ r. option_and_then (λ (f : Frame). f.join) (result_ok r)) rd ∙ j, sym (same_bytes f.sid (session_id sha c) (not-false (bytes_eq f.sid (session_id sha c)) three.0)), subst (λ r. In (notes_of_read sha n r).hashed (session_text_of c)) (sym rd) text);

@@ -1,14 +1,14 @@
 -- What the calls of a node come to, and what is kept of all its live sessions.
-use Rattle.std.specs.Prelude.{◌≡◌, ℕ, nat_lt, nat_le, ◌&&◌, Bool, true, false, not, List, [], ◌∷◌, ◌++◌, length, find, bytes_eq, refl, Option, Some, None, option_map, IfSome, Result, Ok, Err}
+use Rattle.std.specs.Prelude.{◌≡◌, ℕ, Bool, true, false, List, [], ◌∷◌, find, bytes_eq, refl, Option, Some, None, IfSome, Result, Ok, Err}
 use Rattle.std.specs.List.{AllByRecursion}
 use Rattle.std.specs.Option.{option_map_or}
 use Rattle.std.proofs.Common.{sym, ◌∙◌, subst, inl, inr}
-use Rattle.std.proofs.lemmas.Bool.{cases_Bool, and_parts, not-false}
+use Rattle.std.proofs.lemmas.Bool.{cases_Bool}
 use Rattle.sg_model.specs.Last.{Map, last}
 use Rattle.sg_model.specs.Lists.{first_some}
 use Rattle.sg_model.specs.Values.{Value}
 use Rattle.sg_model.specs.Names.{Name}
-use Rattle.sg_model.proofs.Small.{same_bytes, none_parts}
+use Rattle.sg_model.proofs.Small.{none_parts, all-append}
 use Rattle.sg_protocol.specs.Frame.{Cast, Item, Frame}
 use Rattle.sg_protocol.specs.Reading.{read}
 use Rattle.sg_protocol.specs.Texts.{Hash, session_id}
@@ -16,11 +16,12 @@ use Rattle.sg_protocol.specs.Keyring.{Program}
 use Rattle.sg_protocol.specs.Session.{Session, Took, Gave, extended, new_session, at_turn}
 use Rattle.sg_protocol.specs.Sending.{frame_sent}
 use Rattle.sg_protocol.specs.Calls.{Refusal, ActFault, StartFault, Event, Start, Act, Abandon, Deliver, Answer, Sends, Abandoned, NotStarted, NotActed, NotAbandoned}
-use Rattle.sg_protocol.specs.Node.{Node, is_for, is_cast, stranger, session_with, session_for, has_joined, program_for, starter}
+use Rattle.sg_protocol.specs.Node.{Node, is_for, is_cast, session_with, session_for, program_for, starter}
 use Rattle.sg_protocol.specs.Verdict.{row, rows, rows_of_session, rows_of_join, rows_of_next, join_rows, next_rows, decided, receipt, verdict_on}
 use Rattle.sg_protocol.specs.Acting.{rows_of_start, rows_of_act, openings_for, answer, started, acted, sent}
 use Rattle.sg_protocol.specs.NodeAfter.{node_after, joined, goes_on, replace, still, is_over, takes_read}
 use Rattle.sg_protocol.proofs.Moves.{row_none}
+use Rattle.sg_protocol.proofs.NoRows.{JoinRows, no_start_row, no_join_row}
 
 module _ (sha : Hash) (n : Node) where
   -- ---- a start
@@ -30,9 +31,7 @@ module _ (sha : Hash) (n : Node) where
     pub cast : is_cast n.keys p.graph c p.role ≡ true
 
   begun : (c : Cast) (p : Program) → starter n.programs c.graph ≡ Some p → first_some (rows_of_start n p (session_id sha c) c) ≡ None → Begun c p
-  begun c p q e =
-      let one = none_parts (row (not (is_cast n.keys p.graph c p.role)) StartFault.BadCast) (option_map StartFault.UnknownPeer (stranger n.keys c) ∷ row (has_joined n.joins (session_id sha c) p.role) StartFault.Joined ∷ row (nat_le 65536 (length n.joins)) StartFault.CacheFull ∷ row (nat_le 4096 (length n.live)) StartFault.SessionsFull ∷ []) e in
-      record { found = q; cast = not-false (is_cast n.keys p.graph c p.role) (row_none _ _ one.0) }
+  begun c p q e = record { found = q; cast = (no_start_row sha n c p e).cast }
 
   -- ---- an act
 
@@ -121,40 +120,19 @@ module _ (sha : Hash) (n : Node) where
       by_program : (o : Option Program) → program_for n.programs c.graph f.receiver ≡ o → first_some (option_map_or (rows_of_join sha n f c) o (Some Refusal.UnknownGraph ∷ [])) ≡ None → JoinTaken f c
       by_program None q h = absurd (cc)
       by_program (Some p) q h =
-          let later : List (Option Refusal) = rows_of_session sha n.keys p (new_session f.sid c f.receiver) f in
-          let full : Option Refusal = row (nat_le 4096 (length n.live)) Refusal.SessionsFull in
-          let cache : Option Refusal = row (nat_le 65536 (length n.joins)) Refusal.CacheFull in
-          let twice : Option Refusal = row (has_joined n.joins f.sid f.receiver) Refusal.Joined in
-          let other : Option Refusal = row (not (bytes_eq f.sid (session_id sha c))) Refusal.BadSession in
-          let peer : Option Refusal = option_map Refusal.UnknownPeer (stranger n.keys c) in
-          let one = none_parts (row (not (is_cast n.keys p.graph c f.receiver && nat_lt f.sender (length c.names))) Refusal.BadCast) (peer ∷ other ∷ twice ∷ cache ∷ full ∷ later) h in
-          let two = none_parts peer (other ∷ twice ∷ cache ∷ full ∷ later) one.1 in
-          let three = none_parts other (twice ∷ cache ∷ full ∷ later) two.1 in
-          let four = none_parts twice (cache ∷ full ∷ later) three.1 in
-          let five = none_parts cache (full ∷ later) four.1 in
-          let six = none_parts full later five.1 in
-          record {
-            p = p;
-            found_p = q;
-            cast = (and_parts (is_cast n.keys p.graph c f.receiver) (nat_lt f.sender (length c.names)) (not-false _ (row_none _ _ one.0))).0;
-            sid = same_bytes f.sid (session_id sha c) (not-false (bytes_eq f.sid (session_id sha c)) (row_none _ _ three.0));
-            rows = six.1;
-          }
+          let r : JoinRows sha n f c p = no_join_row sha n f c p h in
+          record { p = p; found_p = q; cast = r.cast; sid = r.sid; rows = r.rows }
 
   -- ---- what is kept of all live sessions
 
   module _ (P : Session → Type 0) where
-    all_cat : (xs ys : List Session) → AllByRecursion P xs → AllByRecursion P ys → AllByRecursion P (xs ++ ys)
-    all_cat [] ys a b = b
-    all_cat (x ∷ xs) ys a b = (a.0, all_cat xs ys a.1 b)
-
     all_still : (ps : List Program) (x : Session) → P x → AllByRecursion P (still ps x)
     all_still ps x h = elim (cases_Bool (is_over ps x)) [ inl e ↦ rw e tt | inr e ↦ rw e (h, tt) ]
 
     all_replaced : (which : Session → Bool) (now : Session → List Session) (xs : List Session) → ((z : Session) → find which xs ≡ Some z → P z → AllByRecursion P (now z)) → AllByRecursion P xs → AllByRecursion P (replace which now xs)
     all_replaced which now [] f a = tt
     all_replaced which now (x ∷ xs) f a = elim (cases_Bool (which x)) [
-      | inl e ↦ rw e (all_cat (now x) xs (f x (rw e refl) a.0) a.1)
+      | inl e ↦ rw e (all-append P (now x) xs (f x (rw e refl) a.0) a.1)
       | inr e ↦ rw e (a.0, all_replaced which now xs (λ z q. f z (rw e q)) a.1)
     ]
 
@@ -163,7 +141,7 @@ module _ (sha : Hash) (n : Node) where
       start_all c new = by_program (starter n.programs c.graph) refl
         where
           by_rows : (p : Program) → starter n.programs c.graph ≡ Some p → (o : Option StartFault) → first_some (rows_of_start n p (session_id sha c) c) ≡ o → AllByRecursion P (node_after n (Start c) (started (session_id sha c) p.role o)).live
-          by_rows p sp None e = all_cat n.live (still n.programs (new_session (session_id sha c) c p.role)) live (all_still n.programs (new_session (session_id sha c) c p.role) (new p (begun c p sp e)))
+          by_rows p sp None e = all-append P n.live (still n.programs (new_session (session_id sha c) c p.role)) live (all_still n.programs (new_session (session_id sha c) c p.role) (new p (begun c p sp e)))
           by_rows p sp (Some f) e = live
 
           by_program : (o : Option Program) → starter n.programs c.graph ≡ o → AllByRecursion P (node_after n (Start c) (option_map_or (λ (p : Program). started (session_id sha c) p.role (first_some (rows_of_start n p (session_id sha c) c))) o (NotStarted StartFault.UnknownGraph))).live
@@ -200,7 +178,7 @@ module _ (sha : Hash) (n : Node) where
           by_join : (f : Frame) → read bs ≡ Ok f → (o : Option Cast) → f.join ≡ o → first_some (option_map_or (join_rows sha n f) o (next_rows sha n f)) ≡ None
               → AllByRecursion P (option_map_or (λ c. joined n (extended (new_session f.sid c f.receiver) (Took f))) o (goes_on n (is_for f) (λ z. still n.programs (extended z (Took f))))).live
           by_join f rd None e h = all_replaced (is_for f) (λ z. still n.programs (extended z (Took f))) n.live (λ z found k. all_still n.programs (extended z (Took f)) (next f z rd (next_taken f z found h) k)) live
-          by_join f rd (Some c) e h = all_cat n.live (still n.programs (extended (new_session f.sid c f.receiver) (Took f))) live (all_still n.programs (extended (new_session f.sid c f.receiver) (Took f)) (join f c rd e (join_taken f c h)))
+          by_join f rd (Some c) e h = all-append P n.live (still n.programs (extended (new_session f.sid c f.receiver) (Took f))) live (all_still n.programs (extended (new_session f.sid c f.receiver) (Took f)) (join f c rd e (join_taken f c h)))
 
           by_rows : (f : Frame) → read bs ≡ Ok f → (o : Option Refusal) → first_some (rows sha n f) ≡ o → AllByRecursion P (node_after n (Deliver bs) (decided (receipt f) o)).live
           by_rows f rd None h = subst (λ r. AllByRecursion P (takes_read n r).live) (sym rd) (by_join f rd f.join refl h)

@@ -1,9 +1,9 @@
 -- One walk explains each session of a run.
-use Rattle.std.specs.Prelude.{◌≡◌, ◌≢◌, ℕ, ◌+◌, ◌==◌, ◌&&◌, ◌⊎◌, Bool, true, false, List, [], ◌∷◌, ◌++◌, map, filter, flat_map, length, find, bytes_eq, refl, Option, Some, None, option_and_then}
+use Rattle.std.specs.Prelude.{◌≡◌, ◌≢◌, ℕ, ◌+◌, ◌⊎◌, Bool, true, false, List, [], ◌∷◌, ◌++◌, map, filter, flat_map, length, find, bytes_eq, refl, Option, Some, None, option_and_then}
 use Rattle.std.specs.List.{AllByRecursion, list_any}
 use Rattle.std.specs.Option.{option_map_or}
 use Rattle.std.proofs.Common.{sym, ◌∙◌, ap, subst, inl, inr, append_assoc, append-nil}
-use Rattle.std.proofs.lemmas.Bool.{eqb-true, cases_Bool, and_parts}
+use Rattle.std.proofs.lemmas.Bool.{cases_Bool}
 use Rattle.std.proofs.lemmas.List.Elements.{filter-append}
 use Rattle.std.proofs.lemmas.Slice.Eq.{bytes_eq-Decides}
 use Rattle.sg_model.specs.Lists.{all_differ}
@@ -11,7 +11,7 @@ use Rattle.sg_model.specs.Names.{Name}
 use Rattle.sg_model.specs.Values.{Opening}
 use Rattle.sg_model.proofs.Small.{same_bytes, both_nil}
 use Rattle.sg_model.proofs.Members.{In, in_from_Contains, contains_from_in, in_left, in_right, in_map, in_flat, rec_in}
-use Rattle.sg_model.proofs.Finding.{find_passes, find_all, found_in, find_some, none_any}
+use Rattle.sg_model.proofs.Finding.{find_passes, found_in, find_some, none_any}
 use Rattle.sg_law.specs.Values as V
 use Rattle.sg_law.specs.Values.{Binding, Commit, Followed, Move, all_openings}
 use Rattle.sg_law.proofs.Follow.{followed}
@@ -45,6 +45,7 @@ use Rattle.sg_protocol.proofs.Begun.{BegunBy, Either, call_first}
 use Rattle.sg_protocol.proofs.Going.{SessionInRun, Progress, Left, all_moves}
 use Rattle.sg_protocol.proofs.Happenings.{Happening, Asked, Idle, IsCourse, IsGiven, IsRight, Own, are_programs, happens, all_happen, pasts_kept, run_of, suffix_course}
 use Rattle.sg_protocol.proofs.OfSid.{of_sid}
+use Rattle.sg_protocol.proofs.NoRows.{program_found}
 
 module _ (sha : Hash) (hash : IsHash sha) (s : Schedule) (ps : List Past) (course : List Happening) (is_course : IsCourse sha s ps course) where
   abbrev pub w0 : World
@@ -213,11 +214,9 @@ module _ (sha : Hash) (hash : IsHash sha) (s : Schedule) (ps : List Past) (cours
 
       pub prog : (xs : List Program) → (Own sha s) xs → (r : ℕ) (q : Program) → program_for xs first.cast.graph r ≡ Some q → (q.graph ≡ g) × IsViewTable q.graph r q.views
       prog xs own r q e =
-          let both = find_all (λ (q : Program). bytes_eq q.digest first.cast.graph && (q.role == r)) (λ (q : Program). IsProgram sha q × In s.graphs q.graph) xs q own e in
-          let t = and_parts (bytes_eq q.digest first.cast.graph) (q.role == r) (find_passes (λ (q : Program). bytes_eq q.digest first.cast.graph && (q.role == r)) xs q e) in (
-            same_digest q.graph g both.1 (first.own).1 (sym (both.0).digest ∙ same_bytes q.digest first.cast.graph t.0 ∙ sym first.digest ∙ the_program.digest),
-            subst (λ z. IsViewTable q.graph z q.views) (eqb-true q.role r t.1) (both.0).views,
-          )
+          let t = program_found xs first.cast.graph r q e in
+          let both = rec_in (λ (q : Program). IsProgram sha q × In s.graphs q.graph) xs q own t.2 in
+          (same_digest q.graph g both.1 (first.own).1 (sym (both.0).digest ∙ t.0 ∙ sym first.digest ∙ the_program.digest), subst (λ z. IsViewTable q.graph z q.views) t.1 (both.0).views)
 
       the_cast : (c : Cast) → CastFits c → In (hashed s wf) (session_text_of c) → session_id sha c ≡ sid → c ≡ first.cast
       the_cast c fits i e = one_cast c first.cast fits first.fits (same_text_same (session_text_of c) (session_text_of first.cast) i first.is_hashed (e ∙ sym first.sid_is))

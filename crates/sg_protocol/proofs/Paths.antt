@@ -1,22 +1,22 @@
 -- From the law's walk with values to the stored walk that explains events.
-use Rattle.std.specs.Prelude.{◌≡◌, ℕ, zero, suc, ◌<◌, ◌==◌, nat_lt, if◌then◌else◌, get_or, All, ◌||◌, ◌&&◌, ◌⊎◌, Bool, true, false, not, List, [], ◌∷◌, ◌++◌, map, flat_map, length, refl, Option, Some, None, option_map, unwrap_or, is_none, IfSome, IsSomeAnd, IsTrue}
+use Rattle.std.specs.Prelude.{◌≡◌, ℕ, zero, suc, ◌==◌, nat_lt, if◌then◌else◌, get_or, All, ◌||◌, ◌&&◌, ◌⊎◌, Bool, true, false, not, List, [], ◌∷◌, ◌++◌, map, flat_map, length, refl, Option, Some, None, option_map, unwrap_or, is_none, IfSome, IsSomeAnd, IsTrue}
 use Rattle.std.specs.List.{list_all, AllByRecursion}
 use Rattle.std.specs.Option.{option_or}
 use Rattle.std.specs.Bool.{beq}
 use Rattle.std.proofs.Common.{sym, ◌∙◌, ap, subst, inl, inr, arith, append_assoc}
 use Rattle.std.proofs.lemmas.Bool.{eqb-true, eq-eqb, or_cases, cases_Bool, and_from, not-true, not-false, and_parts}
 use Rattle.std.proofs.lemmas.List.Elements.{All-head, All-tail}
-use Rattle.std.proofs.lemmas.Bool.Decides.{nat_tests}
 use Rattle.sg_model.specs.Last.{Map, merge, last, last_or}
 use Rattle.sg_model.specs.Lists.{is_in, value_at, keys_of, rises_from}
 use Rattle.sg_model.specs.Shape.{Arrow, Walk, sender, receiver}
 use Rattle.sg_model.specs.Values.{Value}
 use Rattle.sg_model.proofs.Small.{and_true, and_left}
+use Rattle.sg_model.proofs.Numbers.{low_none}
 use Rattle.sg_protocol.specs.Graph.{Graph, Edge, IsGraph, AreNumbers, shape, writes, reads}
 use Rattle.sg_protocol.specs.Calls.{Event}
 use Rattle.sg_protocol.specs.Acting.{is_typed}
 use Rattle.sg_protocol.specs.Walk as A
-use Rattle.sg_protocol.specs.Walk.{StoredStep, Act, Sends, Receives, act_if, counts, honest_acts, acts_of_event, stored, is_carried, is_written_first, are_hidden, is_typed_or_hidden, IsStoredStep, OnePath}
+use Rattle.sg_protocol.specs.Walk.{StoredStep, Act, Sends, Receives, act_if, honest_acts, acts_of_event, stored, is_carried, are_hidden, is_typed_or_hidden, IsStoredStep, OnePath}
 use Rattle.sg_law.specs.Accept.{TimedLabel}
 use Rattle.sg_law.specs.Values.{Stored, along, Deed, Move, Commit, Followed, after_step, value_read, read_values, wrote_if, read_if, deeds, carried, AllExact, Exact, named, nothing_stored, deed_of}
 use Rattle.sg_law.specs.Values.Deed.{WroteAlong, ReadAlong}
@@ -129,18 +129,6 @@ module _ (g : Graph) (honest : ℕ → Bool) where
       go true i = refl
       go false i = refl
 
-  -- a name stands once in names that rise
-  pub low_out : (m : Map (Option Value)) (x n : ℕ) → x < n → rises_from n (keys_of m) ≡ true → value_at m x ≡ None
-  low_out [] x n l r = refl
-  low_out (w ∷ ws) x n l r =
-      elim (cases_Bool (nat_lt w.0 n)) [
-        | inl e ↦ (let f = rw e at r in absurd (cc))
-        | inr e ↦ elim (cases_Bool (w.0 == x)) [
-          | inl d ↦ absurd (let s : w.0 ≡ x = eqb-true w.0 x d in grind (arith, nat_tests))
-          | inr d ↦ rw d (low_out ws x (suc w.0) (grind (arith, nat_tests)) (rw e at r))
-        ]
-      ]
-
   -- what holds of all that is looked up holds of all
   all_looked_up : (P : ℕ × Option Value → Bool) (m : Map (Option Value)) (n : ℕ) → rises_from n (keys_of m) ≡ true → ((x : ℕ) (r : Option Value) → value_at m x ≡ Some r → P (x, r) ≡ true) → list_all P m ≡ true
   all_looked_up P [] n up f = refl
@@ -150,7 +138,7 @@ module _ (g : Graph) (honest : ℕ → Bool) where
     where
       at : (x : ℕ) (r : Option Value) → value_at ws x ≡ Some r → rises_from (suc w.0) (keys_of ws) ≡ true → value_at (w ∷ ws) x ≡ Some r
       at x r e up' = elim (cases_Bool (w.0 == x)) [
-        | inl d ↦ (let same : w.0 ≡ x = eqb-true w.0 x d in let none : value_at ws x ≡ None = low_out ws x (suc w.0) (omega arith) up' in absurd (cc))
+        | inl d ↦ (let same : w.0 ≡ x = eqb-true w.0 x d in let none : value_at ws x ≡ None = low_none ws x (suc w.0) (omega arith) up' in absurd (cc))
         | inr d ↦ rw d e
       ]
 

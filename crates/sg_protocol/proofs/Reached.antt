@@ -30,10 +30,11 @@ use Rattle.sg_protocol.specs.Live.{IsSound, IsLive}
 use Rattle.sg_protocol.specs.NodeStates.{RepresentsLive, RepresentEach, IsReachableLive}
 use Rattle.sg_protocol.proofs.Acts as C
 use Rattle.sg_protocol.proofs.Reachable.{states_are_reachable}
-use Rattle.sg_protocol.proofs.Live.{found, start_sound, join_sound}
+use Rattle.sg_protocol.proofs.Live.{start_sound, join_sound}
 use Rattle.sg_protocol.proofs.Nodes.{ActSent, NextTaken, start_all, abandon_all, act_all, deliver_all}
 use Rattle.sg_protocol.proofs.ReadBack.{read-SpellsFrame}
 use Rattle.sg_protocol.proofs.Representation.{states_represent, after}
+use Rattle.sg_protocol.proofs.NoRows.{found_for}
 
 module _ (sha : Hash) (hash : IsHash sha) where
   -- what is held of the session represents it, and a sound session stands behind it
@@ -94,14 +95,14 @@ module _ (sha : Hash) (hash : IsHash sha) where
         → IfSome (last f.items) (λ i. ReachedIn n.programs (extended a.x (Gave i (openings_for values confs))))
     act_reached sid0 label values confs good f a h =
         let written : List Opening = openings_for values confs in
-        let r = gives n.keys a.p a.x label values confs (found sha hash n programs (a.x).cast.graph (a.x).role a.p a.found_p).is_program (at a.x a.p a.found_p h) a.rows good in
+        let r = gives n.keys a.p a.x label values confs (found_for sha n.programs programs (a.x).cast.graph (a.x).role a.p a.found_p).is_program (at a.x a.p a.found_p h) a.rows good in
         let own_last : last f.items ≡ Some (own_item sha n.keys a.p a.x label written) = ap (λ (z : Frame). last z.items) (sym a.its) ∙ r.0 in
         subst (λ o. IfSome o (λ i. ReachedIn n.programs (extended a.x (Gave i written)))) (sym own_last) (under (extended a.x (Gave (own_item sha n.keys a.p a.x label written) written)) a.p a.found_p r.1)
 
     next_reached : (f : Frame) (s : Session) → HasSpelling f → NextTaken sha n f s → ReachedIn n.programs s → ReachedIn n.programs (extended s (Took f))
     next_reached f s sp t h =
         let v : s.cast.version ≡ f.version = eqb-true s.cast.version f.version (and_parts (bytes_eq s.sid f.sid && (s.role == f.receiver)) (s.cast.version == f.version) (find_passes (is_for f) n.live s t.found)).1 in
-        let q = found sha hash n programs s.cast.graph s.role t.p t.found_p in
+        let q = found_for sha n.programs programs s.cast.graph s.role t.p t.found_p in
         under (extended s (Took f)) t.p t.found_p (takes n.keys t.p s f q.is_program (sym q.role_is) (at s t.p t.found_p h) t.waits sp (sym v) t.rows)
 
     pub node_reached : AllByRecursion (ReachedIn n.programs) n.live → (c : Call) → IsCallInRange c → AllByRecursion (ReachedIn n.programs) (node_after n c (answer sha n c)).live

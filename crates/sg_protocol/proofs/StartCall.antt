@@ -1,8 +1,8 @@
 -- What a start is to the law.
-use Rattle.std.specs.Prelude.{◌≡◌, ℕ, ◌<◌, ◌==◌, nat_le, ◌&&◌, true, false, not, List, [], ◌∷◌, ◌++◌, length, bytes_eq, refl, Option, Some, None, option_map}
+use Rattle.std.specs.Prelude.{◌≡◌, ℕ, ◌<◌, ◌==◌, ◌&&◌, true, false, List, [], ◌∷◌, ◌++◌, length, bytes_eq, refl, Option, Some, None}
 use Rattle.std.specs.Option.{option_map_or}
 use Rattle.std.proofs.Common.{sym, ◌∙◌, ap, subst, inl, inr, append-nil}
-use Rattle.std.proofs.lemmas.Bool.{cases_Bool, not-false}
+use Rattle.std.proofs.lemmas.Bool.{cases_Bool}
 use Rattle.sg_model.specs.Lists.{first_some}
 use Rattle.sg_model.specs.Names.{Name}
 use Rattle.sg_protocol.specs.Graph.{Graph, shape}
@@ -12,21 +12,21 @@ use Rattle.sg_protocol.specs.TextLaws.{CastFits}
 use Rattle.sg_protocol.specs.Keyring.{Program}
 use Rattle.sg_protocol.specs.Session.{principal, new_session}
 use Rattle.sg_protocol.specs.Calls.{Started, Start, Answer, Happened, NotStarted, StartFault}
-use Rattle.sg_protocol.specs.Verdict.{row}
 use Rattle.sg_protocol.specs.Notes.{Note, notes, notes_of_start}
 use Rattle.sg_protocol.specs.Schedule.{Schedule}
 use Rattle.sg_law.specs.Values.{State}
 use Rattle.sg_protocol.proofs.Entries.{entries, Roles}
-use Rattle.sg_protocol.proofs.Moves.{Matches, row_none}
+use Rattle.sg_protocol.proofs.Moves.{Matches}
 use Rattle.sg_protocol.specs.Acting.{answer, started, rows_of_start}
-use Rattle.sg_model.proofs.Small.{none_parts, same_bytes}
+use Rattle.sg_model.proofs.Small.{same_bytes}
 use Rattle.sg_model.proofs.Members.{In}
-use Rattle.sg_protocol.specs.Node.{Node, is_cast, stranger, has_joined, starter}
+use Rattle.sg_protocol.specs.Node.{Node, has_joined, starter}
 use Rattle.sg_protocol.specs.NodeAfter.{still}
 use Rattle.sg_protocol.proofs.KnownSession.{SessionOfCast}
 use Rattle.sg_protocol.proofs.Finding.{joined_more, joined_less, joined_now}
 use Rattle.sg_protocol.proofs.Calls.{transcript_in, quiet_event, Fresh, NodeOk, Out}
 use Rattle.sg_protocol.proofs.AfterCalls.{cast_parts, event_other, joined_other, kept_same, new_matches, join_now, join_status, nothing, no_two, joined_ok, other_joined}
+use Rattle.sg_protocol.proofs.NoRows.{StartRows, no_start_row}
 
 pub start_made : (c : Cast) (a : Answer) (nt : Note) → In (notes_of_start c a).made nt → ⊥
 start_made c (NotStarted StartFault.UnknownGraph) nt i = i
@@ -53,11 +53,9 @@ module _ {sha : Hash} {programs : List Program} {sid : List ℕ} {cast : Cast} {
         mine h =
             let same : session_id sha c ≡ sid = same_bytes (session_id sha c) sid h in
             let its : c ≡ cast = one_cast c fits (hs (session_text_of c) (inl refl)) same in
-            let one : (row (not (is_cast n.keys p.graph c p.role)) StartFault.BadCast ≡ None) × (first_some (option_map StartFault.UnknownPeer (stranger n.keys c) ∷ row (has_joined n.joins (session_id sha c) p.role) StartFault.Joined ∷ row (nat_le 65536 (length n.joins)) StartFault.CacheFull ∷ row (nat_le 4096 (length n.live)) StartFault.SessionsFull ∷ []) ≡ None) = none_parts _ _ e in
-            let two = none_parts (option_map StartFault.UnknownPeer (stranger n.keys c)) (row (has_joined n.joins (session_id sha c) p.role) StartFault.Joined ∷ row (nat_le 65536 (length n.joins)) StartFault.CacheFull ∷ row (nat_le 4096 (length n.live)) StartFault.SessionsFull ∷ []) one.1 in
-            let three = none_parts (row (has_joined n.joins (session_id sha c) p.role) StartFault.Joined) (row (nat_le 65536 (length n.joins)) StartFault.CacheFull ∷ row (nat_le 4096 (length n.live)) StartFault.SessionsFull ∷ []) two.1 in
-            let cp = cast_parts n.keys p.graph c p.role (not-false (is_cast n.keys p.graph c p.role) (row_none _ _ one.0)) in
-            let free : has_joined n.joins sid p.role ≡ false = subst (λ z. has_joined n.joins z p.role ≡ false) same (row_none _ _ three.0) in
+            let r : StartRows sha n c p = no_start_row sha n c p e in
+            let cp = cast_parts n.keys p.graph c p.role r.cast in
+            let free : has_joined n.joins sid p.role ≡ false = subst (λ z. has_joined n.joins z p.role ≡ false) same r.unjoined in
             let is_who : principal cast p.role ≡ who = subst (λ (z : Cast). principal z p.role ≡ who) its (cp.1 ∙ ok.me) in
             let inside : p.role < length cast.names = subst (λ (z : Cast). p.role < length z.names) its cp.0 in
             let fresh : Fresh known s LeftBy st who n = no_two known s LeftBy st who n p.role ok.status is_who inside free in
