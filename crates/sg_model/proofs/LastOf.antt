@@ -1,5 +1,5 @@
 -- Lemmas on keys and on the last elements of each key.
-use Rattle.std.proofs.Common.{◌≡◌, ◌⊎◌, ℕ, ◌==◌, Bool, true, false, ◌||◌, List, [], ◌∷◌, ◌++◌, refl, sym, ap, ◌∙◌, subst, inl, inr}
+use Rattle.std.proofs.Common.{◌≡◌, ◌⊎◌, ℕ, ◌==◌, true, false, ◌||◌, List, [], ◌∷◌, ◌++◌, refl, sym, ap, ◌∙◌, subst, inl, inr}
 use Rattle.std.proofs.lemmas.Bool.{cases_Bool, eqb-true, eq-eqb, or_parts, or_cases, or_left, true≢false}
 use Rattle.sg_model.specs.Last.{has, last_of, Sublist, Covered}
 use Rattle.sg_model.specs.Last.Sublist.{Done, Skip, Keep}

@@ -1,5 +1,5 @@
 -- The members of a list.
-use Rattle.std.specs.Prelude.{◌≡◌, ◌⊎◌, All, Bool, true, List, [], ◌∷◌, ◌++◌, map, filter, flat_map, refl, Contains, zero, suc, ℕ, length, get_or, ◌<◌, ◌+◌}
+use Rattle.std.specs.Prelude.{◌≡◌, ◌⊎◌, All, Bool, true, List, [], ◌∷◌, ◌++◌, map, filter, flat_map, refl, Contains, zero, suc, ℕ, length, get_or, ◌<◌}
 use Rattle.std.specs.List.{AllByRecursion}
 use Rattle.std.proofs.Common.{sym, ap, subst, inl, inr, ◌∙◌, arith}
 use Rattle.std.proofs.lemmas.Bool.{cases_Bool}

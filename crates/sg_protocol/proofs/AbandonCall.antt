@@ -1,5 +1,5 @@
 -- What it is to the law that a session is left.
-use Rattle.std.specs.Prelude.{◌≡◌, ℕ, ◌⊎◌, true, false, List, [], filter, bytes_eq, refl, Option, Some, None}
+use Rattle.std.specs.Prelude.{◌≡◌, ℕ, ◌⊎◌, length, true, false, List, [], filter, bytes_eq, refl, Option, Some, None}
 use Rattle.std.specs.Option.{option_map_or}
 use Rattle.std.proofs.Common.{sym, ◌∙◌, ap, subst, inl, inr}
 use Rattle.std.proofs.lemmas.Bool.{cases_Bool}
@@ -20,8 +20,9 @@ use Rattle.sg_protocol.specs.Node.{Node, session_with}
 use Rattle.sg_protocol.specs.NodeAfter.{goes_on, replace}
 use Rattle.sg_protocol.proofs.KnownSession.{SessionOfCast}
 use Rattle.sg_protocol.proofs.Calls.{Status, NodeOk, WasLeft, Out}
-use Rattle.sg_protocol.proofs.AfterCalls.{replace_lengths, other_status, nothing}
+use Rattle.sg_protocol.proofs.AfterCalls.{other_status, nothing}
 use Rattle.sg_protocol.proofs.OfSid.{of_sid, replace-other, replace-own}
+use Rattle.sg_protocol.proofs.Nodes.{all_replaced}
 
 module _ {sha : Hash} {programs : List Program} {sid : List ℕ} {cast : Cast} {g : Graph} {Hashed : List ℕ → Type 0} (known : SessionOfCast sha programs sid cast g Hashed) (s : Schedule) (LeftBy : Name → Type 0) (st : State) (who : Name) (n : Node) (ok : NodeOk known s LeftBy st who n) where
   after_own : (sid0 : List ℕ) → sid0 ≡ sid → filter (of_sid sid) (replace (λ (x : Session). bytes_eq x.sid sid0) (λ x. []) n.live) ≡ replace (λ (x : Session). bytes_eq x.sid sid0) (λ x. []) (filter (of_sid sid) n.live)
@@ -31,7 +32,7 @@ module _ {sha : Hash} {programs : List Program} {sid : List ℕ} {cast : Cast} {
   abandon_done sid0 left = record {
     me = ok.me;
     has_programs = ok.has_programs;
-    lengths = replace_lengths (λ (x : Session). bytes_eq x.sid sid0) (λ x. []) n.live (λ z l. tt) ok.lengths;
+    lengths = all_replaced (λ (x : Session). length x.sid ≡ 32) (λ (x : Session). bytes_eq x.sid sid0) (λ x. []) n.live (λ z q l. tt) ok.lengths;
     status = elim (cases_Bool (bytes_eq sid0 sid)) [
       | inl h ↦ mine (same_bytes sid0 sid h) ok.status
       | inr h ↦ other_status known s LeftBy st who n (goes_on n (λ (x : Session). bytes_eq x.sid sid0) (λ x. [])) (replace-other (λ (x : Session). bytes_eq x.sid sid0) (λ x. []) (λ x e. subst (λ y. bytes_eq y sid ≡ false) (sym (same_bytes x.sid sid0 e)) h) (λ x e. refl) n.live) (λ r j. j) ok.status

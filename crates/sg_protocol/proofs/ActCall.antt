@@ -43,8 +43,9 @@ use Rattle.sg_protocol.proofs.KnownSession.{SessionOfCast}
 use Rattle.sg_protocol.proofs.Acts as C
 use Rattle.sg_protocol.proofs.Finding.{one_index}
 use Rattle.sg_protocol.proofs.Calls.{transcript_in, sent_in, quiet_event, NodeOk, Out}
-use Rattle.sg_protocol.proofs.AfterCalls.{still_lengths, replace_lengths, event_other, kept_writes, transcript_step, goes_now, goes_status, other_status, nothing, the_session}
+use Rattle.sg_protocol.proofs.AfterCalls.{event_other, kept_writes, transcript_step, goes_now, goes_status, other_status, nothing, the_session}
 use Rattle.sg_protocol.proofs.OfSid.{of_sid, replace-other, still-own, still-other}
+use Rattle.sg_protocol.proofs.Nodes.{all_still, all_replaced}
 
 module _ {sha : Hash} {programs : List Program} {sid : List ℕ} {cast : Cast} {g : Graph} {Hashed : List ℕ → Type 0} (known : SessionOfCast sha programs sid cast g Hashed) (s : Schedule) (LeftBy : Name → Type 0) (st : State) (who : Name) (n : Node) (ok : NodeOk known s LeftBy st who n) (hon : is_honest s who ≡ true) where
   abbrev commit : Commit
@@ -110,7 +111,7 @@ module _ {sha : Hash} {programs : List Program} {sid : List ℕ} {cast : Cast} {
         where
           go : (o : Option Item) → AllByRecursion (λ (z : Session). length z.sid ≡ 32) (option_map_or (λ (i : Item). still n.programs (extended z (Gave i os))) o (z ∷ []))
           go None = (l, tt)
-          go (Some i) = still_lengths n.programs (extended z (Gave i os)) l
+          go (Some i) = all_still (λ (x : Session). length x.sid ≡ 32) n.programs (extended z (Gave i os)) l
 
       now_own : (z : Session) → which z ≡ true → bytes_eq z.sid sid ≡ true → filter (of_sid sid) (now z) ≡ now z
       now_own z w h = go (last f.items)
@@ -180,7 +181,7 @@ module _ {sha : Hash} {programs : List Program} {sid : List ℕ} {cast : Cast} {
             node = record {
               me = ok.me;
               has_programs = ok.has_programs;
-              lengths = replace_lengths which now n.live now_long ok.lengths;
+              lengths = all_replaced (λ (x : Session). length x.sid ≡ 32) which now n.live (λ z q l. now_long z l) ok.lengths;
               status = goes_status known s LeftBy st who n t.0 which now (moved commit st (Writes x.role label os)) (extended x (Gave gv.gi os)) ok.has_programs own (λ z w. now_own z w (own z w)) t.2
                   (ap now (sym t.1) ∙ ap (λ o. option_map_or (λ (i : Item). still n.programs (extended x (Gave i os))) o (x ∷ [])) gv.its_last) (ap (λ (z : Session). z.role) t.1) gv.matches;
             };
@@ -251,7 +252,7 @@ module _ {sha : Hash} {programs : List Program} {sid : List ℕ} {cast : Cast} {
           other h = record {
             me = ok.me;
             has_programs = ok.has_programs;
-            lengths = replace_lengths which now n.live now_long ok.lengths;
+            lengths = all_replaced (λ (x : Session). length x.sid ≡ 32) which now n.live (λ z q l. now_long z l) ok.lengths;
             status = other_status known s LeftBy st who n (goes_on n which now) (replace-other which now (λ z e. subst (λ y. bytes_eq y sid ≡ false) (sym (same_bytes z.sid sid0 e)) h) (λ z e. now_other z (subst (λ y. bytes_eq y sid ≡ false) (sym (same_bytes z.sid sid0 e)) h)) n.live) (λ r j. j) ok.status;
           }
 

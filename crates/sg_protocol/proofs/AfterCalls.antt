@@ -1,9 +1,8 @@
 -- What a call leaves of a session.
 use Rattle.sg_law.specs.Accept.{TimedLabel}
-use Rattle.std.specs.Prelude.{◌≡◌, ℕ, ◌<◌, nat_lt, ◌⊎◌, Bool, true, false, List, [], ◌∷◌, ◌++◌, filter, flat_map, length, find, bytes_eq, refl, Some}
-use Rattle.std.specs.List.{AllByRecursion}
+use Rattle.std.specs.Prelude.{◌≡◌, ℕ, ◌<◌, ◌⊎◌, Bool, true, false, List, [], ◌∷◌, ◌++◌, filter, flat_map, length, find, bytes_eq, refl, Some}
 use Rattle.std.proofs.Common.{sym, ◌∙◌, ap, subst, inl, inr, append-nil}
-use Rattle.std.proofs.lemmas.Bool.{ne_eqb, cases_Bool, and_parts}
+use Rattle.std.proofs.lemmas.Bool.{ne_eqb, cases_Bool}
 use Rattle.std.proofs.lemmas.List.{map-append}
 use Rattle.std.proofs.lemmas.Slice.Eq.{bytes_eq-Decides}
 use Rattle.sg_model.specs.Lists.{all_differ}
@@ -12,7 +11,7 @@ use Rattle.sg_model.specs.Names.{Name}
 use Rattle.sg_protocol.specs.Graph.{Graph, shape}
 use Rattle.sg_protocol.specs.Frame.{Cast, Item}
 use Rattle.sg_protocol.specs.Texts.{Hash, commitment}
-use Rattle.sg_protocol.specs.Keyring.{Keyring, Program}
+use Rattle.sg_protocol.specs.Keyring.{Program}
 use Rattle.sg_protocol.specs.Session.{Session, Exchange, principal, items_of, transcript, extended, new_session}
 use Rattle.sg_protocol.specs.Calls.{Event, Call, Answer, events_of_answer, sid_of}
 use Rattle.sg_protocol.specs.Notes.{Note, Notes}
@@ -25,30 +24,17 @@ use Rattle.sg_law.specs.Values.Move.{Writes, Takes}
 use Rattle.sg_protocol.proofs.Entries.{entry, entries, Roles}
 use Rattle.sg_protocol.proofs.Moves.{NoteOk, Matches}
 use Rattle.std.proofs.lemmas.List.Elements.{filter-append}
-use Rattle.sg_model.proofs.Small.{clash, all-append, same_bytes, lt_of}
+use Rattle.sg_model.proofs.Small.{clash, all-append}
 use Rattle.sg_model.proofs.Members.{In}
 use Rattle.sg_model.proofs.Finding.{find_head, find_nil, find_passes, find-filter}
-use Rattle.sg_protocol.specs.Node.{Node, is_cast, has_joined}
+use Rattle.sg_protocol.specs.Node.{Node, has_joined}
 use Rattle.sg_protocol.specs.NodeAfter.{node_after, joined, goes_on, replace, still, is_over}
 use Rattle.sg_protocol.proofs.Paths.{flat_map-append}
 use Rattle.sg_protocol.proofs.KnownSession.{SessionOfCast}
 use Rattle.sg_protocol.proofs.Finding.{one_index, joined_more, joined_now}
 use Rattle.sg_protocol.proofs.Calls.{Quiet, quiet_transcript, quiet_items, quiet_took, Untouched, Fresh, Here, Status, NodeOk, Kept, WasLeft, Out}
 use Rattle.sg_protocol.proofs.OfSid.{of_sid, replace-own, still-own, still-other}
-
-pub still_lengths : (ps : List Program) (x : Session) → length x.sid ≡ 32 → AllByRecursion (λ (x : Session). length x.sid ≡ 32) (still ps x)
-still_lengths ps x l = elim (cases_Bool (is_over ps x)) [ inl e ↦ rw e tt | inr e ↦ rw e (l, tt) ]
-
-pub replace_lengths : (which : Session → Bool) (now : Session → List Session) (xs : List Session) → ((z : Session) → length z.sid ≡ 32 → AllByRecursion (λ (x : Session). length x.sid ≡ 32) (now z)) → AllByRecursion (λ (x : Session). length x.sid ≡ 32) xs → AllByRecursion (λ (x : Session). length x.sid ≡ 32) (replace which now xs)
-replace_lengths which now [] f a = tt
-replace_lengths which now (x ∷ xs) f a = elim (cases_Bool (which x)) [ inl e ↦ rw e (all-append (λ (x : Session). length x.sid ≡ 32) (now x) xs (f x a.0) a.1) | inr e ↦ rw e (a.0, replace_lengths which now xs f a.1) ]
-
--- what the test of a cast says
-pub cast_parts : (keys : Keyring) (g' : Graph) (c : Cast) (r : ℕ) → is_cast keys g' c r ≡ true → (r < length c.names) × (principal c r ≡ keys.me)
-cast_parts keys g' c r h =
-    let a = and_parts _ (bytes_eq (principal c r) keys.me) h in
-    let b = and_parts _ (nat_lt r (length c.names)) a.0 in
-    (lt_of r (length c.names) b.1, same_bytes (principal c r) keys.me a.1)
+use Rattle.sg_protocol.proofs.Nodes.{all_still}
 
 module _ (sid : List ℕ) where
   pub event_other : (e : Event) → bytes_eq (sid_of e) sid ≡ false → flat_map acts_of_event (filter (λ e. bytes_eq (sid_of e) sid) (e ∷ [])) ≡ []
@@ -202,7 +188,7 @@ module _ {sha : Hash} {programs : List Program} {sid : List ℕ} {cast : Cast} {
 
   module _ (st : State) (who : Name) (n : Node) (ok : NodeOk known s LeftBy st who n) where
     pub joined_ok : (x : Session) (st' : State) → length x.sid ≡ 32 → Status known s LeftBy st' who (joined n x) → NodeOk known s LeftBy st' who (joined n x)
-    joined_ok x st' l h = record { me = ok.me; has_programs = ok.has_programs; lengths = all-append (λ (x : Session). length x.sid ≡ 32) n.live (still n.programs x) ok.lengths (still_lengths n.programs x l); status = h }
+    joined_ok x st' l h = record { me = ok.me; has_programs = ok.has_programs; lengths = all-append (λ (x : Session). length x.sid ≡ 32) n.live (still n.programs x) ok.lengths (all_still (λ (x : Session). length x.sid ≡ 32) n.programs x l); status = h }
 
     pub other_joined : (x : Session) → bytes_eq x.sid sid ≡ false → length x.sid ≡ 32 → NodeOk known s LeftBy st who (joined n x)
     other_joined x h l = joined_ok x st l (other_status st who n (joined n x) (joined_other sid n x h) (λ r j. joined_more n.joins (x.sid, x.role) sid r j) ok.status)

@@ -52,9 +52,10 @@ use Rattle.sg_protocol.proofs.KnownSession.{SessionOfCast}
 use Rattle.sg_protocol.proofs.Takes as T
 use Rattle.sg_protocol.proofs.Finding.{one_index, joined_more, joined_less, joined_now}
 use Rattle.sg_protocol.proofs.Calls.{transcript_in, quiet_event, Fresh, NodeOk, TakesFrame, Out}
-use Rattle.sg_protocol.proofs.AfterCalls.{still_lengths, replace_lengths, cast_parts, event_other, joined_other, kept_takes, new_matches, transcript_step, join_now, goes_now, join_status, goes_status, other_status, nothing, no_two, joined_ok, other_joined, the_session}
+use Rattle.sg_protocol.proofs.AfterCalls.{event_other, joined_other, kept_takes, new_matches, transcript_step, join_now, goes_now, join_status, goes_status, other_status, nothing, no_two, joined_ok, other_joined, the_session}
 use Rattle.sg_protocol.proofs.OfSid.{of_sid, replace-other, still-own, still-other, for_sid}
-use Rattle.sg_protocol.proofs.NoRows.{JoinRows, no_join_row, joining_session, continued_session, text_hashed, join_fits, rows_join, rows_next}
+use Rattle.sg_protocol.proofs.NoRows.{JoinRows, no_join_row, joining_session, continued_session, text_hashed, join_fits, rows_join, rows_next, cast_parts}
+use Rattle.sg_protocol.proofs.Nodes.{all_still, all_replaced}
 
 ok_same : (r : Result Frame ℕ) (f f' : Frame) → r ≡ Ok f → r ≡ Ok f' → f ≡ f'
 ok_same r f f' a b = cc
@@ -230,7 +231,7 @@ module _ {sha : Hash} {programs : List Program} {sid : List ℕ} {cast : Cast} {
       other_node h None = record {
         me = ok.me;
         has_programs = ok.has_programs;
-        lengths = replace_lengths (is_for f) took n.live (λ z l. still_lengths n.programs (extended z (Took f)) l) ok.lengths;
+        lengths = all_replaced (λ (x : Session). length x.sid ≡ 32) (is_for f) took n.live (λ z q l. all_still (λ (x : Session). length x.sid ≡ 32) n.programs (extended z (Took f)) l) ok.lengths;
         status = other_status known s LeftBy st who n (goes_on n (is_for f) took) (replace-other (is_for f) took (λ z e. subst (λ y. bytes_eq y sid ≡ false) (sym (for_sid f z e)) h) (λ z e. still-other sid n.programs (extended z (Took f)) (subst (λ y. bytes_eq y sid ≡ false) (sym (for_sid f z e)) h)) n.live) (λ r j. j) ok.status;
       }
 
@@ -305,7 +306,7 @@ module _ {sha : Hash} {programs : List Program} {sid : List ℕ} {cast : Cast} {
           (subst (NodeOk known s LeftBy (moved commit st (Takes x.role t.node (entries f.items) f.openings)) who) (sym (ap (takes_read n) is_read ∙ ap nexts jn)) record {
             me = ok.me;
             has_programs = ok.has_programs;
-            lengths = replace_lengths (is_for f) took n.live (λ z l. still_lengths n.programs (extended z (Took f)) l) ok.lengths;
+            lengths = all_replaced (λ (x : Session). length x.sid ≡ 32) (is_for f) took n.live (λ z q l. all_still (λ (x : Session). length x.sid ≡ 32) n.programs (extended z (Took f)) l) ok.lengths;
             status = goes_status known s LeftBy st who n h.0 (is_for f) took (moved commit st (Takes x.role t.node (entries f.items) f.openings)) (extended x (Took f)) ok.has_programs own (λ z w. still-own sid n.programs (extended z (Took f)) (own z w)) h.2 (ap took (sym h.1)) (ap (λ (z : Session). z.role) h.1) t.matches;
           })
           wait pr.0 (inl ((h.0).alone ∙ ap (λ z. z ∷ []) (sym h.1), jn))

@@ -24,14 +24,13 @@ use Rattle.sg_protocol.specs.World.{World}
 use Rattle.sg_protocol.specs.Run.{cast_in}
 use Rattle.sg_protocol.specs.Bounds.{IsSession}
 use Rattle.sg_protocol.specs.Named.{GivesVariables, HasNamed, names_numbers}
-use Rattle.sg_protocol.proofs.AfterCalls.{cast_parts}
 use Rattle.sg_protocol.proofs.Progressing.{small_values}
 use Rattle.sg_protocol.proofs.ReadBack.{read-SpellsFrame}
 use Rattle.sg_protocol.proofs.LiveSessions.{took}
 use Rattle.sg_protocol.proofs.Named.{call_named}
 use Rattle.sg_protocol.proofs.KnownNodes.{Hashed, IsKnown, KnownNode, compiled, fits_cast, fresh, owned}
 use Rattle.sg_protocol.proofs.Happenings.{IsGiven, cast_given}
-use Rattle.sg_protocol.proofs.NoRows.{no_start_row}
+use Rattle.sg_protocol.proofs.NoRows.{no_start_row, cast_parts}
 
 -- an answer with an event names its numbers
 names : (a : Answer) (e : Event) → In (events_of_answer a) e → names_numbers a ≡ true

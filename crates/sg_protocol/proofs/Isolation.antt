@@ -4,28 +4,24 @@ use Rattle.std.specs.Option.{option_map_or}
 use Rattle.std.proofs.Common.{sym, ◌∙◌, ap, subst, inl, inr, arith}
 use Rattle.std.proofs.lemmas.List.Elements.{All-head, All-tail, filter-append}
 use Rattle.std.proofs.lemmas.Bool.{le-leb, leb-true, cases_Bool}
-use Rattle.sg_model.specs.Last.{last, Map}
 use Rattle.sg_model.specs.Lists.{first_some}
-use Rattle.sg_protocol.specs.Frame.{Frame, Cast, Item}
-use Rattle.sg_model.specs.Values.{Opening, Value}
+use Rattle.sg_protocol.specs.Frame.{Frame, Cast}
 use Rattle.sg_model.proofs.Small.{and_left, clash, same_bytes, length_filter, length-more}
 use Rattle.sg_model.proofs.Finding.{find-filter, any-append}
 use Rattle.sg_protocol.specs.Reading.{read}
 use Rattle.sg_protocol.specs.Texts.{Hash, session_id}
-use Rattle.sg_protocol.specs.Session.{Session, Took, Gave, extended, new_session}
+use Rattle.sg_protocol.specs.Session.{Session, new_session}
 use Rattle.sg_protocol.specs.Keyring.{Program}
 use Rattle.sg_protocol.specs.Node.{Node, is_for, session_with, session_for, has_joined, program_for, starter}
-use Rattle.sg_protocol.specs.Calls.{Event, Received, Call, Start, Act, Abandon, Deliver, Answer, Happened, Sends, Abandoned, NotStarted, NotDelivered, Refusal, StartFault, UnknownGraph, CacheFull, SessionsFull}
+use Rattle.sg_protocol.specs.Calls.{Event, Call, Start, Act, Abandon, Deliver, NotStarted, NotDelivered, Refusal, StartFault, UnknownGraph, CacheFull, SessionsFull}
 use Rattle.sg_protocol.specs.Verdict.{row, decided, rows_of_join, join_rows, next_rows, rows_of_session, rows, receipt, verdict_on}
-use Rattle.sg_protocol.specs.Acting.{started, rows_of_start, answer, openings_for}
-use Rattle.sg_protocol.specs.NodeAfter.{node_after, takes_read, joined, goes_on, still}
+use Rattle.sg_protocol.specs.Acting.{started, rows_of_start, answer}
+use Rattle.sg_protocol.specs.NodeAfter.{node_after, joined, goes_on, still}
 use Rattle.sg_protocol.specs.Past.{AnsweredCall, AreAnswers, calls_of_session, is_call_of, is_frame_of, answers, new_node}
 use Rattle.sg_protocol.specs.Isolation.{is_for_room, SessionsAreIsolated, IsLeft}
 use Rattle.sg_protocol.proofs.OfSid.{of_sid, replace-own, still-own}
-use Rattle.sg_protocol.proofs.PerCall.{calls_leave_others, joined_with}
+use Rattle.sg_protocol.proofs.PerCall.{after_call, calls_leave_others, joined_with}
 use Rattle.sg_protocol.proofs.First.{joins_grow}
-
--- ---- look-ups in a part of a list
 
 -- ---- the first row that holds, with and without the rows of refusals because there was no room
 
@@ -155,10 +151,6 @@ module _ (sha : Hash) (sid : List ℕ) (n n' : Node) (b : Beside sid n n') where
 
 -- ---- the nodes after a call
 
--- what an act leaves of a session
-abbrev given : List Opening → List Program → Option Item → Session → List Session
-given os ps o x = option_map_or (λ i. still ps (extended x (Gave i os))) o (x ∷ [])
-
 module _ (sid : List ℕ) (n n' : Node) (b : Beside sid n n') where
   -- a session is joined
   own_joined : (s : Session) → bytes_eq s.sid sid ≡ true → Beside sid (joined n s) (joined n' s)
@@ -180,56 +172,9 @@ module _ (sid : List ℕ) (n n' : Node) (b : Beside sid n n') where
     fewer = b.fewer;
   }
 
-  -- a frame was accepted
-  for_own : (f : Frame) (s : Session) → bytes_eq f.sid sid ≡ true → is_for f s ≡ true → bytes_eq s.sid sid ≡ true
-  for_own f s h e = subst (λ y. bytes_eq y sid ≡ true) (sym (same_bytes s.sid f.sid (and_left _ _ (and_left _ _ e)))) h
-
-  own_takes : (f : Frame) (o : Option Cast) → bytes_eq f.sid sid ≡ true →
-      Beside sid (option_map_or (λ c. joined n (extended (new_session f.sid c f.receiver) (Took f))) o (goes_on n (is_for f) (λ s. still n.programs (extended s (Took f)))))
-      (option_map_or (λ c. joined n' (extended (new_session f.sid c f.receiver) (Took f))) o (goes_on n' (is_for f) (λ s. still n'.programs (extended s (Took f)))))
-  own_takes f None h = subst (λ ps. Beside sid (goes_on n (is_for f) (λ s. still n.programs (extended s (Took f)))) (goes_on n' (is_for f) (λ s. still ps (extended s (Took f))))) (sym b.programs) (own_goes_on (is_for f) (λ s. still n.programs (extended s (Took f))) (λ s e. for_own f s h e) (λ s e. still-own sid n.programs (extended s (Took f)) (for_own f s h e)))
-  own_takes f (Some c) h = own_joined (extended (new_session f.sid c f.receiver) (Took f)) h
-
-  own_read : (r : Result Frame ℕ) → is_frame_of sid r ≡ true → Beside sid (takes_read n r) (takes_read n' r)
-  own_read (Err at) h = b
-  own_read (Ok f) h = own_takes f f.join h
-
-  own_deliver : (bs : List ℕ) (a : Answer) → is_frame_of sid (read bs) ≡ true → Beside sid (node_after n (Deliver bs) a) (node_after n' (Deliver bs) a)
-  own_deliver bs (Happened (Received s r label time values joins)) h = own_read (read bs) h
-  own_deliver bs other h = b
-
-  own_abandon : (s : List ℕ) (a : Answer) → bytes_eq s sid ≡ true → Beside sid (node_after n (Abandon s) a) (node_after n' (Abandon s) a)
-  own_abandon s Abandoned h = own_goes_on (λ x. bytes_eq x.sid s) (λ x. []) (λ x e. subst (λ y. bytes_eq y sid ≡ true) (sym (same_bytes x.sid s e)) h) (λ x e. refl)
-  own_abandon s other h = b
-
-  own_act : (s : List ℕ) (label : ℕ) (values : Map Value) (confounders : List (List ℕ)) (a : Answer) → bytes_eq s sid ≡ true → Beside sid (node_after n (Act s label values confounders) a) (node_after n' (Act s label values confounders) a)
-  own_act s label values confounders (Sends e to f) h =
-      subst (λ ps. Beside sid (goes_on n (λ x. bytes_eq x.sid s) (λ x. given (openings_for values confounders) n.programs (last f.items) x)) (goes_on n' (λ x. bytes_eq x.sid s) (λ x. given (openings_for values confounders) ps (last f.items) x))) (sym b.programs) (on_last (last f.items))
-    where
-      mine : (x : Session) → bytes_eq x.sid s ≡ true → bytes_eq x.sid sid ≡ true
-      mine x e = subst (λ y. bytes_eq y sid ≡ true) (sym (same_bytes x.sid s e)) h
-
-      on_last : (o : Option Item) → Beside sid (goes_on n (λ x. bytes_eq x.sid s) (λ x. given (openings_for values confounders) n.programs o x)) (goes_on n' (λ x. bytes_eq x.sid s) (λ x. given (openings_for values confounders) n.programs o x))
-      on_last None = own_goes_on (λ x. bytes_eq x.sid s) (λ x. x ∷ []) mine (λ x e. rw (mine x e) refl)
-      on_last (Some i) = own_goes_on (λ x. bytes_eq x.sid s) (λ x. still n.programs (extended x (Gave i (openings_for values confounders)))) mine (λ x e. still-own sid n.programs (extended x (Gave i (openings_for values confounders))) (mine x e))
-  own_act s label values confounders other h = b
-
 module _ (sha : Hash) (sid : List ℕ) (n n' : Node) (b : Beside sid n n') where
-  own_started : (c : Cast) (r : ℕ) (o : Option StartFault) → bytes_eq (session_id sha c) sid ≡ true → Beside sid (node_after n (Start c) (started (session_id sha c) r o)) (node_after n' (Start c) (started (session_id sha c) r o))
-  own_started c r None h = own_joined sid n n' b (new_session (session_id sha c) c r) h
-  own_started c r (Some fault) h = b
-
-  own_start : (c : Cast) (o : Option Program) → bytes_eq (session_id sha c) sid ≡ true →
-      let a : Answer = option_map_or (λ p. started (session_id sha c) p.role (first_some (rows_of_start n p (session_id sha c) c))) o (NotStarted StartFault.UnknownGraph) in
-      Beside sid (node_after n (Start c) a) (node_after n' (Start c) a)
-  own_start c None h = b
-  own_start c (Some p) h = own_started c p.role (first_some (rows_of_start n p (session_id sha c) c)) h
-
   own_after : (c : Call) → is_call_of sha sid c ≡ true → Beside sid (node_after n c (answer sha n c)) (node_after n' c (answer sha n c))
-  own_after (Start c) h = own_start c (starter n.programs c.graph) h
-  own_after (Act s label values confounders) h = own_act sid n n' b s label values confounders (answer sha n (Act s label values confounders)) h
-  own_after (Abandon s) h = own_abandon sid n n' b s (answer sha n (Abandon s)) h
-  own_after (Deliver bs) h = own_deliver sid n n' b bs (answer sha n (Deliver bs)) h
+  own_after c h = after_call sha sid true (Beside sid) n n' (sym b.programs) b (own_joined sid n n' b) (own_goes_on sid n n' b) c h
 
   other_after : (c : Call) → is_call_of sha sid c ≡ false → Beside sid (node_after n c (answer sha n c)) n'
   other_after c h =

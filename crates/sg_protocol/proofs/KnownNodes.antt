@@ -1,5 +1,5 @@
 -- What is known of a principal's node, whatever it is asked.
-use Rattle.std.specs.Prelude.{◌≡◌, ℕ, ◌<◌, ◌≤◌, ◌&&◌, if◌then◌else◌, Bool, true, false, not, List, [], ◌∷◌, ◌++◌, filter, length, bytes_eq, refl, Option, Some, None, IfSome, Result, Ok, Err}
+use Rattle.std.specs.Prelude.{◌≡◌, ℕ, ◌<◌, ◌≤◌, ◌&&◌, if◌then◌else◌, Bool, true, false, not, List, [], ◌∷◌, ◌++◌, filter, length, bytes_eq, refl, Option, Some, None, Result, Ok, Err}
 use Rattle.std.specs.List.{AllByRecursion}
 use Rattle.std.specs.Option.{option_map_or}
 use Rattle.std.proofs.Common.{sym, ◌∙◌, ap, subst, inl, inr, arith, append-nil}
@@ -9,7 +9,7 @@ use Rattle.std.proofs.lemmas.List.Elements.{filter-append}
 use Rattle.sg_model.specs.Last.{last}
 use Rattle.sg_model.specs.Lists.{all_differ, first_some}
 use Rattle.sg_model.specs.Names.{Name}
-use Rattle.sg_model.proofs.Small.{contradicts, length_filter, same_bytes}
+use Rattle.sg_model.proofs.Small.{contradicts, length_filter, same_bytes, if_any}
 use Rattle.sg_model.proofs.Members.{In, contains_from_in, in_left, in_right, rec_in}
 use Rattle.sg_protocol.specs.Graph.{Graph}
 use Rattle.sg_protocol.specs.Frame.{Cast, Frame, Item}
@@ -30,7 +30,6 @@ use Rattle.sg_protocol.specs.World.{World}
 use Rattle.sg_protocol.specs.Premises.{CollisionFree, hashed}
 use Rattle.sg_protocol.specs.IsSchedule.{IsProgram}
 use Rattle.sg_protocol.specs.Bounds.{IsSession}
-use Rattle.sg_protocol.proofs.AfterCalls.{cast_parts}
 use Rattle.sg_protocol.proofs.Finding.{one_index}
 use Rattle.sg_protocol.proofs.First.{programs_after, keys_after}
 use Rattle.sg_protocol.proofs.Joins.{Owns, call_step, owns_after}
@@ -39,6 +38,7 @@ use Rattle.sg_protocol.proofs.LiveSessions.{Known, call_known}
 use Rattle.sg_protocol.proofs.TextLaws.{cast_fits, one_cast}
 use Rattle.sg_protocol.proofs.Happenings.{IsGiven, are_programs, given_in_range}
 use Rattle.sg_protocol.proofs.OfSid.{of_sid, still-other}
+use Rattle.sg_protocol.proofs.NoRows.{cast_parts}
 
 -- ---- lists
 
@@ -150,11 +150,7 @@ module _ (sha : Hash) (hash : IsHash sha) (s : Schedule) (wf : World) where
 
     inside_after : (d : Call) → AllByRecursion IsInside (node_after n d (answer sha n d)).live
     inside_after (Start d) = start_all sha n IsInside k.inside d (λ p b. cast_inside n.keys p.graph d p.role b.cast)
-    inside_after (Act sid label values confs) = act_all sha n IsInside k.inside sid label values confs (λ f b h. same b.x (openings_for values confs) h (last f.items))
-      where
-        same : (x : Session) (os : List _) → IsInside x → (o : Option Item) → IfSome o (λ i. IsInside (extended x (Gave i os)))
-        same x os h None = tt
-        same x os h (Some i) = h
+    inside_after (Act sid label values confs) = act_all sha n IsInside k.inside sid label values confs (λ f b h. if_any (last f.items) (λ i. IsInside (extended b.x (Gave i (openings_for values confs)))) (λ i. h))
     inside_after (Abandon sid) = abandon_all sha n IsInside k.inside sid
     inside_after (Deliver bs) = deliver_all sha n IsInside k.inside bs (λ f x rd b h. h) (λ f d rd j b. cast_inside n.keys (b.p).graph d f.receiver b.cast)
 

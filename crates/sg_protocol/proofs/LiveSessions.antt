@@ -1,5 +1,5 @@
 -- What is known of the live sessions of nodes, and what a receipt checked.
-use Rattle.std.specs.Prelude.{◌≡◌, ◌≢◌, ℕ, ◌+◌, ◌==◌, nat_lt, ◌&&◌, ◌⊎◌, Bool, true, false, not, List, [], ◌∷◌, filter, flat_map, length, find, position, bytes_eq, refl, Option, Some, None, option_map, IfSome}
+use Rattle.std.specs.Prelude.{◌≡◌, ◌≢◌, ℕ, ◌+◌, ◌==◌, nat_lt, ◌&&◌, ◌⊎◌, true, false, not, List, [], ◌∷◌, filter, flat_map, length, find, position, bytes_eq, refl, Option, Some, None, option_map, IfSome, Ok}
 use Rattle.std.specs.List.{list_any, AllByRecursion}
 use Rattle.std.specs.Option.{option_map_or}
 use Rattle.std.proofs.Common.{sym, ◌∙◌, ap, subst, inl, inr}
@@ -9,7 +9,7 @@ use Rattle.sg_model.specs.Last.{Map, last}
 use Rattle.sg_model.specs.Lists.{first_some}
 use Rattle.sg_model.specs.Values.{Value}
 use Rattle.sg_model.specs.Names.{Name}
-use Rattle.sg_protocol.specs.Frame.{Cast, Item, Frame, IsCastOf}
+use Rattle.sg_protocol.specs.Frame.{Cast, Frame, IsCastOf}
 use Rattle.sg_protocol.specs.Spelling.{HasSpelling}
 use Rattle.sg_protocol.specs.Texts.{Hash, session_id, session_text_of}
 use Rattle.sg_protocol.specs.TextLaws.{CastFits}
@@ -17,33 +17,23 @@ use Rattle.sg_protocol.specs.Keyring.{Keyring, Program, key_of}
 use Rattle.sg_protocol.specs.Session.{Session, Exchange, Took, Gave, principal, own_time, time, at_turn, extended, new_session}
 use Rattle.sg_protocol.specs.Sending.{text_of, frame_sent, tag_for}
 use Rattle.sg_protocol.specs.Checks.{texts_checked}
-use Rattle.sg_protocol.specs.Calls.{Refusal, BadFrameTag, NoSuchView, BadEvidence, BadOpening, ActFault, Event, Sent, Call, Start, Act, Abandon, Deliver, Answer, Sends, Abandoned, NotStarted, NotActed, StartFault, UnknownGraph, UnknownSession, NotWaiting, sid_of, role_of}
-use Rattle.sg_protocol.specs.Verdict.{row, rows_of_session, has_frame_tag, is_shown, bad_time, has_item_tag, is_right, decided, receipt, verdict_on, rows_of_join, rows_of_next, join_rows, next_rows, rows}
+use Rattle.sg_protocol.specs.Calls.{BadFrameTag, NoSuchView, BadEvidence, BadOpening, ActFault, Event, Sent, Call, Start, Act, Abandon, Deliver, Sends, NotActed, UnknownGraph, UnknownSession, NotWaiting, sid_of, role_of}
+use Rattle.sg_protocol.specs.Verdict.{row, rows_of_session, has_frame_tag, is_shown, bad_time, has_item_tag, is_right, rows_of_join, rows_of_next, join_rows, next_rows, rows}
 use Rattle.sg_protocol.specs.Notes.{note_of, notes_in_session, Notes, notes, notes_of_start, no_notes, notes_of_read, session_of_frame, row_number}
 use Rattle.sg_protocol.specs.Schedule.{PairKey}
 use Rattle.sg_protocol.proofs.Moves.{row_none}
-use Rattle.sg_protocol.specs.Acting.{rows_of_act, openings_for, answer, started, acted, sent, rows_of_start}
-use Rattle.std.specs.Prelude.{Result, Ok, Err}
-use Rattle.sg_model.proofs.Small.{same_bytes, none_parts, both_nil, all-append}
+use Rattle.sg_protocol.specs.Acting.{rows_of_act, openings_for, answer, acted, sent}
+use Rattle.sg_model.proofs.Small.{same_bytes, none_parts, both_nil, if_any}
 use Rattle.sg_model.proofs.Members.{In}
 use Rattle.sg_model.proofs.Finding.{find_passes, find_all, none_any}
-use Rattle.sg_protocol.specs.Reading.{read}
-use Rattle.sg_protocol.specs.Node.{Node, is_for, session_with, session_for, program_for, starter}
-use Rattle.sg_protocol.specs.NodeAfter.{node_after, joined, goes_on, replace, still, is_over, takes_read}
+use Rattle.sg_protocol.specs.Node.{Node, is_for, session_with, session_for, program_for}
+use Rattle.sg_protocol.specs.NodeAfter.{node_after}
 use Rattle.sg_protocol.specs.World.{Logged, keyring_of}
 use Rattle.sg_protocol.specs.Run.{events_of, events_of_outcome}
-use Rattle.sg_protocol.proofs.TextLaws as TL
 use Rattle.sg_protocol.proofs.Sent.{FitSession}
 use Rattle.sg_protocol.proofs.TextLaws as TL
-use Rattle.sg_protocol.proofs.Nodes.{start_sends, abandon_sends, deliver_sends}
-use Rattle.sg_protocol.proofs.NoRows.{JoinRows, no_start_row, no_join_row, rows_join, joining_session, continued_session, text_hashed, join_fits}
-
-replace_all : {P : Session → Type 0} (which : Session → Bool) (now : Session → List Session) (xs : List Session) → ((z : Session) → which z ≡ true → P z → AllByRecursion P (now z)) → AllByRecursion P xs → AllByRecursion P (replace which now xs)
-replace_all which now [] f a = tt
-replace_all {P} which now (x ∷ xs) f a = elim (cases_Bool (which x)) [
-  | inl e ↦ rw e (all-append P (now x) xs (f x e a.0) a.1)
-  | inr e ↦ rw e (a.0, replace_all {P = P} which now xs f a.1)
-]
+use Rattle.sg_protocol.proofs.Nodes.{start_sends, abandon_sends, deliver_sends, start_all, act_all, abandon_all, deliver_all}
+use Rattle.sg_protocol.proofs.NoRows.{JoinRows, no_join_row, joining_session, continued_session, text_hashed, join_fits, cast_parts}
 
 -- if a session has no event, no entry is of it
 pub no_entry : (sid : List ℕ) (log : List Logged) → events_of sid log ≡ [] → find (λ (l : Logged). list_any (λ e. bytes_eq (sid_of e) sid) (events_of_outcome l.outcome)) log ≡ None
@@ -112,68 +102,23 @@ module _ (sha : Hash) (Hashed : List ℕ → Type 0) where
     pub is_hashed : Hashed (session_text_of x.cast)
     pub me : principal x.cast x.role ≡ who
 
-  still_known : (who : Name) (ps : List Program) (x : Session) → Known who x → AllByRecursion (Known who) (still ps x)
-  still_known who ps x h = elim (cases_Bool (is_over ps x)) [ inl e ↦ rw e tt | inr e ↦ rw e (h, tt) ]
-
   more_known : (who : Name) (x : Session) (e : Exchange) → Known who x → Known who (extended x e)
   more_known who x e h = record { id = h.id; is_hashed = h.is_hashed; me = h.me }
 
   module _ (who : Name) (n : Node) (me : n.keys.me ≡ who) (live : AllByRecursion (Known who) n.live) where
-    start_known : (c : Cast) → ((t : List ℕ) → In (notes sha n (Start c)).hashed t → Hashed t) → AllByRecursion (Known who) (node_after n (Start c) (answer sha n (Start c))).live
-    start_known c hs = by_program (starter n.programs c.graph) hs
-      where
-        by_rows : (p : Program) (o : Option StartFault) → first_some (rows_of_start n p (session_id sha c) c) ≡ o → ((t : List ℕ) → In (notes_of_start c (started (session_id sha c) p.role o)).hashed t → Hashed t) → AllByRecursion (Known who) (node_after n (Start c) (started (session_id sha c) p.role o)).live
-        by_rows p (Some f) e hs = live
-        by_rows p None e hs =
-            all-append (Known who) n.live (still n.programs (new_session (session_id sha c) c p.role)) live (still_known who n.programs (new_session (session_id sha c) c p.role) record { id = refl; is_hashed = hs (session_text_of c) (inl refl); me = same_bytes (principal c p.role) n.keys.me (and_parts _ (bytes_eq (principal c p.role) n.keys.me) (no_start_row sha n c p e).cast).1 ∙ me })
-
-        by_program : (o : Option Program) → let a : Answer = option_map_or (λ (p : Program). started (session_id sha c) p.role (first_some (rows_of_start n p (session_id sha c) c))) o (NotStarted StartFault.UnknownGraph) in
-            ((t : List ℕ) → In (notes_of_start c a).hashed t → Hashed t) → AllByRecursion (Known who) (node_after n (Start c) a).live
-        by_program None hs = live
-        by_program (Some p) hs = by_rows p (first_some (rows_of_start n p (session_id sha c) c)) refl hs
-
-    abandon_known : (sid0 : List ℕ) (a : Answer) → AllByRecursion (Known who) (node_after n (Abandon sid0) a).live
-    abandon_known sid0 Abandoned = replace_all {P = Known who} (λ (z : Session). bytes_eq z.sid sid0) (λ z. []) n.live (λ z e h. tt) live
-    abandon_known sid0 other = live
-
-    act_known : (sid0 : List ℕ) (label : ℕ) (values : Map Value) (confs : List (List ℕ)) (a : Answer) → AllByRecursion (Known who) (node_after n (Act sid0 label values confs) a).live
-    act_known sid0 label values confs (Sends e to f) = replace_all {P = Known who} (λ (z : Session). bytes_eq z.sid sid0) (λ z. option_map_or (λ (i : Item). still n.programs (extended z (Gave i (openings_for values confs)))) (last f.items) (z ∷ [])) n.live (λ z e h. now z h (last f.items)) live
-      where
-        now : (z : Session) → Known who z → (o : Option Item) → AllByRecursion (Known who) (option_map_or (λ (i : Item). still n.programs (extended z (Gave i (openings_for values confs)))) o (z ∷ []))
-        now z h None = (h, tt)
-        now z h (Some i) = still_known who n.programs _ (more_known who z (Gave i (openings_for values confs)) h)
-    act_known sid0 label values confs other = live
-
-    deliver_known : (bs : List ℕ) → ((t : List ℕ) → In (notes sha n (Deliver bs)).hashed t → Hashed t) → AllByRecursion (Known who) (node_after n (Deliver bs) (answer sha n (Deliver bs))).live
-    deliver_known bs hs = go (read bs) refl
-      where
-        took_ : (f : Frame) → first_some (rows sha n f) ≡ None → ((t : List ℕ) → In (notes_of_read sha n (Ok f)).hashed t → Hashed t) → (o : Option Cast) → f.join ≡ o → AllByRecursion (Known who) (option_map_or (λ c. joined n (extended (new_session f.sid c f.receiver) (Took f))) o (goes_on n (is_for f) (λ z. still n.programs (extended z (Took f))))).live
-        took_ f e hs None j = replace_all {P = Known who} (is_for f) (λ z. still n.programs (extended z (Took f))) n.live (λ z q h. still_known who n.programs (extended z (Took f)) (more_known who z (Took f) h)) live
-        took_ f e hs (Some c) j = by_program (program_for n.programs c.graph f.receiver) refl
-          where
-            done : (p : Program) → first_some (rows_of_join sha n f c p) ≡ None → AllByRecursion (Known who) (joined n (extended (new_session f.sid c f.receiver) (Took f))).live
-            done p rj =
-                let r : JoinRows sha n f c p = no_join_row sha n f c p rj in
-                let x : Session = new_session f.sid c f.receiver in
-                all-append (Known who) n.live (still n.programs (extended x (Took f))) live (still_known who n.programs (extended x (Took f)) record { id = sym r.sid; is_hashed = hs (session_text_of c) (text_hashed sha n f c j e); me = same_bytes (principal c f.receiver) n.keys.me (and_parts _ (bytes_eq (principal c f.receiver) n.keys.me) r.cast).1 ∙ me })
-
-            by_program : (o : Option Program) → program_for n.programs c.graph f.receiver ≡ o → AllByRecursion (Known who) (joined n (extended (new_session f.sid c f.receiver) (Took f))).live
-            by_program None pc = (let q : Some UnknownGraph ≡ None = sym (rows_join sha n f c j None pc) ∙ e in absurd (cc))
-            by_program (Some p) pc = done p (sym (rows_join sha n f c j (Some p) pc) ∙ e)
-
-        by_rows : (f : Frame) → read bs ≡ Ok f → (o : Option Refusal) → first_some (rows sha n f) ≡ o → AllByRecursion (Known who) (node_after n (Deliver bs) (decided (receipt f) o)).live
-        by_rows f e None q = subst (λ r. AllByRecursion (Known who) (takes_read n r).live) (sym e) (took_ f q (subst (λ r. (t : List ℕ) → In (notes_of_read sha n r).hashed t → Hashed t) e hs) f.join refl)
-        by_rows f e (Some r) q = live
-
-        go : (r : Result Frame ℕ) → read bs ≡ r → AllByRecursion (Known who) (node_after n (Deliver bs) (answer sha n (Deliver bs))).live
-        go (Err at) e = subst (λ r. AllByRecursion (Known who) (node_after n (Deliver bs) (verdict_on sha n r)).live) (sym e) live
-        go (Ok f) e = subst (λ r. AllByRecursion (Known who) (node_after n (Deliver bs) (verdict_on sha n r)).live) (sym e) (by_rows f e (first_some (rows sha n f)) refl)
-
     pub call_known : (c : Call) → ((t : List ℕ) → In (notes sha n c).hashed t → Hashed t) → AllByRecursion (Known who) (node_after n c (answer sha n c)).live
-    call_known (Start c) hs = start_known c hs
-    call_known (Act sid0 label values confs) hs = act_known sid0 label values confs (answer sha n (Act sid0 label values confs))
-    call_known (Abandon sid0) hs = abandon_known sid0 (answer sha n (Abandon sid0))
-    call_known (Deliver bs) hs = deliver_known bs hs
+    call_known (Start c) hs = start_all sha n (Known who) live c (λ p b. record {
+      id = refl;
+      is_hashed = hs (session_text_of c) (subst (λ a. In (notes_of_start c a).hashed (session_text_of c)) (sym b.is_answer) (inl refl));
+      me = (cast_parts n.keys p.graph c p.role b.cast).1 ∙ me;
+    })
+    call_known (Act sid0 label values confs) hs = act_all sha n (Known who) live sid0 label values confs (λ f a k. if_any (last f.items) (λ i. Known who (extended a.x (Gave i (openings_for values confs)))) (λ i. more_known who a.x (Gave i (openings_for values confs)) k))
+    call_known (Abandon sid0) hs = abandon_all sha n (Known who) live sid0
+    call_known (Deliver bs) hs = deliver_all sha n (Known who) live bs (λ f x rd t k. more_known who x (Took f) k) (λ f c rd j t. record {
+      id = sym t.sid;
+      is_hashed = hs (session_text_of c) (subst (λ r. In (notes_of_read sha n r).hashed (session_text_of c)) (sym rd) (text_hashed sha n f c j t.accepted));
+      me = (cast_parts n.keys (t.p).graph c f.receiver t.cast).1 ∙ me;
+    })
 
   -- ---- what a receipt checked
 
@@ -212,7 +157,7 @@ module _ (sha : Hash) (Hashed : List ℕ → Type 0) where
           fits = join_fits sha n f c j spelled;
           id = sym r.sid;
           is_hashed = hs (session_text_of c) (text_hashed sha n f c j none);
-          me = same_bytes (principal c f.receiver) n.keys.me (and_parts _ (bytes_eq (principal c f.receiver) n.keys.me) r.cast).1 ∙ me;
+          me = (cast_parts n.keys p.graph c f.receiver r.cast).1 ∙ me;
           version = co.version;
           found = note_there p x (joining_session sha n f c j p pc);
           tag_is = tag_row n.keys p x f r.rows;

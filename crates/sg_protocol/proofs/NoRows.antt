@@ -1,5 +1,5 @@
 -- What is known of a start or a frame that no row refuses, and of the program that is found for it.
-use Rattle.std.specs.Prelude.{◌≡◌, ℕ, nat_lt, nat_le, ◌&&◌, ◌==◌, true, false, not, List, [], ◌∷◌, length, bytes_eq, refl, Option, Some, None, option_map, option_and_then, IfSome, Ok}
+use Rattle.std.specs.Prelude.{◌≡◌, ℕ, ◌<◌, nat_lt, nat_le, ◌&&◌, ◌==◌, true, false, not, List, [], ◌∷◌, length, bytes_eq, refl, Option, Some, None, option_map, option_and_then, IfSome, Ok}
 use Rattle.std.specs.Option.{option_map_or}
 use Rattle.std.specs.List.{AllByRecursion}
 use Rattle.std.proofs.Common.{sym, ◌∙◌, ap, subst, inl}
@@ -8,14 +8,14 @@ use Rattle.sg_model.specs.Lists.{first_some}
 use Rattle.sg_model.specs.Shape.{role_at}
 use Rattle.sg_model.proofs.Finding.{find_passes, found_in}
 use Rattle.sg_model.proofs.Members.{In, in_left, rec_in}
-use Rattle.sg_model.proofs.Small.{none_parts, same_bytes}
-use Rattle.sg_protocol.specs.Graph.{shape}
+use Rattle.sg_model.proofs.Small.{lt_of, none_parts, same_bytes}
+use Rattle.sg_protocol.specs.Graph.{Graph, shape}
 use Rattle.sg_protocol.specs.Frame.{Cast, Frame, IsCastOf}
 use Rattle.sg_protocol.specs.Spelling.{HasSpelling}
 use Rattle.sg_protocol.specs.Texts.{Hash, session_id, session_text_of}
 use Rattle.sg_protocol.specs.TextLaws.{IsVersion, CastFits}
-use Rattle.sg_protocol.specs.Keyring.{Program}
-use Rattle.sg_protocol.specs.Session.{Session, new_session}
+use Rattle.sg_protocol.specs.Keyring.{Keyring, Program}
+use Rattle.sg_protocol.specs.Session.{Session, new_session, principal}
 use Rattle.sg_protocol.specs.Calls.{Refusal, StartFault}
 use Rattle.sg_protocol.specs.Calls.Refusal.{UnknownSession, UnknownGraph, BadCast, UnknownPeer, BadSession, Joined, CacheFull, SessionsFull}
 use Rattle.sg_protocol.specs.Node.{Node, is_cast, stranger, has_joined, program_for, starter, session_for}
@@ -48,6 +48,15 @@ pub starter_found : (ps : List Program) (digest : List ℕ) (p : Program) → st
 starter_found ps digest p e =
     let b = and_parts (bytes_eq p.digest digest) (p.role == role_at (shape p.graph) 0) (find_passes (λ (p : Program). bytes_eq p.digest digest && (p.role == role_at (shape p.graph) 0)) ps p e) in
     (same_bytes p.digest digest b.0, eqb-true p.role (role_at (shape p.graph) 0) b.1, found_in (λ (p : Program). bytes_eq p.digest digest && (p.role == role_at (shape p.graph) 0)) ps p e)
+
+-- ---- casts
+
+-- what the test of a cast says
+pub cast_parts : (keys : Keyring) (g' : Graph) (c : Cast) (r : ℕ) → is_cast keys g' c r ≡ true → (r < length c.names) × (principal c r ≡ keys.me)
+cast_parts keys g' c r h =
+    let a = and_parts _ (bytes_eq (principal c r) keys.me) h in
+    let b = and_parts _ (nat_lt r (length c.names)) a.0 in
+    (lt_of r (length c.names) b.1, same_bytes (principal c r) keys.me a.1)
 
 module _ (sha : Hash) (n : Node) where
   -- ---- a start

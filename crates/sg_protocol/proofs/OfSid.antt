@@ -1,5 +1,5 @@
 -- The live sessions of one sid, and those of others.
-use Rattle.std.specs.Prelude.{◌≡◌, Bool, true, false, List, [], ◌∷◌, filter, refl, bytes_eq, ℕ, ◌==◌}
+use Rattle.std.specs.Prelude.{◌≡◌, Bool, true, false, List, [], ◌∷◌, filter, refl, bytes_eq, ℕ, ◌==◌, if◌then◌else◌}
 use Rattle.std.proofs.Common.{ap, inl, inr}
 use Rattle.std.proofs.lemmas.List.Elements.{filter-append}
 use Rattle.std.proofs.lemmas.Bool.{cases_Bool, and_parts}
@@ -33,6 +33,15 @@ still-own sid ps s h = elim (cases_Bool (is_over ps s)) [ inl e ↦ rw e refl | 
 
 pub still-other : (sid : List ℕ) (ps : List Program) (s : Session) → bytes_eq s.sid sid ≡ false → filter (of_sid sid) (still ps s) ≡ []
 still-other sid ps s h = elim (cases_Bool (is_over ps s)) [ inl e ↦ rw e refl | inr e ↦ rw e (rw h refl) ]
+
+-- so these sessions are all of the sid, or none is
+pub still-part : (sid : List ℕ) (own : Bool) (ps : List Program) (s : Session) → bytes_eq s.sid sid ≡ own → filter (of_sid sid) (still ps s) ≡ (if own then still ps s else [])
+still-part sid true ps s h = still-own sid ps s h
+still-part sid false ps s h = still-other sid ps s h
+
+pub one-part : (sid : List ℕ) (own : Bool) (s : Session) → bytes_eq s.sid sid ≡ own → filter (of_sid sid) (s ∷ []) ≡ (if own then s ∷ [] else [])
+one-part sid true s h = rw h refl
+one-part sid false s h = rw h refl
 
 -- a session that a frame is for has its sid
 pub for_sid : (f : Frame) (z : Session) → is_for f z ≡ true → z.sid ≡ f.sid

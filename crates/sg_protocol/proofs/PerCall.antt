@@ -1,5 +1,5 @@
 -- What the answer to one call depends on, and what the call leaves.
-use Rattle.std.specs.Prelude.{◌≡◌, ℕ, ◌+◌, ◌==◌, ◌&&◌, Bool, true, false, List, [], ◌∷◌, ◌++◌, filter, find, length, refl, Option, Some, None, bytes_eq, Result, Ok, Err}
+use Rattle.std.specs.Prelude.{◌≡◌, ℕ, ◌+◌, ◌==◌, ◌&&◌, Bool, true, false, List, [], ◌∷◌, ◌++◌, filter, find, length, refl, Option, Some, None, bytes_eq, Result, Ok, Err, if◌then◌else◌}
 use Rattle.std.specs.List.{list_any}
 use Rattle.std.specs.Option.{option_map_or}
 use Rattle.std.proofs.Common.{sym, ◌∙◌, ap, subst, inl, inr, arith, append-nil}
@@ -17,13 +17,13 @@ use Rattle.sg_protocol.specs.Texts.{Hash, session_id}
 use Rattle.sg_protocol.specs.Session.{Session, Took, Gave, extended, new_session}
 use Rattle.sg_protocol.specs.Keyring.{Program}
 use Rattle.sg_protocol.specs.Node.{Node, is_for, session_with, session_for, has_joined, program_for, starter}
-use Rattle.sg_protocol.specs.Calls.{Received, Call, Start, Act, Abandon, Deliver, Answer, Happened, Started, Sends, Abandoned, NotStarted, StartFault, Refusal}
+use Rattle.sg_protocol.specs.Calls.{Received, Call, Start, Act, Abandon, Deliver, Answer, Happened, Sends, Abandoned, NotStarted, StartFault, Refusal}
 use Rattle.sg_protocol.specs.Verdict.{decided, rows_of_join, join_rows, next_rows, receipt, verdict_on}
 use Rattle.sg_protocol.specs.Acting.{started, rows_of_start, answer, openings_for}
 use Rattle.sg_protocol.specs.NodeAfter.{node_after, takes_read, joined, goes_on, replace, still}
 use Rattle.sg_protocol.specs.Past.{is_call_of, is_frame_of}
 use Rattle.sg_protocol.specs.Isolation.{joins_with, sessions_with, AreAlike, IsLeft, AnswersAreOfSessions, CallsKeepAlike, CallsLeaveOthers}
-use Rattle.sg_protocol.proofs.OfSid.{of_sid, replace-other, replace-own, still-own, still-other}
+use Rattle.sg_protocol.proofs.OfSid.{of_sid, replace-other, replace-own, still-other, still-part, one-part, for_sid}
 
 -- what has one of two equal texts has the other
 moved : (a b sid : List ℕ) (v : Bool) → bytes_eq a b ≡ true → bytes_eq b sid ≡ v → bytes_eq a sid ≡ v
@@ -87,6 +87,69 @@ module _ (sha : Hash) (sid : List ℕ) (n n' : Node) (b : AreAlike sid n n') whe
   answer_same (Abandon s) h = rw (with_same s h) refl
   answer_same (Deliver bs) h = read_same (read bs) h
 
+-- ---- after a call
+
+-- what an act leaves of a session
+abbrev given : List Opening → List Program → Option Item → Session → List Session
+given os ps o x = option_map_or (λ i. still ps (extended x (Gave i os))) o (x ∷ [])
+
+given-part : (sid : List ℕ) (own : Bool) (os : List Opening) (ps : List Program) (o : Option Item) (x : Session) → bytes_eq x.sid sid ≡ own → filter (of_sid sid) (given os ps o x) ≡ (if own then given os ps o x else [])
+given-part sid own os ps None x h = one-part sid own x h
+given-part sid own os ps (Some i) x h = still-part sid own ps (extended x (Gave i os)) h
+
+-- What holds of two nodes with the same programs, and still does once a session joins both or goes on in both, holds of them after a call. The sessions are of the sid if the call is, else of others
+module _ (sha : Hash) (sid : List ℕ) (own : Bool) (R : Node → Node → Type 0) (n n' : Node) (programs : n.programs ≡ n'.programs) (before : R n n')
+    (on_joined : (x : Session) → bytes_eq x.sid sid ≡ own → R (joined n x) (joined n' x))
+    (on_goes : (which : Session → Bool) (now : Session → List Session) → ((s : Session) → which s ≡ true → of_sid sid s ≡ own) → ((s : Session) → which s ≡ true → filter (of_sid sid) (now s) ≡ (if own then now s else [])) → R (goes_on n which now) (goes_on n' which now)) where
+  goes : (which : Session → Bool) (now : List Program → Session → List Session) → ((s : Session) → which s ≡ true → of_sid sid s ≡ own) → ((ps : List Program) (s : Session) → which s ≡ true → filter (of_sid sid) (now ps s) ≡ (if own then now ps s else [])) → R (goes_on n which (now n.programs)) (goes_on n' which (now n'.programs))
+  goes which now h k = subst (λ ps. R (goes_on n which (now n.programs)) (goes_on n' which (now ps))) programs (on_goes which (now n.programs) h (k n.programs))
+
+  after_takes : (f : Frame) (o : Option Cast) → bytes_eq f.sid sid ≡ own →
+      R (option_map_or (λ c. joined n (extended (new_session f.sid c f.receiver) (Took f))) o (goes_on n (is_for f) (λ s. still n.programs (extended s (Took f)))))
+      (option_map_or (λ c. joined n' (extended (new_session f.sid c f.receiver) (Took f))) o (goes_on n' (is_for f) (λ s. still n'.programs (extended s (Took f)))))
+  after_takes f None h = goes (is_for f) (λ ps s. still ps (extended s (Took f))) whose (λ ps s e. still-part sid own ps (extended s (Took f)) (whose s e))
+    where
+      whose : (s : Session) → is_for f s ≡ true → bytes_eq s.sid sid ≡ own
+      whose s e = ap (λ z. bytes_eq z sid) (for_sid f s e) ∙ h
+  after_takes f (Some c) h = on_joined (extended (new_session f.sid c f.receiver) (Took f)) h
+
+  after_read : (r : Result Frame ℕ) → is_frame_of sid r ≡ own → R (takes_read n r) (takes_read n' r)
+  after_read (Err at) h = before
+  after_read (Ok f) h = after_takes f f.join h
+
+  after_deliver : (bs : List ℕ) (a : Answer) → is_frame_of sid (read bs) ≡ own → R (node_after n (Deliver bs) a) (node_after n' (Deliver bs) a)
+  after_deliver bs (Happened (Received s r label time values joins)) h = after_read (read bs) h
+  after_deliver bs other h = before
+
+  after_started : (c : Cast) (r : ℕ) (o : Option StartFault) → bytes_eq (session_id sha c) sid ≡ own → R (node_after n (Start c) (started (session_id sha c) r o)) (node_after n' (Start c) (started (session_id sha c) r o))
+  after_started c r None h = on_joined (new_session (session_id sha c) c r) h
+  after_started c r (Some fault) h = before
+
+  after_start : (c : Cast) (o : Option Program) → bytes_eq (session_id sha c) sid ≡ own →
+      let a : Answer = option_map_or (λ p. started (session_id sha c) p.role (first_some (rows_of_start n p (session_id sha c) c))) o (NotStarted StartFault.UnknownGraph) in
+      R (node_after n (Start c) a) (node_after n' (Start c) a)
+  after_start c None h = before
+  after_start c (Some p) h = after_started c p.role (first_some (rows_of_start n p (session_id sha c) c)) h
+
+  after_abandon : (s : List ℕ) (a : Answer) → bytes_eq s sid ≡ own → R (node_after n (Abandon s) a) (node_after n' (Abandon s) a)
+  after_abandon s Abandoned h = on_goes (λ x. bytes_eq x.sid s) (λ x. []) (λ x e. moved x.sid s sid own e h) (λ x e. none own)
+    where
+      none : (b : Bool) → filter (of_sid sid) [] ≡ (if b then [] else [])
+      none true = refl
+      none false = refl
+  after_abandon s other h = before
+
+  after_act : (s : List ℕ) (label : ℕ) (values : Map Value) (confounders : List (List ℕ)) (a : Answer) → bytes_eq s sid ≡ own → R (node_after n (Act s label values confounders) a) (node_after n' (Act s label values confounders) a)
+  after_act s label values confounders (Sends e to f) h =
+      goes (λ x. bytes_eq x.sid s) (λ ps x. given (openings_for values confounders) ps (last f.items) x) (λ x e. moved x.sid s sid own e h) (λ ps x e. given-part sid own (openings_for values confounders) ps (last f.items) x (moved x.sid s sid own e h))
+  after_act s label values confounders other h = before
+
+  pub after_call : (c : Call) → is_call_of sha sid c ≡ own → R (node_after n c (answer sha n c)) (node_after n' c (answer sha n c))
+  after_call (Start c) h = after_start c (starter n.programs c.graph) h
+  after_call (Act s label values confounders) h = after_act s label values confounders (answer sha n (Act s label values confounders)) h
+  after_call (Abandon s) h = after_abandon s (answer sha n (Abandon s)) h
+  after_call (Deliver bs) h = after_deliver bs (answer sha n (Deliver bs)) h
+
 -- ---- alike afterwards
 
 module _ (sid : List ℕ) (n n' : Node) (b : AreAlike sid n n') where
@@ -116,59 +179,9 @@ module _ (sid : List ℕ) (n n' : Node) (b : AreAlike sid n n') where
         omega (arith, one, two, parts, news, all);
   }
 
-  alike_takes : (f : Frame) (o : Option Cast) → bytes_eq f.sid sid ≡ true →
-      AreAlike sid (option_map_or (λ c. joined n (extended (new_session f.sid c f.receiver) (Took f))) o (goes_on n (is_for f) (λ s. still n.programs (extended s (Took f)))))
-      (option_map_or (λ c. joined n' (extended (new_session f.sid c f.receiver) (Took f))) o (goes_on n' (is_for f) (λ s. still n'.programs (extended s (Took f)))))
-  alike_takes f None h = subst (λ ps. AreAlike sid (goes_on n (is_for f) (λ s. still n.programs (extended s (Took f)))) (goes_on n' (is_for f) (λ s. still ps (extended s (Took f))))) b.programs
-      (alike_goes_on (is_for f) (λ s. still n.programs (extended s (Took f))) mine (λ s e. still-own sid n.programs (extended s (Took f)) (mine s e)))
-    where
-      mine : (s : Session) → is_for f s ≡ true → bytes_eq s.sid sid ≡ true
-      mine s e = moved s.sid f.sid sid true (and_left _ _ (and_left _ _ e)) h
-  alike_takes f (Some c) h = alike_joined (extended (new_session f.sid c f.receiver) (Took f))
-
-  alike_read : (r : Result Frame ℕ) → is_frame_of sid r ≡ true → AreAlike sid (takes_read n r) (takes_read n' r)
-  alike_read (Err at) h = b
-  alike_read (Ok f) h = alike_takes f f.join h
-
-  alike_deliver : (bs : List ℕ) (a : Answer) → is_frame_of sid (read bs) ≡ true → AreAlike sid (node_after n (Deliver bs) a) (node_after n' (Deliver bs) a)
-  alike_deliver bs (Happened (Received s r label time values joins)) h = alike_read (read bs) h
-  alike_deliver bs other h = b
-
-  alike_start : (c : Cast) (a : Answer) → AreAlike sid (node_after n (Start c) a) (node_after n' (Start c) a)
-  alike_start c (Happened (Started s r)) = alike_joined (new_session s c r)
-  alike_start c other = b
-
-  alike_abandon : (s : List ℕ) (a : Answer) → bytes_eq s sid ≡ true → AreAlike sid (node_after n (Abandon s) a) (node_after n' (Abandon s) a)
-  alike_abandon s Abandoned h = alike_goes_on (λ x. bytes_eq x.sid s) (λ x. []) (λ x e. moved x.sid s sid true e h) (λ x e. refl)
-  alike_abandon s other h = b
-
-  alike_act : (s : List ℕ) (label : ℕ) (values : Map Value) (confounders : List (List ℕ)) (a : Answer) → bytes_eq s sid ≡ true → AreAlike sid (node_after n (Act s label values confounders) a) (node_after n' (Act s label values confounders) a)
-  alike_act s label values confounders (Sends e to f) h = on_last (last f.items)
-    where
-      os : List Opening
-      os = openings_for values confounders
-
-      mine : (x : Session) → bytes_eq x.sid s ≡ true → bytes_eq x.sid sid ≡ true
-      mine x e = moved x.sid s sid true e h
-
-      on_last : (o : Option Item) → AreAlike sid (goes_on n (λ x. bytes_eq x.sid s) (λ x. option_map_or (λ i. still n.programs (extended x (Gave i os))) o (x ∷ []))) (goes_on n' (λ x. bytes_eq x.sid s) (λ x. option_map_or (λ i. still n'.programs (extended x (Gave i os))) o (x ∷ [])))
-      on_last None = alike_goes_on (λ x. bytes_eq x.sid s) (λ x. x ∷ []) mine (λ x e. rw (mine x e) refl)
-      on_last (Some i) = subst (λ ps. AreAlike sid (goes_on n (λ x. bytes_eq x.sid s) (λ x. still n.programs (extended x (Gave i os)))) (goes_on n' (λ x. bytes_eq x.sid s) (λ x. still ps (extended x (Gave i os))))) b.programs
-          (alike_goes_on (λ x. bytes_eq x.sid s) (λ x. still n.programs (extended x (Gave i os))) mine (λ x e. still-own sid n.programs (extended x (Gave i os)) (mine x e)))
-  alike_act s label values confounders other h = b
-
-  alike_after : (sha : Hash) (c : Call) (a : Answer) → is_call_of sha sid c ≡ true → AreAlike sid (node_after n c a) (node_after n' c a)
-  alike_after sha (Start c) a h = alike_start c a
-  alike_after sha (Act s label values confounders) a h = alike_act s label values confounders a h
-  alike_after sha (Abandon s) a h = alike_abandon s a h
-  alike_after sha (Deliver bs) a h = alike_deliver bs a h
-
 -- ---- what is left
 
-module _ (sha : Hash) (sid : List ℕ) (n : Node) where
-  left_all : IsLeft sid n n
-  left_all = record { keys = refl; programs = refl; joins = refl; live = refl }
-
+module _ (sid : List ℕ) (n : Node) where
   left_joined : (x : Session) → bytes_eq x.sid sid ≡ false → IsLeft sid n (joined n x)
   left_joined x h = record {
     keys = refl;
@@ -180,55 +193,6 @@ module _ (sha : Hash) (sid : List ℕ) (n : Node) where
   left_goes_on : (which : Session → Bool) (now : Session → List Session) → ((s : Session) → which s ≡ true → of_sid sid s ≡ false) → ((s : Session) → which s ≡ true → filter (of_sid sid) (now s) ≡ []) → IsLeft sid n (goes_on n which now)
   left_goes_on which now h k = record { keys = refl; programs = refl; joins = refl; live = replace-other which now h k n.live }
 
-  left_takes : (f : Frame) (o : Option Cast) → bytes_eq f.sid sid ≡ false →
-      IsLeft sid n (option_map_or (λ c. joined n (extended (new_session f.sid c f.receiver) (Took f))) o (goes_on n (is_for f) (λ s. still n.programs (extended s (Took f)))))
-  left_takes f None h = left_goes_on (is_for f) (λ s. still n.programs (extended s (Took f))) theirs (λ s e. still-other sid n.programs (extended s (Took f)) (theirs s e))
-    where
-      theirs : (s : Session) → is_for f s ≡ true → bytes_eq s.sid sid ≡ false
-      theirs s e = moved s.sid f.sid sid false (and_left _ _ (and_left _ _ e)) h
-  left_takes f (Some c) h = left_joined (extended (new_session f.sid c f.receiver) (Took f)) h
-
-  left_read : (r : Result Frame ℕ) → is_frame_of sid r ≡ false → IsLeft sid n (takes_read n r)
-  left_read (Err at) h = left_all
-  left_read (Ok f) h = left_takes f f.join h
-
-  left_deliver : (bs : List ℕ) (a : Answer) → is_frame_of sid (read bs) ≡ false → IsLeft sid n (node_after n (Deliver bs) a)
-  left_deliver bs (Happened (Received s r label time values joins)) h = left_read (read bs) h
-  left_deliver bs other h = left_all
-
-  left_started : (c : Cast) (r : ℕ) (o : Option StartFault) → bytes_eq (session_id sha c) sid ≡ false → IsLeft sid n (node_after n (Start c) (started (session_id sha c) r o))
-  left_started c r None h = left_joined (new_session (session_id sha c) c r) h
-  left_started c r (Some fault) h = left_all
-
-  left_start : (c : Cast) (o : Option Program) → bytes_eq (session_id sha c) sid ≡ false →
-      IsLeft sid n (node_after n (Start c) (option_map_or (λ p. started (session_id sha c) p.role (first_some (rows_of_start n p (session_id sha c) c))) o (NotStarted StartFault.UnknownGraph)))
-  left_start c None h = left_all
-  left_start c (Some p) h = left_started c p.role (first_some (rows_of_start n p (session_id sha c) c)) h
-
-  left_abandon : (s : List ℕ) (a : Answer) → bytes_eq s sid ≡ false → IsLeft sid n (node_after n (Abandon s) a)
-  left_abandon s Abandoned h = left_goes_on (λ x. bytes_eq x.sid s) (λ x. []) (λ x e. moved x.sid s sid false e h) (λ x e. refl)
-  left_abandon s other h = left_all
-
-  left_act : (s : List ℕ) (label : ℕ) (values : Map Value) (confounders : List (List ℕ)) (a : Answer) → bytes_eq s sid ≡ false → IsLeft sid n (node_after n (Act s label values confounders) a)
-  left_act s label values confounders (Sends e to f) h = on_last (last f.items)
-    where
-      os : List Opening
-      os = openings_for values confounders
-
-      theirs : (x : Session) → bytes_eq x.sid s ≡ true → bytes_eq x.sid sid ≡ false
-      theirs x e = moved x.sid s sid false e h
-
-      on_last : (o : Option Item) → IsLeft sid n (goes_on n (λ x. bytes_eq x.sid s) (λ x. option_map_or (λ i. still n.programs (extended x (Gave i os))) o (x ∷ [])))
-      on_last None = left_goes_on (λ x. bytes_eq x.sid s) (λ x. x ∷ []) theirs (λ x e. rw (theirs x e) refl)
-      on_last (Some i) = left_goes_on (λ x. bytes_eq x.sid s) (λ x. still n.programs (extended x (Gave i os))) theirs (λ x e. still-other sid n.programs (extended x (Gave i os)) (theirs x e))
-  left_act s label values confounders other h = left_all
-
-  left_after : (c : Call) → is_call_of sha sid c ≡ false → IsLeft sid n (node_after n c (answer sha n c))
-  left_after (Start c) h = left_start c (starter n.programs c.graph) h
-  left_after (Act s label values confounders) h = left_act s label values confounders (answer sha n (Act s label values confounders)) h
-  left_after (Abandon s) h = left_abandon s (answer sha n (Abandon s)) h
-  left_after (Deliver bs) h = left_deliver bs (answer sha n (Deliver bs)) h
-
 -- ---- the laws
 
 pub answers_are_of_sessions : (sha : Hash) → AnswersAreOfSessions sha
@@ -236,7 +200,9 @@ answers_are_of_sessions sha sid n n' c h b = answer_same sha sid n n' b c h
 
 pub calls_keep_alike : (sha : Hash) → CallsKeepAlike sha
 calls_keep_alike sha sid n n' c h b =
-    subst (λ a. AreAlike sid (node_after n c (answer sha n c)) (node_after n' c a)) (answer_same sha sid n n' b c h) (alike_after sid n n' b sha c (answer sha n c) h)
+    subst (λ a. AreAlike sid (node_after n c (answer sha n c)) (node_after n' c a)) (answer_same sha sid n n' b c h) (after_call sha sid true (AreAlike sid) n n' b.programs b (λ x e. alike_joined sid n n' b x) (alike_goes_on sid n n' b) c h)
 
 pub calls_leave_others : (sha : Hash) → CallsLeaveOthers sha
-calls_leave_others sha sid n c h = left_after sha sid n c h
+calls_leave_others sha sid n c h =
+    let before : IsLeft sid n n = record { keys = refl; programs = refl; joins = refl; live = refl } in
+    after_call sha sid false (λ m m'. IsLeft sid n m') n n refl before (left_joined sid n) (left_goes_on sid n) c h

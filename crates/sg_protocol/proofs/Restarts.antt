@@ -11,11 +11,11 @@ use Rattle.sg_model.specs.Bytes.{IsBytes}
 use Rattle.sg_model.specs.Last.{last}
 use Rattle.sg_model.specs.Lists.{all_differ}
 use Rattle.sg_model.specs.Names.{Name, is_name}
-use Rattle.sg_model.proofs.Small.{same_bytes, all-append, some_same, length-more, all_weaker, length_map, at_length, tests_all}
+use Rattle.sg_model.proofs.Small.{same_bytes, all-append, some_same, length-more, all_weaker, length_map, at_length, tests_all, if_any}
 use Rattle.sg_model.proofs.Members.{In, contains_from_in, all_in}
 use Rattle.sg_model.proofs.Finding.{find_passes, find_all, found_in, find_map}
 use Rattle.sg_law.proofs.Lists.{last-append}
-use Rattle.sg_protocol.specs.Frame.{Cast, Item, Frame, IsCastOf}
+use Rattle.sg_protocol.specs.Frame.{Cast, Frame, IsCastOf}
 use Rattle.sg_protocol.specs.Spelling.{spelling, HasSpelling}
 use Rattle.sg_protocol.specs.Texts.{Hash, IsHash, session_id}
 use Rattle.sg_protocol.specs.Keyring.{Keyring, Program}
@@ -356,13 +356,9 @@ module _ (sha : Hash) (hash : IsHash sha) (programs : List Program) (s : Schedul
   can_after : (n : Node) → NodeCan n → (c : Call) → CallOk c → NodeCan (node_after n c (answer sha n c))
   can_after n h c ok = (programs_after n c (answer sha n c) ∙ h.0, go c ok)
     where
-      if_any : (o : Option Item) (x : Session) → CanDeclare x → IfSome o (λ i. CanDeclare x)
-      if_any None x k = tt
-      if_any (Some i) x k = k
-
       go : (c : Call) → CallOk c → AllByRecursion CanDeclare (node_after n c (answer sha n c)).live
       go (Start c) ok = start_all sha n CanDeclare h.1 c (λ p b. (refl, ok))
-      go (Act sid label values confounders) ok = act_all sha n CanDeclare h.1 sid label values confounders (λ f a k. if_any (last f.items) a.x k)
+      go (Act sid label values confounders) ok = act_all sha n CanDeclare h.1 sid label values confounders (λ f a k. if_any (last f.items) (λ i. CanDeclare a.x) (λ i. k))
       go (Abandon sid) ok = abandon_all sha n CanDeclare h.1 sid
       go (Deliver bs) ok = deliver_all sha n CanDeclare h.1 bs (λ f x rd t k. k) (λ f c rd j t. join_can n h.0 f c (read-SpellsFrame bs f ok rd).is_frame j t)
 

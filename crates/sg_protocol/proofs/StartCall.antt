@@ -25,8 +25,8 @@ use Rattle.sg_protocol.specs.NodeAfter.{still}
 use Rattle.sg_protocol.proofs.KnownSession.{SessionOfCast}
 use Rattle.sg_protocol.proofs.Finding.{joined_more, joined_less, joined_now}
 use Rattle.sg_protocol.proofs.Calls.{transcript_in, quiet_event, Fresh, NodeOk, Out}
-use Rattle.sg_protocol.proofs.AfterCalls.{cast_parts, event_other, joined_other, kept_same, new_matches, join_now, join_status, nothing, no_two, joined_ok, other_joined}
-use Rattle.sg_protocol.proofs.NoRows.{StartRows, no_start_row}
+use Rattle.sg_protocol.proofs.AfterCalls.{event_other, joined_other, kept_same, new_matches, join_now, join_status, nothing, no_two, joined_ok, other_joined}
+use Rattle.sg_protocol.proofs.NoRows.{StartRows, no_start_row, cast_parts}
 
 pub start_made : (c : Cast) (a : Answer) (nt : Note) → In (notes_of_start c a).made nt → ⊥
 start_made c (NotStarted StartFault.UnknownGraph) nt i = i

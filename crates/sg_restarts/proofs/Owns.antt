@@ -1,12 +1,11 @@
 -- Principals keep their names, and live sessions the sids of their casts.
-use Rattle.std.specs.Prelude.{◌≡◌, ℕ, false, List, [], ◌∷◌, map, find, bytes_eq, refl, Option, Some, None, IfSome}
+use Rattle.std.specs.Prelude.{◌≡◌, ℕ, false, List, [], ◌∷◌, map, find, bytes_eq, refl, Option, Some, None}
 use Rattle.std.specs.List.{AllByRecursion}
 use Rattle.std.specs.Option.{option_map_or}
 use Rattle.std.proofs.Common.{sym, ◌∙◌, ap, subst, inl, inr}
 use Rattle.std.proofs.lemmas.Bool.{cases_Bool}
 use Rattle.sg_model.specs.Last.{last}
 use Rattle.sg_model.specs.Names.{Name}
-use Rattle.sg_protocol.specs.Frame.{Item}
 use Rattle.sg_protocol.specs.Texts.{Hash, session_id}
 use Rattle.sg_protocol.specs.Keyring.{Program}
 use Rattle.sg_protocol.specs.Session.{Session}
@@ -26,6 +25,7 @@ use Rattle.sg_protocol.proofs.Lives.{anew_if}
 use Rattle.sg_protocol.proofs.Restarts.{anew_keys}
 use Rattle.sg_protocol.proofs.Happenings.{next_keys}
 use Rattle.sg_model.proofs.Finding.{find_all}
+use Rattle.sg_model.proofs.Small.{if_any}
 
 -- ---- names of pasts
 
@@ -74,11 +74,7 @@ module _ (sha : Hash) where
 
   own_after : (n : Node) → AllByRecursion HasOwnSid n.live → (c : Call) → AllByRecursion HasOwnSid (node_after n c (answer sha n c)).live
   own_after n h (Start c) = start_all sha n HasOwnSid h c (λ p b. refl)
-  own_after n h (Act sid label values confounders) = act_all sha n HasOwnSid h sid label values confounders (λ f a k. if_any (last f.items) a.x k)
-    where
-      if_any : (o : Option Item) (x : Session) → HasOwnSid x → IfSome o (λ i. HasOwnSid x)
-      if_any None x k = tt
-      if_any (Some i) x k = k
+  own_after n h (Act sid label values confounders) = act_all sha n HasOwnSid h sid label values confounders (λ f a k. if_any (last f.items) (λ i. HasOwnSid a.x) (λ i. k))
   own_after n h (Abandon sid) = abandon_all sha n HasOwnSid h sid
   own_after n h (Deliver bs) = deliver_all sha n HasOwnSid h bs (λ f x rd t k. k) (λ f c rd j t. sym t.sid)
 
