@@ -9,6 +9,7 @@ pub mod Spells
 pub mod Reading
 pub mod CraftReading
 pub mod Form
+pub mod Early
 pub mod Crafts
 pub mod StepsHeld
 pub mod Sources

@@ -1,6 +1,7 @@
 //! The form of an act.
-ghost use Rattle.std.specs.Prelude.{◌≡◌, IfOk, IfSome, option_copied, option_map, Some, None, MatchOption, ◌<◌, length};
+ghost use Rattle.std.specs.Prelude.{◌≡◌, IfOk, IsNone, IsOk, IfSome, option_copied, option_map, Some, None, MatchOption, ◌<◌, length};
 ghost use Rattle.sg_sched.specs.Format.Reading.{split_at, given, assignments, act_form};
+ghost use Rattle.sg_sched.specs.Format.Early.{act_beginning};
 ghost use Rattle.sg_sched.specs.Format.Model.{statement};
 
 use crate::form::take_name;
@@ -62,9 +63,10 @@ pub fn read_assignments<'a>(
 }
 
 /// `NAME SESSION LABEL VAR=VALUE ..` of an act.
-#[tactic(auto, unfolding(crate::specs::Format::Reading::act_form))]
+#[tactic(auto, unfolding(crate::specs::Format::Reading::act_form, crate::specs::Format::Early::act_beginning))]
 pub(crate) fn act<'a>(alloc: Global, words: &mut Words<'a>) -> Result<Option<Line<'a>>, OutOfMemory>
-    ensures { IfOk result (λ line. option_map statement line ≡ act_form words.old) }
+    ensures form { IfOk result (λ line. option_map statement line ≡ act_form words.old) }
+    ensures early { IsNone (act_beginning words.old) → IsOk result }
 {
     let Some(who) = take_name(words) else {
         return Ok(None);

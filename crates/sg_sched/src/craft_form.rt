@@ -1,9 +1,10 @@
 //! The form of a craft.
-ghost use Rattle.std.specs.Prelude.{◌≡◌, ◌≤◌, ◌<◌, ◌++◌, [], ◌∷◌, Some, None, true, false, IfOk, IfSome, MatchOption, codes, length, option_map, option_copied};
+ghost use Rattle.std.specs.Prelude.{◌≡◌, ◌≤◌, ◌<◌, ◌++◌, [], ◌∷◌, Some, None, true, false, IfOk, IsNone, IsOk, IfSome, MatchOption, codes, length, option_map, option_copied};
 ghost use Rattle.sg_base.specs.Words.{name, number};
 ghost use Rattle.sg_sched.specs.Words.{frame};
 ghost use Rattle.sg_sched.specs.Format.Reading.{word};
 ghost use Rattle.sg_sched.specs.Format.CraftReading.{split_last, committed, name_list, cast, exactly, time, run, few, listed, copy_source, source, repeated, tag, item, is_next, optional, join_parts, join, opened, seal_form, ends, craft_form};
+ghost use Rattle.sg_sched.specs.Format.Early.{craft_beginning};
 ghost use Rattle.sg_sched.specs.Format.Sources.{from_of};
 ghost use Rattle.sg_sched.specs.Format.Model.{statement, taken};
 
@@ -408,12 +409,13 @@ fn take_ends(words: &mut Words) -> Option<(Name, Name, Name)>
 }
 
 /// A craft, after its first word.
-#[tactic(auto, unfolding(crate::specs::Format::CraftReading::craft_form))]
+#[tactic(auto, unfolding(crate::specs::Format::CraftReading::craft_form, crate::specs::Format::Early::craft_beginning))]
 pub(crate) fn craft<'a>(
     alloc: Global,
     words: &mut Words<'a>,
 ) -> Result<Option<Line<'a>>, OutOfMemory>
-    ensures { IfOk result (λ line. option_map statement line ≡ craft_form words.old) }
+    ensures form { IfOk result (λ line. option_map statement line ≡ craft_form words.old) }
+    ensures early { IsNone (craft_beginning words.old) → IsOk result }
 {
     let Some((session, from, to)) = take_ends(words) else {
         return Ok(None);

@@ -1,8 +1,10 @@
 //! The forms of a line, each read after its first word.
-ghost use Rattle.std.specs.Prelude.{◌≡◌, ◌≤◌, IfOk, IfSome, option_map, option_copied, length};
+ghost use Rattle.std.specs.Prelude.{◌≡◌, ◌≤◌, codes, IfOk, IsNone, IsOk, IfSome, option_map, option_copied, length};
 ghost use Rattle.sg_base.specs.Words.{name, number};
 ghost use Rattle.sg_sched.specs.Words.{names, frame};
 ghost use Rattle.sg_sched.specs.Format.Reading.{word, hex_of, hex, short, version, given, assignments, block_form, edge_form, honest_form, key_form, session_form, start_form, act_form, abandon_form, frame_form, what_form, deliver_form};
+ghost use Rattle.sg_sched.specs.Format.CraftReading.{exactly};
+ghost use Rattle.sg_sched.specs.Format.Early.{deliver_beginning, session_beginning};
 ghost use Rattle.sg_sched.specs.Format.Model.{statement, taken, delivered};
 
 use crate::line::{Delivered, Line};
@@ -124,12 +126,13 @@ fn take_version(words: &mut Words) -> Option<u8>
 }
 
 /// `NAME GRAPH NONCE NAME,NAME,..` and maybe `v2` of a session.
-#[tactic(auto, unfolding(crate::specs::Format::Reading::session_form))]
+#[tactic(auto, unfolding(crate::specs::Format::Reading::session_form, crate::specs::Format::Early::session_beginning))]
 pub(crate) fn session<'a>(
     alloc: Global,
     words: &mut Words<'a>,
 ) -> Result<Option<Line<'a>>, OutOfMemory>
-    ensures { IfOk result (λ line. option_map statement line ≡ session_form words.old) }
+    ensures form { IfOk result (λ line. option_map statement line ≡ session_form words.old) }
+    ensures early { IsNone (session_beginning words.old) → IsOk result }
 {
     let Some(name) = take_name(words) else {
         return Ok(None);
@@ -233,13 +236,14 @@ fn take_hex<'a>(alloc: Global, words: &mut Words<'a>) -> Result<Option<&'a [u8]>
 }
 
 /// `hex HEX`, or `fN` and what becomes of it.
-#[tactic(auto, unfolding(crate::specs::Format::Reading::what_form))]
+#[tactic(auto, unfolding(crate::specs::Format::Reading::what_form, crate::specs::Format::Reading::word))]
 fn what<'a>(
     alloc: Global,
     who: Name,
     words: &mut Words<'a>,
 ) -> Result<Option<Line<'a>>, OutOfMemory>
-    ensures { IfOk result (λ line. option_map statement line ≡ what_form who words.old) }
+    ensures form { IfOk result (λ line. option_map statement line ≡ what_form who words.old) }
+    ensures early { IsNone (word (exactly (codes "hex")) words.old) → IsOk result }
 {
     let Some(first) = words.next() else {
         return Ok(None);
@@ -263,12 +267,13 @@ fn what<'a>(
 }
 
 /// `NAME` and what is delivered.
-#[tactic(auto, unfolding(crate::specs::Format::Reading::deliver_form))]
+#[tactic(auto, unfolding(crate::specs::Format::Reading::deliver_form, crate::specs::Format::Early::deliver_beginning))]
 pub(crate) fn deliver<'a>(
     alloc: Global,
     words: &mut Words<'a>,
 ) -> Result<Option<Line<'a>>, OutOfMemory>
-    ensures { IfOk result (λ line. option_map statement line ≡ deliver_form words.old) }
+    ensures form { IfOk result (λ line. option_map statement line ≡ deliver_form words.old) }
+    ensures early { IsNone (deliver_beginning words.old) → IsOk result }
 {
     match take_name(words) {
         Some(who) => what(alloc, who, words),

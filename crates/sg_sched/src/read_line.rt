@@ -1,7 +1,8 @@
 //! What a line says, by its first word.
-ghost use Rattle.std.specs.Prelude.{◌≡◌, ◌==◌, ◌&&◌, ◌||◌, nat_lt, length, IfOk, MatchOption, option_map};
+ghost use Rattle.std.specs.Prelude.{◌≡◌, ◌==◌, ◌&&◌, ◌||◌, nat_lt, length, IfOk, IsNone, IsOk, MatchOption, option_map};
 ghost use Rattle.std.specs.List.{list_all};
-ghost use Rattle.sg_sched.specs.Text.{words};
+ghost use Rattle.sg_sched.specs.Text.{content, words};
+ghost use Rattle.sg_sched.specs.Format.Early.{line_beginning};
 ghost use Rattle.sg_sched.specs.Format.Form.{form};
 ghost use Rattle.sg_sched.specs.Format.Model.{statement};
 ghost use Rattle.sg_sched.specs.Format.LineContents.{LineContent};
@@ -35,9 +36,10 @@ fn is_ascii(text: &[u8]) -> bool
 }
 
 /// What a line with these words says, or `None` if it is of no form.
-#[tactic(auto, unfolding(crate::specs::Format::Form::form))]
+#[tactic(auto, unfolding(crate::specs::Format::Form::form, crate::specs::Format::Early::line_beginning))]
 pub fn read_line<'a>(alloc: Global, mut words: Words<'a>) -> Result<Option<Line<'a>>, OutOfMemory>
-    ensures { IfOk result (λ line. option_map statement line ≡ form words.entry) }
+    ensures form { IfOk result (λ line. option_map statement line ≡ form words.entry) }
+    ensures early { IsNone (line_beginning words.entry) → IsOk result }
 {
     let Some(first) = words.next() else {
         return Ok(None);
@@ -70,7 +72,9 @@ pub fn read_line<'a>(alloc: Global, mut words: Words<'a>) -> Result<Option<Line<
 
 /// What a line says, or `None` if it is of no form: there is nothing that its words say, with each field as it may be.
 pub fn read_statement<'a>(alloc: Global, line: &'a [u8]) -> Result<Option<Line<'a>>, OutOfMemory>
-    ensures { IfOk result (λ o. MatchOption o ((s : LineContent) → SaysLine line.now s → ⊥) (λ l. SaysLine line.now (statement l))) }
+    ensures says { IfOk result (λ o. MatchOption o ((s : LineContent) → SaysLine line.now s → ⊥) (λ l. SaysLine line.now (statement l))) }
+    ensures form { IfOk result (λ o. option_map statement o ≡ form (words (content line.now))) }
+    ensures early { IsNone (line_beginning (words (content line.now))) → IsOk result }
 {
     read_line(alloc, Words::new(line_content(line)))
 }

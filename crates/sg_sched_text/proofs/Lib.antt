@@ -11,6 +11,7 @@ pub mod RisingLaws
 pub mod LengthLaws
 pub mod BlockLaws
 pub mod BlockLine
+pub mod EarlyLaws
 pub mod ReadSoFarLaws
 pub mod RightLines
 pub mod SessionsDeclared

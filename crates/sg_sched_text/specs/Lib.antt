@@ -8,5 +8,6 @@ pub mod Holding
 pub mod Meant
 pub mod Block
 pub mod ReadSoFar
+pub mod Early
 pub mod Whole
 pub mod Laws

@@ -1,5 +1,5 @@
 -- How the program takes a line, as the definitions add it.
-use Rattle.std.specs.Prelude.{◌≡◌, ℕ, List, Result, Ok, Err, OnOk, IfErr, ⊤}
+use Rattle.std.specs.Prelude.{◌≡◌, ◌≢◌, ℕ, List, Result, Ok, Err, OnOk, IfErr, MatchResult, ⊤}
 use Rattle.sg_parse.specs.Reading.{read}
 use Rattle.sg_sched.specs.Format.Items.{SoFar}
 use Rattle.sg_sched.specs.Format.Kinds as Format
@@ -41,3 +41,11 @@ IsRefused text OutOfMemory = ⊤
 abbrev pub fault_at : ℕ → Stop → LineFault
 fault_at line (Wrong kind) = AtLine line kind
 fault_at line OutOfMemory = NoMemory
+
+-- the line is wrong, and memory doesn't run out
+abbrev pub IsRefusedEarly : {A : Type 0} → Result A Stop → Type 0
+IsRefusedEarly result = MatchResult result (λ _. ⊥) (λ e. e ≢ OutOfMemory)
+
+-- so it is reported
+abbrev pub IsFoundEarly : {A : Type 0} → Result A LineFault → Type 0
+IsFoundEarly result = MatchResult result (λ _. ⊥) (λ e. e ≢ NoMemory)

@@ -1,12 +1,14 @@
 //! How a text is read, line by line and block by block.
-ghost use Rattle.std.specs.Prelude.{◌≡◌, ℕ, List, ◌+◌, ◌<◌, ◌≤◌, ◌^◌, [], length, IfOk, IsTrue, MatchResult, Ok, Err};
+ghost use Rattle.std.specs.Prelude.{◌≡◌, ◌≢◌, ℕ, List, ◌+◌, ◌<◌, ◌≤◌, ◌^◌, [], false, length, IfOk, IsFalse, IsTrue, MatchResult, Ok, Err};
 ghost use Rattle.sg_parse.specs.Grammar.{SpellsGraph};
+ghost use Rattle.sg_sched.specs.Text.{lines};
 ghost use Rattle.sg_sched.specs.Format.Forms.{is_form};
 ghost use Rattle.sg_sched.specs.Format.Model.{statement};
 ghost use Rattle.sg_sched_text.specs.Adding.{after_line};
+ghost use Rattle.sg_sched_text.specs.Early.{begins_late, is_kept};
 ghost use Rattle.sg_sched_text.specs.Plus.{nothing};
 ghost use Rattle.sg_sched_text.specs.ReadSoFar.{HasRead, Opens, Says, Shows, IsFault};
-ghost use Rattle.sg_sched_text.specs.TakingLines.{IsRefused, fault_at};
+ghost use Rattle.sg_sched_text.specs.TakingLines.{IsFoundEarly, IsRefused, fault_at};
 
 use crate::block::{count_lines, split_block};
 use crate::declarations::Declared;
@@ -48,6 +50,8 @@ impl ScheduleReader {
         requires room { self.old.number + length rest.now < 2 ^ 32 }
         ensures has_read { (bytes : List ℕ) → HasRead bytes self.old rest.now → MatchResult result (λ after. HasRead bytes self.new after.now) (IsFault bytes) }
         ensures shorter { IfOk result (λ after. (length after.now < length rest.now) × (self.new.number + length after.now ≤ self.old.number + length rest.now)) }
+        ensures early { IsFalse (begins_late self.old.past (lines rest.now)) → result ≢ Err LineFault.OutOfMemory }
+        ensures so_far { IsFalse (begins_late self.old.past (lines rest.now)) → IfOk result (λ after. IsFalse (begins_late self.new.past (lines after.now))) }
     {
         let (line, after) = split_line(rest);
         self.number += 1;
@@ -73,7 +77,8 @@ impl ScheduleReader {
     // Takes what the line of the reader's number says. One with which a block begins adds nothing by itself.
     fn say(&mut self, line: Line<'_>) -> Result<(), LineFault>
         requires { IsTrue (is_form (statement line)) }
-        ensures { Says (after_line self.old.past (statement line.entry)) self.old self.new result }
+        ensures says { Says (after_line self.old.past (statement line.entry)) self.old self.new result }
+        ensures early { is_kept self.old.past (statement line.entry) ≡ false → IsFoundEarly result }
     {
         let none = self.past.has_no_edges();
         if let Err(stop) = self.past.take(line) {

@@ -1,6 +1,7 @@
 //! Steps, of which a schedule has at most 200,000.
-ghost use Rattle.std.specs.Prelude.{◌≡◌, if◌then◌else◌, map, option_map, IfOk, IsTrue};
+ghost use Rattle.std.specs.Prelude.{◌≡◌, ◌||◌, false, if◌then◌else◌, map, option_map, IfOk, IsOk, IsTrue};
 ghost use Rattle.std.specs.List.{list_all};
+ghost use Rattle.sg_model.specs.Lists.{has_text};
 ghost use Rattle.sg_sched.specs.Format.LineContents.{StartLine, ActLine, AbandonLine, DeliverLine};
 ghost use Rattle.sg_sched.specs.Format.Forms.{is_assignment};
 ghost use Rattle.sg_sched.specs.Format.Model.{delivered};
@@ -8,7 +9,8 @@ ghost use Rattle.sg_sched.specs.Format.Numbered.{what_of as made};
 ghost use Rattle.sg_sched.specs.Format.StepsHeld.{step_of, what_of};
 ghost use Rattle.sg_sched.specs.Format.Values.{bytes_of};
 ghost use Rattle.sg_sched_text.specs.Adding.{add_step, start_step, abandon_step, act_step, after_line};
-ghost use Rattle.sg_sched_text.specs.TakingLines.{Takes};
+ghost use Rattle.sg_sched_text.specs.Early.{has_bytes};
+ghost use Rattle.sg_sched_text.specs.TakingLines.{IsRefusedEarly, Takes};
 
 use crate::declarations::Declared;
 use crate::stop::Stop;
@@ -26,7 +28,8 @@ impl Declared {
     /// A step, or `None` if it has a name that isn't declared.
     #[tactic(auto, unfolding(crate::specs::Adding::add_step))]
     pub fn add_step(&mut self, repeated: bool, honest: bool, step: Option<Step>) -> Result<(), Stop>
-        ensures { Takes (add_step self.old repeated honest (option_map step_of step)) self.new result }
+        ensures takes { Takes (add_step self.old repeated honest (option_map step_of step)) self.new result }
+        ensures early { honest ≡ false → IsRefusedEarly result }
     {
         if self.steps.len() >= MOST_STEPS {
             return Err(Stop::Wrong(Kind::TooManySteps));
@@ -49,7 +52,8 @@ impl Declared {
 
     /// The principal starts the session.
     pub fn start(&mut self, who: Name, session: &Name) -> Result<(), Stop>
-        ensures { Takes (after_line self.old (StartLine who session.now)) self.new result }
+        ensures takes { Takes (after_line self.old (StartLine who session.now)) self.new result }
+        ensures early { has_text who self.old.honest ≡ false → IsRefusedEarly result }
     {
         let honest = self.is_honest(&who);
         let step = self.start_step(who, session);
@@ -66,7 +70,8 @@ impl Declared {
 
     /// The principal abandons the session.
     pub fn abandon(&mut self, who: Name, session: &Name) -> Result<(), Stop>
-        ensures { Takes (after_line self.old (AbandonLine who session.now)) self.new result }
+        ensures takes { Takes (after_line self.old (AbandonLine who session.now)) self.new result }
+        ensures early { has_text who self.old.honest ≡ false → IsRefusedEarly result }
     {
         let honest = self.is_honest(&who);
         let step = self.abandon_step(who, session);
@@ -83,7 +88,8 @@ impl Declared {
 
     /// The principal is given bytes.
     pub fn deliver(&mut self, who: Name, what: &Delivered<'_>) -> Result<(), Stop>
-        ensures { Takes (after_line self.old (DeliverLine who (delivered what.now))) self.new result }
+        ensures takes { Takes (after_line self.old (DeliverLine who (delivered what.now))) self.new result }
+        ensures early { (has_bytes (delivered what.now) || has_text who self.old.honest) ≡ false → IsRefusedEarly result }
     {
         let honest = self.is_honest(&who);
         let what = what_of(self.alloc, what)?;
@@ -141,7 +147,8 @@ impl Declared {
 
 // What is delivered.
 fn what_of(alloc: Global, what: &Delivered<'_>) -> Result<What, OutOfMemory>
-    ensures { IfOk result (λ w. what_of w ≡ made (delivered what.now)) }
+    ensures made { IfOk result (λ w. what_of w ≡ made (delivered what.now)) }
+    ensures early { has_bytes (delivered what.now) ≡ false → IsOk result }
 {
     match what {
         Delivered::Frame(number) => Ok(What::Frame {

@@ -1,10 +1,11 @@
 //! How one more line is taken.
-ghost use Rattle.std.specs.Prelude.{◌≡◌, IsTrue};
+ghost use Rattle.std.specs.Prelude.{◌≡◌, false, IsTrue};
 ghost use Rattle.sg_sched.specs.Format.Forms.{is_form};
 ghost use Rattle.sg_sched.specs.Format.Model.{statement};
 ghost use Rattle.sg_sched.specs.Format.LineContents.{BlockLine};
 ghost use Rattle.sg_sched_text.specs.Adding.{after_line};
-ghost use Rattle.sg_sched_text.specs.TakingLines.{Takes};
+ghost use Rattle.sg_sched_text.specs.Early.{is_kept};
+ghost use Rattle.sg_sched_text.specs.TakingLines.{IsRefusedEarly, Takes};
 
 use crate::declarations::Declared;
 use crate::stop::Stop;
@@ -15,7 +16,8 @@ impl Declared {
     /// Takes what a line says. One with which a block begins adds nothing by itself.
     pub fn take(&mut self, line: Line<'_>) -> Result<(), Stop>
         requires { IsTrue (is_form (statement line)) }
-        ensures { Takes (after_line self.old (statement line.entry)) self.new result }
+        ensures takes { Takes (after_line self.old (statement line.entry)) self.new result }
+        ensures early { is_kept self.old (statement line.entry) ≡ false → IsRefusedEarly result }
     {
         match line {
             Line::Block => self.block(),

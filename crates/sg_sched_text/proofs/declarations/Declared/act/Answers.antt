@@ -10,4 +10,4 @@ returns c =
     subst (λ (a : Added). Takes a c.add_step.new.self c.add_step.result)
     ((λ i. add_step past (not (c.in_ok-repeated.ensures i)) (c.is_honest-honest.ensures.honest i) (c.in_ok-step.ensures i))
     ∙ act_added past c.is_honest-honest.ensures.group c.args.who c.args.session.now c.args.label.now c.args.values.now)
-    c.add_step.ensures
+    c.add_step.ensures.takes

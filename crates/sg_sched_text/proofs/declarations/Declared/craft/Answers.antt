@@ -38,4 +38,4 @@ returns c =
     let fine : is_short (graph_for k.session past) (session_named k.session past) k ≡ true = sym c.in_ok-is_short.ensures ∙ few in
     subst (λ (a : Added). Takes a c.add_step.new.self c.add_step.result)
     (ap (λ (o : Option Step). add_step past false true o) c.in_ok-step.ensures ∙ craft_added past k (λ i. risen i && fine i))
-    c.add_step.ensures
+    c.add_step.ensures.takes

@@ -6,26 +6,26 @@ use Rattle.sg_sched_text.specs.TakingLines.{Takes}
 use Rattle.sg_sched_text.proofs.AddingLaws.{edge_added, honest_added, key_added, session_added}
 use Rattle.sg_sched_text.proofs.declarations.Declared.take.Goals as goal
 
-pub returns-in-Edge : goal.returns-in-Edge
-returns-in-Edge c =
+pub returns-in-Edge-clause-takes : goal.returns-in-Edge-clause-takes
+returns-in-Edge-clause-takes c =
     subst (λ (a : Added). Takes a c.add_edge.new.self c.add_edge.result)
     (edge_added c.args.self.now c.in-Edge.label c.in-Edge.from c.in-Edge.to ∙ ap (λ (l : Line). after_line c.args.self.now (statement l)) (sym c.in-Edge.is))
     c.add_edge.ensures
 
-pub returns-in-Honest : goal.returns-in-Honest
-returns-in-Honest c =
+pub returns-in-Honest-clause-takes : goal.returns-in-Honest-clause-takes
+returns-in-Honest-clause-takes c =
     subst (λ (a : Added). Takes a c.add_honest.new.self c.add_honest.result)
     (honest_added c.args.self.now c.in-Honest.who ∙ ap (λ (l : Line). after_line c.args.self.now (statement l)) (sym c.in-Honest.is))
     c.add_honest.ensures
 
-pub returns-in-Key : goal.returns-in-Key
-returns-in-Key c =
+pub returns-in-Key-clause-takes : goal.returns-in-Key-clause-takes
+returns-in-Key-clause-takes c =
     subst (λ (a : Added). Takes a c.add_key.new.self c.add_key.result)
     (key_added c.args.self.now c.in-Key.one c.in-Key.two c.in-Key.digits.now ∙ ap (λ (l : Line). after_line c.args.self.now (statement l)) (sym c.in-Key.is))
     c.add_key.ensures
 
-pub returns-in-Session : goal.returns-in-Session
-returns-in-Session c =
+pub returns-in-Session-clause-takes : goal.returns-in-Session-clause-takes
+returns-in-Session-clause-takes c =
     subst (λ (a : Added). Takes a c.add_session.new.self c.add_session.result)
     (session_added c.args.self.now c.in-Session.name c.in-Session.graph c.in-Session.nonce c.in-Session.names c.in-Session.version
     ∙ ap (λ (l : Line). after_line c.args.self.now (statement l)) (sym c.in-Session.is))
