@@ -15,6 +15,7 @@ pub mod OneLine
 pub mod NextLine
 pub mod ReadingLines
 pub mod Blocks
+pub mod BlockText
 pub mod Spelled
 pub mod WrittenAssignments
 pub mod WrittenSteps

@@ -1,8 +1,9 @@
 -- How lines are read one by one: the inner definition that the code is proved against. What it reads is what `Spells` says.
-use Rattle.std.specs.Prelude.{ℕ, ◌+◌, ◌==◌, Bool, false, ◌&&◌, if◌then◌else◌, List, [], ◌∷◌, ◌++◌, length, codes, bytes_eq, Result, Ok, Err}
+use Rattle.std.specs.Prelude.{ℕ, ◌+◌, ◌==◌, Bool, false, not, ◌&&◌, if◌then◌else◌, List, [], ◌∷◌, ◌++◌, length, codes, bytes_eq, Option, Some, None, option_map, Result, Ok, Err, is_err}
 use Rattle.std.specs.Option.{option_map_or}
 use Rattle.sg_protocol.specs.Graph.{Graph}
-use Rattle.sg_parse.specs.Reading.{read as parsed}
+use Rattle.sg_parse.specs.Reading.{read as parsed, read_beginning}
+use Rattle.sg_parse.specs.Tokens.{tokens}
 use Rattle.sg_parse.specs.declared.fault.ParseFault.{ParseFault}
 use Rattle.sg_sched.specs.Text.{lines, content, words}
 use Rattle.sg_sched.specs.Format.Forms.{is_skipped}
@@ -47,10 +48,24 @@ are_opening (a ∷ b ∷ ws) = bytes_eq a (codes "graph") && bytes_eq b (codes "
 unfoldable pub opens : Line → Bool
 opens line = are_opening (words (content line))
 
--- the first line that isn't skipped is the line `graph {`
+-- the text of the block, after the line `graph {`, if it is closed
+abbrev pub block_text : List Line → Option (List ℕ)
+block_text [] = None
+block_text (l ∷ ls) = if closes l then Some [] else option_map (λ text. l ++ text) (block_text ls)
+
+-- the text of the block with which the lines begin, if `graph {` is the first that isn't skipped, and the block is closed
+abbrev pub first_block : List Line → Option (List ℕ)
+first_block [] = None
+first_block (l ∷ ls) = if is_skipped l then first_block ls else if opens l then block_text ls else None
+
+-- there is a text, and it begins with a graph's name and a role
+abbrev pub begins_graph : Option (List ℕ) → Bool
+begins_graph None = false
+begins_graph (Some text) = not (is_err (read_beginning (tokens text)))
+
+-- the lines begin with a block whose text begins so
 abbrev pub begins_block : List Line → Bool
-begins_block [] = false
-begins_block (l ∷ ls) = if is_skipped l then begins_block ls else opens l
+begins_block ls = begins_graph (first_block ls)
 
 -- the sessions after the graph that the text spells, if it spells one
 abbrev pub with_graph : Result Graph ParseFault → ℕ → List Line → Result Logs Fault

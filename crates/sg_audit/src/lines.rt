@@ -51,6 +51,13 @@ impl<'a> Lines<'a> {
         Some(line)
     }
 
+    /// The text of the lines that are left. It takes no memory.
+    pub fn rest(&self) -> &'a [u8]
+        ensures { self.now.lines ≡ lines result.now }
+    {
+        self.rest
+    }
+
     /// The number of lines that were taken off.
     pub fn number(&self) -> u32
         ensures number { result ≡ self.now.number }

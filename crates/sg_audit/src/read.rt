@@ -1,9 +1,9 @@
 //! Logs from bytes.
-ghost use Rattle.std.specs.Prelude.{◌≡◌, ◌≢◌, ◌<◌, ◌^◌, ◌+◌, ◌⊎◌, [], All, map, length, Ok, Err, IfOk, IfErr, IsFalse, IsTrue, MatchResult, OnOk};
+ghost use Rattle.std.specs.Prelude.{◌≡◌, ◌≢◌, ◌<◌, ◌^◌, ◌+◌, ◌⊎◌, [], All, map, length, Ok, Err, Some, None, IfOk, IfErr, IsFalse, IsTrue, MatchResult, OnOk};
 ghost use Rattle.sg_audit.specs.Sessions.{Logs as Spelled};
 ghost use Rattle.sg_audit.specs.Spells.{SpellsLogs, IsFault};
 ghost use Rattle.sg_parse.specs.Reading.{read as parsed};
-ghost use Rattle.sg_audit.specs.Read.{add_line, begins_block, read, read_block, read_lines, read_sessions, with_graph};
+ghost use Rattle.sg_audit.specs.Read.{add_line, begins_block, begins_graph, block_text, first_block, read, read_block, read_lines, read_sessions, with_graph};
 ghost use Rattle.sg_audit.specs.SoFar.{nothing};
 ghost use Rattle.sg_audit.specs.TakingLines.{Refuses, Takes, fault_at, logs_held, session_of};
 ghost use Rattle.sg_audit.specs.Agree.{AreLogs};
@@ -23,7 +23,7 @@ use std::alloc::Global;
 
 /// The logs that the bytes spell, or the first wrong line from the top, lines counted from 1, and what is wrong with it; or out of
 /// memory. There are fewer than 4,294,967,295 bytes. It reads each byte once and takes time in proportion to their number. It takes no
-/// memory before the line `graph {`.
+/// memory before the graph's first role is read.
 pub fn read_logs(alloc: Global, bytes: &[u8]) -> Result<Logs, LogFault>
     requires { length bytes.now + 1 < 2 ^ 32 }
     // What is read is spelled so.
@@ -34,7 +34,8 @@ pub fn read_logs(alloc: Global, bytes: &[u8]) -> Result<Logs, LogFault>
     ensures wrong { IfErr result (λ e. (e ≡ LogFault.OutOfMemory) ⊎ IsFault bytes.now e) }
     // What has a fault is refused with the first one, unless memory runs out.
     ensures refused { (e : LogFault) → IsFault bytes.now e → MatchResult result (λ held. ⊥) (λ f. (f ≡ LogFault.OutOfMemory) ⊎ (f ≡ e)) }
-    // Memory never runs out if the line `graph {` isn't the first that is neither blank nor a comment.
+    // Memory never runs out if the first line that is neither blank nor a comment isn't `graph {`, if no line closes its block, or if the
+    // block's text doesn't begin with a name and a role.
     ensures early { IsFalse (begins_block (lines_of bytes.now)) → result ≢ Err LogFault.OutOfMemory }
     // Each session can be audited.
     ensures fit { IfOk result (λ l. All (λ s. AreLogs l.graph (logs_of s) (reported_of s)) l.sessions) }
@@ -43,7 +44,7 @@ pub fn read_logs(alloc: Global, bytes: &[u8]) -> Result<Logs, LogFault>
 }
 
 // The logs, or the first wrong line, as lines are read one by one.
-#[tactic(auto, unfolding(crate::specs::Read::read))]
+#[tactic(auto, using(crate::proofs::BlockText::same_block), unfolding(crate::specs::Read::read))]
 fn read_text(alloc: Global, bytes: &[u8]) -> Result<Logs, LogFault>
     requires { length bytes.now + 1 < 2 ^ 32 }
     ensures exact { MatchResult result (λ l. read bytes.now ≡ Ok (logs_held l)) (Refuses (read bytes.now)) }
@@ -62,7 +63,7 @@ fn read_text(alloc: Global, bytes: &[u8]) -> Result<Logs, LogFault>
 // Takes lines off up to `graph {`.
 fn skip_to_block(lines: &mut Lines<'_>) -> Result<(), LogFault>
     ensures exact { MatchResult result (λ _. read_lines (lines.old.number + 1) lines.old.lines ≡ read_block lines.new.number [] lines.new.lines) (Refuses (read_lines (lines.old.number + 1) lines.old.lines)) }
-    ensures begins { OnOk result (IsTrue (begins_block lines.old.lines)) }
+    ensures block { MatchResult result (λ _. first_block lines.old.lines ≡ block_text lines.new.lines) (λ _. first_block lines.old.lines ≡ None) }
     ensures early { result ≢ Err LogFault.OutOfMemory }
 {
     'lines: while let Some(line) = lines.next() {
@@ -82,11 +83,14 @@ fn skip_to_block(lines: &mut Lines<'_>) -> Result<(), LogFault>
 }
 
 // The graph of the block whose opening line was taken off.
+#[tactic(auto, using(crate::proofs::BlockText::begins_there, crate::proofs::BlockText::begins_not))]
 fn read_graph(alloc: Global, lines: &mut Lines<'_>) -> Result<Graph, LogFault>
-    ensures { MatchResult result (λ g. read_block lines.old.number [] lines.old.lines ≡ read_sessions g (lines.new.number + 1) nothing lines.new.lines) (Refuses (read_block lines.old.number [] lines.old.lines)) }
+    ensures exact { MatchResult result (λ g. read_block lines.old.number [] lines.old.lines ≡ read_sessions g (lines.new.number + 1) nothing lines.new.lines) (Refuses (read_block lines.old.number [] lines.old.lines)) }
+    ensures begins { OnOk result (IsTrue (begins_graph (block_text lines.old.lines))) }
+    ensures early { IsFalse (begins_graph (block_text lines.old.lines)) → result ≢ Err LogFault.OutOfMemory }
 {
-    let text = block_text(alloc, lines)?;
-    match parse_graph(alloc, text.as_slice()) {
+    let text = block_text(lines)?;
+    match parse_graph(alloc, text) {
         Ok(graph) => Ok(graph),
         Err(ParseFault::OutOfMemory) => Err(LogFault::OutOfMemory),
         Err(fault) => Err(LogFault::Graph { fault }),
@@ -94,17 +98,19 @@ fn read_graph(alloc: Global, lines: &mut Lines<'_>) -> Result<Graph, LogFault>
 }
 
 // The text of the block whose opening line was taken off.
-fn block_text(alloc: Global, lines: &mut Lines<'_>) -> Result<Vec<u8>, LogFault>
-    ensures { MatchResult result (λ text. read_block lines.old.number [] lines.old.lines ≡ with_graph (parsed text.items) (lines.new.number + 1) lines.new.lines) (Refuses (read_block lines.old.number [] lines.old.lines)) }
+#[tactic(auto, using(crate::proofs::BlockText::begun, crate::proofs::BlockText::inside, crate::proofs::BlockText::within, crate::proofs::BlockText::onward, crate::proofs::BlockText::closed, crate::proofs::BlockText::text_there, crate::proofs::BlockText::open_block, crate::proofs::BlockText::no_text))]
+fn block_text<'a>(lines: &mut Lines<'a>) -> Result<&'a [u8], LogFault>
+    ensures exact { MatchResult result (λ text. read_block lines.old.number [] lines.old.lines ≡ with_graph (parsed text.now) (lines.new.number + 1) lines.new.lines) (Refuses (read_block lines.old.number [] lines.old.lines)) }
+    ensures text { MatchResult result (λ text. block_text lines.old.lines ≡ Some text.now) (λ _. block_text lines.old.lines ≡ None) }
+    ensures early { result ≢ Err LogFault.OutOfMemory }
 {
-    let mut text = Vec::new(alloc);
+    let all = lines.rest();
+    let mut end = 0usize;
     'lines: while let Some(line) = lines.next() {
         if closes(line) {
-            return Ok(text);
+            return Ok(&all[..end]);
         }
-        if text.extend_from_slice(line).is_err() {
-            return Err(LogFault::OutOfMemory);
-        }
+        end += line.len();
     }
     Err(LogFault::Form {
         line: lines.number(),
