@@ -13,7 +13,8 @@ use Rattle.sg_protocol.specs.Graph.{Graph}
 use Rattle.sg_protocol.specs.NodeStates.{NodeState}
 use Rattle.sg_protocol.specs.Notes.{Note, Notes}
 use Rattle.sg_protocol.specs.Premises.{Unforged, CollisionFree, hashed}
-use Rattle.sg_protocol.specs.Run.{run, world_after_all}
+use Rattle.sg_protocol.specs.Calls.{sid_of}
+use Rattle.sg_protocol.specs.Run.{events_of_outcome, run, world_after_all}
 use Rattle.sg_protocol.specs.Schedule.{Step}
 use Rattle.sg_protocol.specs.Texts.{real, graph_text_of}
 use Rattle.sg_protocol.specs.World.{Logged, new_world}
@@ -23,6 +24,8 @@ use Rattle.sg_world.specs.RecordModel.{Recorded, TakenStep}
 use Rattle.sg_world.specs.PremiseFaults.{IsForgedAs, IsForgedFault, IsCollisionAs, IsCollisionFault}
 use Rattle.sg_world.specs.Replay.{Replay, run_of}
 use Rattle.sg_world.specs.Setting.{Setting}
+use Rattle.sg_world.specs.Walked.{WalksAreMade}
+use Rattle.sg_text.specs.Sessions.{firsts}
 use Rattle.sg_world.specs.declared.premises.CollisionFault.{CollisionFault}
 use Rattle.sg_world.specs.declared.premises.CollisionFault.TheVariants as collision
 use Rattle.sg_world.specs.declared.premises.ForgedFault.{ForgedFault}
@@ -118,3 +121,9 @@ alone (g ∷ k ∷ gs) h = absurd (omega (arith, h))
 pub none_collide : (r : Replay) → length r.schedule.steps ≡ 0 → length r.schedule.graphs ≤ 1 → None ≡ first_collision real (hashed r.schedule (run_of r))
 none_collide r h few =
     sym (ap (λ (log : List Logged). first_collision real (map graph_text_of r.schedule.graphs ++ flat_map (λ (l : Logged). l.notes.hashed) log)) (no_log r h) ∙ alone r.schedule.graphs few)
+
+-- ---- the walks
+
+-- no session has an event, so there are none
+pub none_made : (r : Replay) → length r.schedule.steps ≡ 0 → WalksAreMade r []
+none_made r h = record { sids = sym (ap (λ (log : List Logged). firsts (map sid_of (flat_map (λ (l : Logged). events_of_outcome l.outcome) log))) (no_log r h)); each = tt }

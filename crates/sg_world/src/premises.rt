@@ -128,7 +128,7 @@ impl<'p> World<'p> {
     }
 
     // No step was taken so far.
-    fn has_no_steps(&self) -> bool
+    pub(crate) fn has_no_steps(&self) -> bool
         ensures { IsTrue result ↔ (length self.now.schedule.steps ≡ 0) }
     {
         self.len() == 0

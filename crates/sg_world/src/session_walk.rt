@@ -1,5 +1,5 @@
 //! The walk that explains a session.
-ghost use Rattle.std.specs.Prelude.{◌≡◌, ◌≢◌, ◌++◌, [], bytes_eq, filter_map, map, slice_get, IfErr, IfOk, MatchBool, OnOk};
+ghost use Rattle.std.specs.Prelude.{◌≡◌, ◌≢◌, ◌++◌, [], bytes_eq, filter_map, map, slice_get, IfErr, IfOk, IsOk, MatchBool, OnOk};
 ghost use Rattle.std.specs.Option.{option_to_list};
 ghost use Rattle.sg_certify.specs.Runs.{AreTraces, IsUnbroken};
 ghost use Rattle.sg_model.specs.Lists.{has_text};
@@ -60,11 +60,15 @@ impl<'p> World<'p> {
     }
 
     /// The walk of each session with an event, beside its identifier, in the order of first events. Each explains what the honest principals
-    /// did in its session, as that of `walk_of`. They hold a copy of each value that was sent.
+    /// did in its session, as that of `walk_of`. They hold a copy of each value that was sent. Before the first step it takes no memory.
     pub fn walks(&self) -> Result<Vec<(Sid, StoredWalk)>, OutOfMemory>
         requires { PremisesHold self.now }
-        ensures { IfOk result (λ walks. WalksAreMade self.now (map sid_and_steps walks.items)) }
+        ensures made { IfOk result (λ walks. WalksAreMade self.now (map sid_and_steps walks.items)) }
+        ensures before_steps { self.now.schedule.steps ≡ [] → IsOk result }
     {
+        if self.has_no_steps() {
+            return Ok(Vec::new(self.alloc));
+        }
         let traces = self.traces()?;
         make_walks(self.alloc, &traces)
     }
