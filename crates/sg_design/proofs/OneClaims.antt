@@ -1,10 +1,7 @@
 -- The endings of a command on a graph and its claims exclude each other.
-use Rattle.std.proofs.Common.{◌≡◌, ℕ, ◌⊎◌, inl, inr, Bool, true, false, ◌&&◌, if◌then◌else◌, List, [], ◌∷◌, ◌++◌, Some, Err, All, refl, sym, ap, ◌∙◌, subst}
+use Rattle.std.proofs.Common.{◌≡◌, ℕ, ◌⊎◌, inl, inr, Bool, true, false, ◌&&◌, if◌then◌else◌, List, [], ◌∷◌, ◌++◌, Option, Some, None, Err, All, is_none, refl, sym, ap, ◌∙◌, subst}
 use Rattle.std.proofs.lemmas.List.Elements.{All-nil, All-pop, All-push}
-use Rattle.sg_claims.specs.Answers.{IsAnswer}
 use Rattle.sg_claims.specs.declared.claim.NamedClaim.{NamedClaim}
-use Rattle.sg_claims.specs.declared.decision.Answer.{Answer}
-use Rattle.sg_claims.specs.declared.decision.Answer.TheVariants.{Holds as HoldsOfAll, Fails}
 use Rattle.sg_claims_text.specs.Grammar.{SpellsClaims}
 use Rattle.sg_claims_text.specs.Reading.{read}
 use Rattle.sg_claims_text.specs.declared.fault.ClaimsFault.{ClaimsFault}
@@ -17,7 +14,7 @@ use Rattle.sg_ending.specs.Ending.{Ending, Written, NoGraph, GraphRefused, Claim
 use Rattle.sg_ending.specs.Files.{Holds}
 use Rattle.sg_ending.specs.Laws.{asked, is_of_outside}
 use Rattle.sg_ending.specs.Output.{Output}
-use Rattle.sg_design.specs.Claimed.{AreAnswered, NoClaims, OneMore, Decides, IsAcceptedText, IsDecision, OnClaims, OnClaimsIn, RefusesClaims, RefusesGraph, does_hold, most_claims_file}
+use Rattle.sg_design.specs.Claimed.{AreAnswered, NoClaims, OneMore, Decides, IsAcceptedText, IsAgainst, IsDecision, OnClaims, OnClaimsIn, RefusesClaims, RefusesGraph, most_claims_file}
 use Rattle.sg_design.specs.Laws.{ClaimsEndOnce, IsCutOff}
 use Rattle.sg_ending.proofs.OneEnding.{one_ok, one_err, ok_or_err, Cause, Refused, Before, RefusedOnce, never_both, one_cause, ends_once, held_is_read, held_once, holds_or_ends, of_graph, no_graph, unread_once}
 
@@ -45,15 +42,15 @@ module _ (g : Graph) where
   holds c = HoldsOnWalks (shape g) c.claim
 
   -- a walk that breaks a claim is one on which it doesn't hold
-  one_tells : (c : NamedClaim) (a : Answer) → IsAnswer (shape g) c.claim a → Tells (does_hold a) (holds c)
-  one_tells c HoldsOfAll h = h
-  one_tells c (Fails walk) f = λ h. (f.breaks).wrong (h walk.items (f.breaks).follows (f.breaks).before (f.breaks).label [] (f.breaks).there (f.breaks).is_later)
+  one_tells : (c : NamedClaim) (against : Option (List ℕ)) → IsAgainst g c against → Tells (is_none against) (holds c)
+  one_tells c None h = h
+  one_tells c (Some walk) f = λ h. (f.breaks).wrong (h walk (f.breaks).follows (f.breaks).before (f.breaks).label [] (f.breaks).there (f.breaks).is_later)
 
   all_tell : (cs : List NamedClaim) (text : List ℕ) (all : Bool) → AreAnswered g cs text all → Tells all (All holds cs)
   all_tell _ _ _ NoClaims = All-nil holds
-  all_tell _ _ _ (OneMore {cs} {text} {all} c a more right) =
-      both_tell (All holds cs) (holds c) (All holds (cs ++ c ∷ [])) all (does_hold a) (λ xs x. All-push holds cs c xs x) (λ ys. All-pop holds (cs ++ c ∷ []) cs (Some c) refl ys)
-      (all_tell cs text all more) (one_tells c a right)
+  all_tell _ _ _ (OneMore {cs} {text} {all} c against more right) =
+      both_tell (All holds cs) (holds c) (All holds (cs ++ c ∷ [])) all (is_none against) (λ xs x. All-push holds cs c xs x) (λ ys. All-pop holds (cs ++ c ∷ []) cs (Some c) refl ys)
+      (all_tell cs text all more) (one_tells c against right)
 
   one_all : (cs ds : List NamedClaim) (text other : List ℕ) (b c : Bool) → cs ≡ ds → AreAnswered g cs text b → AreAnswered g ds other c → b ≡ c
   one_all cs ds text other b c same s t = one_bit (All holds ds) b c (subst (λ xs. Tells b (All holds xs)) same (all_tell cs text b s)) (all_tell ds other c t)

@@ -1,19 +1,17 @@
 -- A command on one file of a graph always has an ending.
-use Rattle.std.proofs.Common.{◌≡◌, ◌≢◌, ℕ, zero, suc, ◌+◌, ◌<◌, ◌≤◌, ◌⊎◌, inl, inr, Bool, true, false, ◌||◌, List, [], ◌∷◌, ◌++◌, length, get_or, Option, Some, None, refl, sym, ap, ◌∙◌, subst, arith, codes, add-one}
+use Rattle.std.proofs.Common.{◌≡◌, ℕ, zero, suc, ◌+◌, ◌<◌, inl, inr, Bool, true, false, List, [], ◌∷◌, ◌++◌, length, get_or, Option, Some, None, refl, sym, subst, arith, add-one}
 use Rattle.std.specs.Prelude.{IsTrue, ◌↔◌, bytes_eq}
 use Rattle.std.specs.Fmt.{decimal}
 use Rattle.std.proofs.lemmas.Bool.{cases_Bool}
 use Rattle.std.proofs.lemmas.Slice.Eq.{bytes_eq-Decides}
 use Rattle.sg_claims.specs.Dominators.{IsNearest, IsNearestOf}
-use Rattle.sg_claims.specs.Suggestions.{AreFor, AreSuggested, Adds, bars_itself, can_be_named, claims_of, itself, needs_nearest}
+use Rattle.sg_claims.specs.Suggestions.{AreFor, AreSuggested, Adds, bars_itself, can_be_named, itself, needs_nearest}
 use Rattle.sg_claims.specs.declared.claim.NamedClaim.{NamedClaim}
 use Rattle.sg_claims.proofs.Suggesting.{adds_none, adds_on, adds_one, named_for, suggests_next, suggests_none, unnamed_for}
 use Rattle.sg_claims_text.specs.Written.{written}
 use Rattle.sg_claims_text.proofs.Suggested.{suggestion-spells}
-use Rattle.sg_compile.specs.Compiled.{IsCompiled, IsWhole}
 use Rattle.sg_compile.specs.Laws.{Surely}
 use Rattle.sg_compile.specs.Text.{program_text}
-use Rattle.sg_compile.specs.declared.check.CompileFault.{CompileFault}
 use Rattle.sg_compile.proofs.Decided.{accepted_or_refused}
 use Rattle.sg_compile.proofs.Sure.{or_not, so, sure}
 use Rattle.sg_compile.proofs.Whole.{role_or_refused}
@@ -21,18 +19,13 @@ use Rattle.sg_model.specs.Claims.{Claim, HoldsOnWalks}
 use Rattle.sg_model.specs.Limits.{most_graph_file}
 use Rattle.sg_model.specs.Lists.{has_text}
 use Rattle.sg_parse.specs.Grammar.{SpellsGraph}
-use Rattle.sg_protocol.specs.Accepted.{Accepted}
 use Rattle.sg_protocol.specs.Graph.{Graph, IsGraph, shape}
-use Rattle.sg_protocol.specs.IsSchedule.{AreCompiled}
-use Rattle.sg_protocol.specs.Keyring.{Program}
-use Rattle.sg_protocol.specs.Texts.{real}
-use Rattle.sg_ending.specs.Ending.{Ending, Written, NoGraph, GraphRefused, NoRole}
-use Rattle.sg_ending.specs.Graphs.{IsFirstRefused}
-use Rattle.sg_ending.specs.Laws.{EndsAlways, IsAsked, SomeEnding}
+use Rattle.sg_ending.specs.Ending.{Written, NoGraph, GraphRefused, NoRole}
+use Rattle.sg_ending.specs.Laws.{EndsAlways, SomeEnding}
 use Rattle.sg_ending.specs.Output.{Output}
 use Rattle.sg_ending.proofs.SomeEnding.{always, compiled_or_refused, graph_or_none, text_written, with_text}
 use Rattle.sg_design.specs.Accepted.{check_text}
-use Rattle.sg_design.specs.Claimed.{IsAcceptedText, IsSuggestion, Suggests}
+use Rattle.sg_design.specs.Claimed.{IsSuggestion, Suggests}
 use Rattle.sg_design.specs.Ends.{Checks, Compiles}
 
 -- ---- check

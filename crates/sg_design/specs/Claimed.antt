@@ -1,6 +1,6 @@
 -- What is written of claims of a graph, which claims are suggested, and how the program ends by it.
-use Rattle.std.specs.Prelude.{◌≡◌, ◌≢◌, ℕ, ◌⊎◌, Bool, true, false, ◌&&◌, if◌then◌else◌, List, [], ◌∷◌, ◌++◌, All, Err, codes, length, ⊤}
-use Rattle.sg_claims.specs.Answers.{IsAnswer}
+use Rattle.std.specs.Prelude.{◌≡◌, ◌≢◌, ℕ, ◌⊎◌, Bool, true, false, ◌&&◌, if◌then◌else◌, List, [], ◌∷◌, ◌++◌, All, Err, Option, Some, None, is_none, codes, length, ⊤}
+use Rattle.sg_claims.specs.Breaks.{IsFirstBreak}
 use Rattle.sg_claims.specs.Suggestions.{AreSuggested}
 use Rattle.sg_claims.specs.declared.claim.NamedClaim.{NamedClaim}
 use Rattle.sg_claims.specs.declared.decision.Answer.{Answer}
@@ -10,6 +10,7 @@ use Rattle.sg_claims_text.specs.Reading.{read}
 use Rattle.sg_claims_text.specs.Written.{written}
 use Rattle.sg_claims_text.specs.declared.fault.ClaimsFault.TheVariants.{Text}
 use Rattle.sg_graph.specs.NamesOfGraph.{walk_text}
+use Rattle.sg_model.specs.Claims.{HoldsOnWalks}
 use Rattle.sg_model.specs.Limits.{most_graph_file}
 use Rattle.sg_parse.specs.Grammar.{SpellsGraph}
 use Rattle.sg_parse.specs.Reading.{read as parsed}
@@ -30,20 +31,26 @@ most_claims_file = 1048576
 
 -- ---- answers
 
--- the line of an answer: that the claim holds, or the labels of a walk that breaks it
-abbrev pub answer_line : Graph → NamedClaim → Answer → List ℕ
-answer_line g c HoldsOfAll = codes "claim " ++ c.name ++ codes " holds\n"
-answer_line g c (Fails walk) = codes "claim " ++ c.name ++ codes " fails:" ++ walk_text g walk.items ++ 10 ∷ []
+-- what there is against a claim: the first walk that breaks it, or nothing, and the claim holds of the graph
+abbrev pub IsAgainst : Graph → NamedClaim → Option (List ℕ) → Type 0
+IsAgainst g c None = HoldsOnWalks (shape g) c.claim
+IsAgainst g c (Some walk) = IsFirstBreak (shape g) c.claim walk
 
--- by the answer the claim holds
-abbrev pub does_hold : Answer → Bool
-does_hold HoldsOfAll = true
-does_hold (Fails walk) = false
+-- the line of a claim: that it holds, or the labels of a walk that breaks it
+abbrev pub answer_line : Graph → NamedClaim → Option (List ℕ) → List ℕ
+answer_line g c None = codes "claim " ++ c.name ++ codes " holds\n"
+answer_line g c (Some walk) = codes "claim " ++ c.name ++ codes " fails:" ++ walk_text g walk ++ 10 ∷ []
 
 -- the text is the lines of true answers to these claims, in their order, and this is whether all of them hold
 pub data AreAnswered (g : Graph) : List NamedClaim → List ℕ → Bool → Type 0 where
   NoClaims : AreAnswered g [] [] true
-  OneMore : {cs : List NamedClaim} {text : List ℕ} {all : Bool} (c : NamedClaim) (a : Answer) → AreAnswered g cs text all → IsAnswer (shape g) c.claim a → AreAnswered g (cs ++ c ∷ []) (text ++ answer_line g c a) (all && does_hold a)
+  OneMore : {cs : List NamedClaim} {text : List ℕ} {all : Bool} (c : NamedClaim) (against : Option (List ℕ)) → AreAnswered g cs text all → IsAgainst g c against
+      → AreAnswered g (cs ++ c ∷ []) (text ++ answer_line g c against) (all && is_none against)
+
+-- the walk of an answer
+abbrev pub walk_in : Answer → Option (List ℕ)
+walk_in HoldsOfAll = None
+walk_in (Fails walk) = Some walk.items
 
 -- ---- graphs that are accepted
 

@@ -1,11 +1,11 @@
 //! The command `claims` on a graph and claims: reads a graph, checks it, reads claims of it, and says of each whether it holds.
-ghost use Rattle.std.specs.Prelude.{◌≡◌, ◌≤◌, ◌++◌, IfErr, IfOk, OnOk};
+ghost use Rattle.std.specs.Prelude.{◌≡◌, ◌≤◌, ◌++◌, IfErr, IfOk, OnOk, is_none};
 ghost use Rattle.sg_claims_text.specs.Grammar.{SpellsClaims};
 ghost use Rattle.sg_model.specs.Limits.{most_graph_file};
 ghost use Rattle.sg_parse.specs.Grammar.{SpellsGraph};
 ghost use Rattle.sg_ending.specs.Files.{EndsAt, Holds};
 ghost use Rattle.sg_ending.specs.Model.{ending_held};
-ghost use Rattle.sg_design.specs.Claimed.{AreAnswered, Decides, DecidesClaims, IsAcceptedText, OnClaims, OnClaimsIn, RefusesGraph, answer_line, does_hold};
+ghost use Rattle.sg_design.specs.Claimed.{AreAnswered, Decides, DecidesClaims, IsAcceptedText, OnClaims, OnClaimsIn, RefusesGraph, answer_line, walk_in};
 
 use sg_base::{ByteOut, Files, OutOfMemory, Sink, write_all};
 use sg_claims::{Answer, NamedClaim, decide};
@@ -155,7 +155,7 @@ fn put_answer(
     claim: &NamedClaim,
     answer: &Answer,
 ) -> Result<(), OutOfMemory>
-    ensures { OnOk result (out.new ≡ out.old ++ answer_line graph.now claim.now answer.now) }
+    ensures { OnOk result (out.new ≡ out.old ++ answer_line graph.now claim.now (walk_in answer.now)) }
 {
     out.bytes(b"claim ")?;
     out.bytes(claim.name.as_bytes())?;
@@ -170,7 +170,7 @@ fn put_answer(
 }
 
 fn does_hold(answer: &Answer) -> bool
-    ensures { result ≡ does_hold answer.now }
+    ensures { result ≡ is_none (walk_in answer.now) }
 {
     matches!(answer, Answer::Holds)
 }

@@ -47,7 +47,7 @@ module _ (files : List (List ℕ × List ℕ)) (most : ℕ) (file : List ℕ) (n
   has found is others same = (let one : files ≡ others = cc in subst (λ fs. file_at fs file ≡ found) one is)
 
   -- a file is read, or it is missing or too long
-  read_or_unread : ((bytes : List ℕ) × Has (Some files) file (Some bytes) × (length bytes ≤ most)) ⊎ ((e : Ending) × IsAsked e × IsUnread most file (Some files) n n e)
+  pub read_or_unread : ((bytes : List ℕ) × Has (Some files) file (Some bytes) × (length bytes ≤ most)) ⊎ ((e : Ending) × IsAsked e × IsUnread most file (Some files) n n e)
   read_or_unread = by (file_at files file) refl
     where
       by : (found : Option (List ℕ)) → file_at files file ≡ found
