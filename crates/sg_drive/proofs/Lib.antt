@@ -1,5 +1,5 @@
 mod Players
-mod Setups
+pub mod Setups
 mod Extends
 mod Drawn
 mod Taking
@@ -11,7 +11,7 @@ mod OwnRuns
 mod OwnSetup
 mod Stepping
 mod Left
-mod DrawnValues
+pub mod DrawnValues
 mod BudgetLaws
 mod BudgetOfTurns
 mod Grouped

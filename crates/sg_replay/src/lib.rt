@@ -13,4 +13,5 @@
 mod answer;
 pub mod audit;
 pub mod drive;
+pub mod laws;
 pub mod replay;
