@@ -7,7 +7,8 @@
 //! Each command has a module of its name. `answer` has the texts of audits.
 //!
 //! `specs/Ends.antt` says what each command leaves and why it ends so, `specs/Faults.antt` how a fault of a schedule or of logs ends it,
-//! `specs/Replayed.antt` what is left of a replay, `specs/Driven.antt` of a drive, and `specs/Audited.antt` has the text of `audit`.
+//! `specs/Replayed.antt` what is left of a replay, `specs/Driven.antt` of a drive, and `specs/Audited.antt` has the text of `audit`. `laws` says that an
+//! ending of `replay` and `drive` always applies.
 #![tactic(auto)]
 
 mod answer;
