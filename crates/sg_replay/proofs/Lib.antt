@@ -6,6 +6,7 @@ pub mod Refused
 pub mod Replaying
 pub mod Driving
 pub mod OneEnding
+pub mod SomeAudits
 pub mod SomeDrives
 pub mod SomeRuns
 pub mod SomeSchedule

@@ -8,7 +8,7 @@
 //!
 //! `specs/Ends.antt` says what each command leaves and why it ends so, `specs/Faults.antt` how a fault of a schedule or of logs ends it,
 //! `specs/Replayed.antt` what is left of a replay, `specs/Driven.antt` of a drive, and `specs/Audited.antt` has the text of `audit`. `laws` says that an
-//! ending of `replay` and `drive` always applies.
+//! ending always applies.
 #![tactic(auto)]
 
 mod answer;
