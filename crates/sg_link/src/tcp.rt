@@ -1,12 +1,13 @@
 //! Connections over TCP.
 ghost use Rattle.std.specs.Prelude.{◌≡◌, ◌<◌, ◌≤◌, length, None, IfOk, IsSome};
+ghost use Rattle.sg_stream.specs.Counts.{no_faults};
 
 use crate::address::socket_addr;
 use crate::giving;
 use crate::intake::Intake;
 use mio::net::{TcpListener, TcpStream};
 use sg_base::{Addr, Failed, LinkFault};
-use sg_stream::Conns;
+use sg_stream::{ConnFaults, Conns};
 use std::alloc::Global;
 use std::net::Net;
 use std::time::{Clock, Duration};
@@ -36,7 +37,7 @@ pub struct TcpConns<R> {
     intake: Option<Intake>,
     written: Option<TcpStream>,
     bound: Option<Addr>,
-    faults: u64,
+    faults: ConnFaults,
 }
 
 impl<
@@ -45,9 +46,9 @@ impl<
         + Alloc<A = Global>
         + Drop,
 > TcpConns<R> {
-    /// Connections that are not open, with a count of faults of 0. It takes no memory.
+    /// Connections that are not open, and of which no call failed. It takes no memory.
     pub fn new(rt: R) -> TcpConns<R>
-        ensures faults { ⟦<TcpConns<R> as Conns>⟧.faults result ≡ 0 }
+        ensures faults { ⟦<TcpConns<R> as Conns>⟧.faults result ≡ no_faults }
         ensures bound { ⟦<TcpConns<R> as Conns>⟧.bound result ≡ None }
     {
         TcpConns {
@@ -56,7 +57,7 @@ impl<
             intake: None,
             written: None,
             bound: None,
-            faults: 0,
+            faults: ConnFaults::none(),
         }
     }
 }
@@ -131,7 +132,7 @@ impl<
             self.bound = Some(at);
             return Ok(());
         }
-        self.faults = self.faults.saturating_add(1);
+        self.faults.opens = self.faults.opens.saturating_add(1);
         Err(Failed)
     }
 
@@ -144,7 +145,7 @@ impl<
             Ok(piece) => Ok(Some((READ, piece))),
             Err(LinkFault::OutOfMemory) => Err(LinkFault::OutOfMemory),
             Err(LinkFault::Failed) => {
-                self.faults = self.faults.saturating_add(1);
+                self.faults.takes = self.faults.takes.saturating_add(1);
                 Err(LinkFault::Failed)
             }
         }
@@ -172,7 +173,7 @@ impl<
                 }
             }
         }
-        self.faults = self.faults.saturating_add(1);
+        self.faults.connects = self.faults.connects.saturating_add(1);
         Err(Failed)
     }
 
@@ -186,7 +187,7 @@ impl<
             self.limit,
         );
         if given.is_err() {
-            self.faults = self.faults.saturating_add(1);
+            self.faults.gives = self.faults.gives.saturating_add(1);
         }
         given
     }

@@ -1,5 +1,6 @@
 pub mod Arrivals
 pub mod Calls
+pub mod Counts
 pub mod Faults
 pub mod Framed
 pub mod Frames

@@ -2,14 +2,16 @@
 use Rattle.std.specs.Prelude.{ℕ, List, Option, Some, None, [], ◌∷◌, map, reverse}
 use Rattle.sg_base.specs.Memory.{FaultPlan, SinkHeld}
 use Rattle.sg_base.specs.declared.address.Addr.{Addr}
+use Rattle.sg_stream.specs.declared.conns.ConnFaults.{ConnFaults}
 use Rattle.sg_stream.specs.Traffic.{Writer, Traffic}
 
--- the address at which they wait, the traffic, for how many more connections there is room, and which calls fail
+-- the address at which they wait, the traffic, for how many more connections there is room, which calls fail, and how often each did
 pub record ConnsHeld : Type 0 where
   pub bound : Option Addr
   pub traffic : Traffic
   pub room : ℕ
   pub plan : FaultPlan
+  pub faults : ConnFaults
 
 -- the one connection that may be open for writing, which has the number 255
 abbrev pub writer_of : Addr × SinkHeld → Writer

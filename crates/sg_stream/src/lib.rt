@@ -14,6 +14,7 @@
 mod arrivals;
 mod calls;
 mod conns;
+mod counts;
 mod incoming;
 mod link;
 mod memory;
@@ -22,7 +23,8 @@ mod sending;
 
 pub use arrivals::{frames_are_framed, pieces_may_be_cut_anywhere};
 pub use calls::cutting_does_not_matter;
-pub use conns::Conns;
+pub use conns::{ConnFaults, Conns};
+pub use counts::rises_are_of_one_call;
 pub use link::StreamLink;
 pub use memory::MemConns;
 pub use reader::{StreamFault, StreamReader};

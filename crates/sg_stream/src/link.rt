@@ -1,5 +1,6 @@
 //! A link over connections.
 ghost use Rattle.std.specs.Prelude.{◌≡◌, ◌≢◌, ◌⊎◌, ◌≤◌, [], ◌∷◌, List, replicate, IfOk, IfErr, IfSome, IfNone, OnErr, OnOk, Err, Some, ℕ};
+ghost use Rattle.sg_stream.specs.Counts.{total};
 ghost use Rattle.sg_stream.specs.Arrivals.{arrivals};
 ghost use Rattle.sg_base.specs.Memory.{one_more};
 ghost use Rattle.sg_base.specs.Outside.{HasRisen, Appends, TakesFirst};
@@ -76,7 +77,7 @@ impl<C: Conns> Link for StreamLink<C> {
     ghost use Rattle.std.specs.Prelude.{◌+◌};
     ghost use Rattle.sg_stream.specs.Link.{to_come, sent_of};
 
-    ghost faults = { λ l. C.faults l.conns + l.faults };
+    ghost faults = { λ l. total (C.faults l.conns) + l.faults };
 
     ghost bound = { λ l. C.bound l.conns };
 
@@ -85,8 +86,9 @@ impl<C: Conns> Link for StreamLink<C> {
     ghost sent = { λ l. sent_of (C.held l.conns) };
 
     fn open(&mut self, at: Addr) -> Result<(), Failed>
-        ensures never_falls { C.faults self.old.conns ≤ C.faults self.new.conns }
-        ensures failed { OnErr result (HasRisen (C.faults self.old.conns) (C.faults self.new.conns)) }
+        ensures never_falls { total (C.faults self.old.conns) ≤ total (C.faults self.new.conns) }
+        ensures counted { C.faults self.new.conns ≡ record (C.faults self.old.conns) { opens = (C.faults self.new.conns).opens } }
+        ensures failed { OnErr result (HasRisen (total (C.faults self.old.conns)) (total (C.faults self.new.conns))) }
         ensures waits { OnOk result (C.bound self.new.conns ≡ Some at) }
         ensures kept_bound { OnErr result (C.bound self.new.conns ≡ C.bound self.old.conns) }
         ensures held { C.held self.new.conns ≡ C.held self.old.conns }
@@ -99,10 +101,11 @@ impl<C: Conns> Link for StreamLink<C> {
     /// The next frame. It takes pieces until a message is whole, none if one is whole already, and gives `None` at the end of all. It
     /// fails if the connections fail, and if 1,000,000 pieces were taken and no message became whole.
     fn recv(&mut self, alloc: Global) -> Result<Option<Vec<u8>>, LinkFault>
-        ensures never_falls { C.faults self.old.conns ≤ C.faults self.new.conns }
+        ensures never_falls { total (C.faults self.old.conns) ≤ total (C.faults self.new.conns) }
+        ensures counted { C.faults self.new.conns ≡ record (C.faults self.old.conns) { takes = (C.faults self.new.conns).takes } }
         ensures kept_bound { C.bound self.new.conns ≡ C.bound self.old.conns }
         ensures own { (self.new.faults ≡ self.old.faults) ⊎ ((result ≡ Err LinkFault.Failed) × (self.new.faults ≡ one_more self.old.faults) × TakenOff 1000000 (C.held self.old.conns) (C.held self.new.conns) × IsIdle self.new.unread) }
-        ensures failed { result ≡ Err LinkFault.Failed → HasRisen (C.faults self.old.conns) (C.faults self.new.conns) ⊎ ((self.new.faults ≡ one_more self.old.faults) × TakenOff 1000000 (C.held self.old.conns) (C.held self.new.conns) × IsIdle self.new.unread) }
+        ensures failed { result ≡ Err LinkFault.Failed → HasRisen (total (C.faults self.old.conns)) (total (C.faults self.new.conns)) ⊎ ((self.new.faults ≡ one_more self.old.faults) × TakenOff 1000000 (C.held self.old.conns) (C.held self.new.conns) × IsIdle self.new.unread) }
         ensures frame { IfOk result (λ found. IfSome found (λ f. IsFrame f.items)) }
         ensures first { IfOk result (λ found. IfSome found (λ f. TakesFirst (to_come self.old.unread (C.held self.old.conns)) (to_come self.new.unread (C.held self.new.conns)) f.items)) }
         ensures at_end { IfOk result (λ found. IfNone found (IfHeld (C.held self.new.conns) (λ t. t.coming ≡ []))) }
@@ -127,8 +130,9 @@ impl<C: Conns> Link for StreamLink<C> {
 
     /// Connects to the address, writes one message, and closes the connection, after a fault too. It takes no memory.
     fn send(&mut self, to: Addr, frame: Sealed) -> Result<(), (Sealed, Failed)>
-        ensures never_falls { C.faults self.old.conns ≤ C.faults self.new.conns }
-        ensures failed { OnErr result (HasRisen (C.faults self.old.conns) (C.faults self.new.conns)) }
+        ensures never_falls { total (C.faults self.old.conns) ≤ total (C.faults self.new.conns) }
+        ensures counted { C.faults self.new.conns ≡ record (C.faults self.old.conns) { connects = (C.faults self.new.conns).connects; gives = (C.faults self.new.conns).gives } }
+        ensures failed { OnErr result (HasRisen (total (C.faults self.old.conns)) (total (C.faults self.new.conns))) }
         ensures kept_bound { C.bound self.new.conns ≡ C.bound self.old.conns }
         ensures wrote { OnOk result (WroteIfHeld to (message frame.1) (C.held self.old.conns) (C.held self.new.conns)) }
         ensures prefix { OnErr result (WrotePrefix to (message frame.1) (C.held self.old.conns) (C.held self.new.conns)) }
@@ -155,9 +159,10 @@ fn next_frame<C: Conns>(
     conns: &mut C,
     incoming: &mut Incoming,
 ) -> Result<Option<Vec<u8>>, NoFrame>
-    ensures never_falls { C.faults conns.old ≤ C.faults conns.new }
+    ensures never_falls { total (C.faults conns.old) ≤ total (C.faults conns.new) }
+    ensures counted { C.faults conns.new ≡ record (C.faults conns.old) { takes = (C.faults conns.new).takes } }
     ensures kept_bound { C.bound conns.new ≡ C.bound conns.old }
-    ensures failed { result ≡ Err NoFrame.Failed → HasRisen (C.faults conns.old) (C.faults conns.new) }
+    ensures failed { result ≡ Err NoFrame.Failed → HasRisen (total (C.faults conns.old)) (total (C.faults conns.new)) }
     ensures too_many { result ≡ Err NoFrame.TooManyPieces → TakenOff 1000000 (C.held conns.old) (C.held conns.new) × IsIdle incoming.new }
     ensures frame { IfOk result (λ found. IfSome found (λ f. IsFrame f.items)) }
     ensures first { IfOk result (λ found. IfSome found (λ f. TakesFirst (to_come incoming.old (C.held conns.old)) (to_come incoming.new (C.held conns.new)) f.items)) }
@@ -191,7 +196,7 @@ fn whole_frame<C: Conns>(
     conns: &mut C,
     incoming: &mut Incoming,
 ) -> Result<Option<Vec<u8>>, OutOfMemory>
-    ensures never_falls { C.faults conns.old ≤ C.faults conns.new }
+    ensures no_fault { C.faults conns.new ≡ C.faults conns.old }
     ensures kept_bound { C.bound conns.new ≡ C.bound conns.old }
     ensures frame { IfOk result (λ found. IfSome found (λ f. IsFrame f.items)) }
     ensures first { IfOk result (λ found. IfSome found (λ f. TakesFirst (to_come incoming.old (C.held conns.old)) (to_come incoming.new (C.held conns.new)) f.items)) }
@@ -220,9 +225,10 @@ fn take_piece<C: Conns>(
     incoming: &mut Incoming,
 ) -> Result<Option<Option<Vec<u8>>>, LinkFault>
     requires { IsIdle incoming.old }
-    ensures never_falls { C.faults conns.old ≤ C.faults conns.new }
+    ensures never_falls { total (C.faults conns.old) ≤ total (C.faults conns.new) }
+    ensures counted { C.faults conns.new ≡ record (C.faults conns.old) { takes = (C.faults conns.new).takes } }
     ensures kept_bound { C.bound conns.new ≡ C.bound conns.old }
-    ensures failed { result ≡ Err LinkFault.Failed → HasRisen (C.faults conns.old) (C.faults conns.new) }
+    ensures failed { result ≡ Err LinkFault.Failed → HasRisen (total (C.faults conns.old)) (total (C.faults conns.new)) }
     ensures frame { IfOk result (λ taken. IfSome taken (λ found. IfSome found (λ f. IsFrame f.items))) }
     ensures first { IfOk result (λ taken. IfSome taken (λ found. IfSome found (λ f. TakesFirst (to_come incoming.old (C.held conns.old)) (to_come incoming.new (C.held conns.new)) f.items))) }
     ensures idle { IfOk result (λ taken. IfSome taken (λ found. IfNone found (IsIdle incoming.new))) }

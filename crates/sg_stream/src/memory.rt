@@ -1,11 +1,12 @@
 //! Connections in memory.
 ghost use Rattle.std.specs.Prelude.{◌≡◌, ◌↔◌, ◌<◌, ◌≤◌, ◌==◌, ◌||◌, ◌-◌, ◌++◌, [], ◌∷◌, ℕ, List, None, Some, false, nat_lt, not, drop, length, slice_index_or, vec_capacity, map, reverse, IfOk, IfErr, IfSome, IfNone, IsErr, IsTrue, OnOk, OnErr};
 ghost use Rattle.std.specs.List.{list_any, remove};
-ghost use Rattle.sg_base.specs.Memory.{new_plan, fails_next, counted, failed};
+ghost use Rattle.sg_base.specs.Memory.{new_plan, fails_next, counted, failed, one_more};
+ghost use Rattle.sg_stream.specs.Counts.{no_faults};
 ghost use Rattle.sg_stream.specs.Traffic.{without, after_take, after_connect, after_close};
 ghost use Rattle.sg_stream.specs.Memory.{writer_of};
 
-use crate::Conns;
+use crate::{ConnFaults, Conns};
 use sg_base::{Addr, Failed, FaultPlan, LinkFault, MemSink, OutOfMemory, Seq, Sink};
 use std::alloc::Global;
 use std::collections::VecDeque;
@@ -25,6 +26,7 @@ pub struct MemConns {
     spare: Vec<MemSink>,
     closed: Vec<(Addr, MemSink)>,
     plan: FaultPlan,
+    faults: ConnFaults,
 }
 
 impl Model for MemConns {
@@ -39,6 +41,7 @@ impl Model for MemConns {
       traffic = record { coming = c.coming.items; given = all_given c.writer c.closed.items; open_ones = number_of c.writer };
       room = length c.spare.items;
       plan = c.plan;
+      faults = c.faults;
     } };
 
     ghost invariant = { λ c. (list_any (λ p. p.0 == 255) c.coming.items ≡ false) × (length c.closed.items + length (number_of c.writer) + length c.spare.items ≤ vec_capacity c.closed) × All (λ s. s.bytes ≡ []) c.spare.items };
@@ -61,6 +64,7 @@ impl MemConns {
           traffic = record { coming = pieces.items; given = []; open_ones = [] };
           room = connections;
           plan = new_plan fails.items;
+          faults = no_faults;
         }) }
     {
         let mut spare = Vec::new(alloc);
@@ -74,6 +78,7 @@ impl MemConns {
             spare,
             closed: Vec::with_capacity(alloc, connections as usize)?,
             plan: FaultPlan::new(fails),
+            faults: ConnFaults::none(),
         })
     }
 
@@ -88,7 +93,7 @@ impl MemConns {
 impl Conns for MemConns {
     ghost use Rattle.std.specs.Prelude.{Some};
 
-    ghost faults = { λ c. c.plan.faults };
+    ghost faults = { λ c. c.faults };
 
     ghost bound = { λ c. c.bound };
 
@@ -98,9 +103,12 @@ impl Conns for MemConns {
     fn open(&mut self, at: Addr) -> Result<(), Failed>
         ensures cause { IsErr result ↔ IsTrue (fails_next self.old.plan) }
         ensures ok { OnOk result (self.new ≡ record self.old { bound = Some at; plan = counted self.old.plan }) }
-        ensures err { OnErr result (self.new ≡ record self.old { plan = failed self.old.plan }) }
+        ensures err { OnErr result (self.new ≡ record self.old { plan = failed self.old.plan; faults = record self.old.faults { opens = one_more self.old.faults.opens } }) }
     {
-        self.plan.call(true)?;
+        if self.plan.call(true).is_err() {
+            self.faults.opens = self.faults.opens.saturating_add(1);
+            return Err(Failed);
+        }
         self.bound = Some(at);
         Ok(())
     }
@@ -112,10 +120,11 @@ impl Conns for MemConns {
         ensures first { IfOk result (λ found. IfSome found (λ p. self.old.traffic.coming ≡ (p.0, p.1.items) ∷ drop 1 self.old.traffic.coming)) }
         ensures at_end { IfOk result (λ found. IfNone found (self.old.traffic.coming ≡ [])) }
         ensures ok { OnOk result (self.new ≡ record self.old { traffic = after_take self.old.traffic; plan = counted self.old.plan }) }
-        ensures err { OnErr result (self.new ≡ record self.old { plan = failed self.old.plan }) }
+        ensures err { OnErr result (self.new ≡ record self.old { plan = failed self.old.plan; faults = record self.old.faults { takes = one_more self.old.faults.takes } }) }
     {
         let _ = alloc;
         if self.plan.call(true).is_err() {
+            self.faults.takes = self.faults.takes.saturating_add(1);
             return Err(LinkFault::Failed);
         }
         match self.coming.pop_front() {
@@ -142,13 +151,13 @@ impl Conns for MemConns {
         ensures number { IfOk result (λ conn. conn ≡ 255) }
         ensures apart { OnOk result ((self.old.traffic.open_ones ≡ []) × (list_any (λ p. p.0 == 255) self.old.traffic.coming ≡ false)) }
         ensures ok { OnOk result (self.new ≡ record self.old { traffic = after_connect 255 to self.old.traffic; room = self.old.room - 1; plan = counted self.old.plan }) }
-        ensures err { OnErr result (self.new ≡ record self.old { plan = failed self.old.plan }) }
+        ensures err { OnErr result (self.new ≡ record self.old { plan = failed self.old.plan; faults = record self.old.faults { connects = one_more self.old.faults.connects } }) }
     {
-        if self.writer.is_some() || self.spare.is_empty() {
-            let _ = self.plan.call(false);
+        let has_room = self.writer.is_none() && !self.spare.is_empty();
+        if self.plan.call(has_room).is_err() {
+            self.faults.connects = self.faults.connects.saturating_add(1);
             return Err(Failed);
         }
-        self.plan.call(true)?;
         match self.spare.pop() {
             Some(sink) => {
                 self.writer = Some((to, sink));
@@ -161,15 +170,16 @@ impl Conns for MemConns {
     /// It takes as many bytes as there is room for, and fails if there is none, if the connection is not open, and at the calls
     /// that are to fail.
     fn give(&mut self, conn: u8, piece: &[u8]) -> Result<usize, Failed> {
-        self.plan.call(true)?;
-        match &mut self.writer {
-            Some((_, sink)) if conn == WRITER => match sink.write(piece) {
-                Ok(count) => return Ok(count),
-                Err(_) => {}
-            },
-            _ => {}
+        if self.plan.call(true).is_ok() {
+            match &mut self.writer {
+                Some((_, sink)) if conn == WRITER => match sink.write(piece) {
+                    Ok(count) => return Ok(count),
+                    Err(_) => {}
+                },
+                _ => {}
+            }
         }
-        self.plan.fault();
+        self.faults.gives = self.faults.gives.saturating_add(1);
         Err(Failed)
     }
 }

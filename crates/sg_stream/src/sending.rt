@@ -2,6 +2,7 @@
 ghost use Rattle.std.specs.Prelude.{◌≡◌, ◌<◌, ◌≤◌, ℕ, [], ◌∷◌, length, take, OnErr, OnOk};
 ghost use Rattle.std.specs.Option.{option_map};
 ghost use Rattle.sg_base.specs.Outside.{HasRisen, Appends};
+ghost use Rattle.sg_stream.specs.Counts.{total};
 ghost use Rattle.sg_stream.specs.Framed.{IsFrame, message};
 ghost use Rattle.sg_stream.specs.Link.{Unread, to_come, sent_of, GavePrefix, WroteIfHeld, WrotePrefix};
 ghost use Rattle.sg_stream.specs.Traffic.{after_give};
@@ -12,8 +13,9 @@ use sg_base::{Addr, Failed};
 /// Connects to an address, gives the message of a frame, and closes the connection, whether all was given or not. It takes no memory.
 pub(crate) fn post<C: Conns>(conns: &mut C, to: Addr, frame: &[u8]) -> Result<(), Failed>
     requires { IsFrame frame.now }
-    ensures never_falls { C.faults conns.old ≤ C.faults conns.new }
-    ensures failed { OnErr result (HasRisen (C.faults conns.old) (C.faults conns.new)) }
+    ensures never_falls { total (C.faults conns.old) ≤ total (C.faults conns.new) }
+    ensures failed { OnErr result (HasRisen (total (C.faults conns.old)) (total (C.faults conns.new))) }
+    ensures counted { C.faults conns.new ≡ record (C.faults conns.old) { connects = (C.faults conns.new).connects; gives = (C.faults conns.new).gives } }
     ensures kept_bound { C.bound conns.new ≡ C.bound conns.old }
     ensures kept { (u : Unread) → to_come u (C.held conns.new) ≡ to_come u (C.held conns.old) }
     ensures wrote { OnOk result (WroteIfHeld to (message frame.now) (C.held conns.old) (C.held conns.new)) }
@@ -30,8 +32,9 @@ pub(crate) fn post<C: Conns>(conns: &mut C, to: Addr, frame: &[u8]) -> Result<()
 // Gives the message of a frame to a connection.
 fn give_message<C: Conns>(conns: &mut C, conn: u8, frame: &[u8]) -> Result<(), Failed>
     requires { IsFrame frame.now }
-    ensures never_falls { C.faults conns.old ≤ C.faults conns.new }
-    ensures failed { OnErr result (HasRisen (C.faults conns.old) (C.faults conns.new)) }
+    ensures never_falls { total (C.faults conns.old) ≤ total (C.faults conns.new) }
+    ensures failed { OnErr result (HasRisen (total (C.faults conns.old)) (total (C.faults conns.new))) }
+    ensures counted { C.faults conns.new ≡ record (C.faults conns.old) { gives = (C.faults conns.new).gives } }
     ensures kept_bound { C.bound conns.new ≡ C.bound conns.old }
     ensures whole { OnOk result (C.held conns.new ≡ option_map (after_give conn (message frame.now)) (C.held conns.old)) }
     ensures prefix { OnErr result (GavePrefix conn (message frame.now) (C.held conns.old) (C.held conns.new)) }
@@ -45,8 +48,9 @@ fn give_message<C: Conns>(conns: &mut C, conn: u8, frame: &[u8]) -> Result<(), F
 
 // Gives a whole piece to a connection, in as many calls as it takes.
 fn give_all<C: Conns>(conns: &mut C, conn: u8, bytes: &[u8]) -> Result<(), Failed>
-    ensures never_falls { C.faults conns.old ≤ C.faults conns.new }
-    ensures failed { OnErr result (HasRisen (C.faults conns.old) (C.faults conns.new)) }
+    ensures never_falls { total (C.faults conns.old) ≤ total (C.faults conns.new) }
+    ensures failed { OnErr result (HasRisen (total (C.faults conns.old)) (total (C.faults conns.new))) }
+    ensures counted { C.faults conns.new ≡ record (C.faults conns.old) { gives = (C.faults conns.new).gives } }
     ensures kept_bound { C.bound conns.new ≡ C.bound conns.old }
     ensures whole { OnOk result (C.held conns.new ≡ option_map (after_give conn bytes.now) (C.held conns.old)) }
     ensures prefix { OnErr result (GavePrefix conn bytes.now (C.held conns.old) (C.held conns.new)) }

@@ -287,8 +287,9 @@ struct Endless {
 
 impl Conns for Endless {
     ghost use Rattle.std.specs.Prelude.{None};
+    ghost use Rattle.sg_stream.specs.Counts.{no_faults};
 
-    ghost faults = { λ _. 0 };
+    ghost faults = { λ _. no_faults };
 
     ghost bound = { λ c. c.bound };
 

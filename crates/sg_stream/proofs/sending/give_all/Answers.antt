@@ -1,6 +1,7 @@
-use Rattle.std.proofs.Common.{◌-◌, refl, sym, ap, ◌∙◌, arith}
+use Rattle.std.proofs.Common.{refl, sym, ap, ◌∙◌, arith}
 use Rattle.std.specs.Option.{option_map}
 use Rattle.std.proofs.lemmas.List.{length-drop, length-take}
+use Rattle.sg_stream.specs.declared.conns.ConnFaults.{ConnFaults}
 use Rattle.sg_stream.specs.Traffic.{after_give}
 use Rattle.sg_stream.proofs.Giving.{traffic-none, traffic-more, pieces_joined}
 use Rattle.sg_stream.proofs.sending.give_all.Goals as goal
@@ -10,6 +11,7 @@ loop-at-init g c = record {
   within = omega arith;
   bound = refl;
   never_falls = omega arith;
+  counted = refl;
   prefix = sym (traffic-none c.args.conn (g.C.Conns.held c.args.conns.now));
 }
 
@@ -18,6 +20,9 @@ loop-at-preserved g c = record {
   within = let fits = simp (length-take, length-drop) at c.in_ok-at.ensures.fits in omega arith;
   bound = c.in_ok-at.ensures.kept_bound ∙ c.loop-at.invariant.bound;
   never_falls = omega (arith, c.in_ok-at.ensures.never_falls, c.loop-at.invariant.never_falls);
+  counted =
+      c.in_ok-at.ensures.no_fault ∙ c.loop-at.invariant.counted
+      ∙ ap (λ (f : ConnFaults). record (g.C.Conns.faults c.args.conns.now) { gives = f.gives }) (sym c.in_ok-at.ensures.no_fault);
   prefix =
       c.in_ok-at.ensures.given
       ∙ (ap (option_map (after_give c.args.conn _)) c.loop-at.invariant.prefix

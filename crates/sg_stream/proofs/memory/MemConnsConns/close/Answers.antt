@@ -14,6 +14,7 @@ returns-in-Some c =
       traffic = record { coming = c.self.inside.coming.items; given = latest c.self.inside.closed.items c.in-Some.writer i; open_ones = [] };
       room = length c.self.inside.spare.items;
       plan = c.self.inside.plan;
+      faults = c.self.inside.faults;
     })
 
 pub returns-in_default : goal.returns-in_default
