@@ -7,6 +7,7 @@ use Rattle.sg_base.specs.declared.outside.Link as Link
 use Rattle.sg_base.specs.declared.outside.Sink as Sink
 use Rattle.sg_input.specs.declared.input.Input as Input
 use Rattle.sg_ledger.specs.declared.disk.Disk as Disk
+use Rattle.sg_stream.specs.Counts.{total}
 use Rattle.sg_stream.specs.Link.{StreamHeld, sent_of, to_come}
 use Rattle.sg_stream.specs.declared.conns.Conns as Conns
 use Rattle.sg_wait.specs.declared.coming.Coming.{Coming}
@@ -67,7 +68,7 @@ pub record Reports (F O L R D S P I : Type 0) : Type 1 where
 
 -- a link over connections, as a link: the address at which these wait, the frames of the messages to come, in the order in which these become whole, the frames that went out, and its count of faults, which is that of its connections and its own
 abbrev pub stream_of : {C : Type 0} → Conns.Ghosts C → StreamHeld C → Linked
-stream_of g l = record { bound = g.bound l.conns; deliveries = to_come l.unread (g.held l.conns); sent = sent_of (g.held l.conns); faults = g.faults l.conns + l.faults }
+stream_of g l = record { bound = g.bound l.conns; deliveries = to_come l.unread (g.held l.conns); sent = sent_of (g.held l.conns); faults = total (g.faults l.conns) + l.faults }
 
 abbrev pub reports_of : {F O L R D S P I : Type 0} → Files.Ghosts F → Sink.Ghosts O → Link.Ghosts L → (coming : L → Option (List Coming)) → Fresh.Ghosts R → Disk.Ghosts D
     → (stream : S → Linked) → Link.Ghosts P → (coming_to_port : P → Option (List Coming)) → Input.Ghosts I → Reports F O L R D S P I
