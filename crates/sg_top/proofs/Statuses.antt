@@ -42,7 +42,7 @@ module _ (P : ℕ → Type 0) (six : P 6) (eight : P 8) where
   of_puts old new line wanted status h (inl p) = subst P (sym p.0) h
   of_puts old new line wanted status h (inr p) = subst P (sym p.0) six
 
-  of_says : (work : Ending) (old new : Output) (status : ℕ) → P (status_of work) → Says work old new status → P status
+  pub of_says : (work : Ending) (old new : Output) (status : ℕ) → P (status_of work) → Says work old new status → P status
   of_says work old new status h (inl p) = of_puts old new (line_of work) (status_of work) status h p
   of_says work old new status h (inr p) = of_puts old new (line_of NoMemory) 8 status eight p.1
 

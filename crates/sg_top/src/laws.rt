@@ -1,4 +1,4 @@
-//! What holds of all files. Each function is a law: it does nothing but cite another one, and its contract is the statement.
+//! What holds of all files, and of connections that fail. Each function is a law: it does nothing but cite another one, and its contract is the statement.
 ghost use Rattle.std.specs.Prelude.{ℕ, List};
 ghost use Rattle.sg_model.specs.Limits.{most_graph_file, most_logs_file, most_schedule_file};
 ghost use Rattle.sg_ending.specs.Laws.{EndsOnce};
@@ -6,11 +6,18 @@ ghost use Rattle.sg_design.specs.Claimed.{Suggests};
 ghost use Rattle.sg_design.specs.Ends.{Checks, Compiles, Composes};
 ghost use Rattle.sg_design.specs.Laws.{ClaimsEndOnce};
 ghost use Rattle.sg_principal.specs.Laws.{LedgersAreMadeByBytes};
+ghost use Rattle.sg_principal.specs.Outside.{output_of};
 ghost use Rattle.sg_replay.specs.Ends.{Audits, Drives, Replays};
 ghost use Rattle.sg_setup.specs.Laws.{PrincipalsAreOne, SetupsAreOne};
+ghost use Rattle.sg_top.specs.Laws.{StreamFailsByACall};
+ghost use Rattle.sg_top.specs.Outside.{reports_of, stream_of};
 
+use sg_base::{Files, Fresh, Sink};
 use sg_drive::laws::generated_is_one;
+use sg_input::Input;
 use sg_ledger::Disk;
+use sg_stream::{Conns, rises_are_of_one_call};
+use sg_wait::TimedLink;
 
 /// The endings of a command on one file exclude each other: unless a file fails or memory runs out, the same files ask for the same ending.
 /// Of a graph that is refused this says which graph it is, not for which fault.
@@ -44,3 +51,22 @@ pub fn runs_lack_once()
 pub fn ledger_is_made_once<D: Disk>()
     ensures { LedgersAreMadeByBytes D.Disk }
 {}
+
+/// A run over connections ends with 7 only if to wait at its address, to take a piece, to make a connection or to give bytes failed, or 1,000,000 pieces
+/// made no message whole: one of these five counts rose, or they stand together where no rise shows. Each is raised by its own call alone (`Conns`).
+pub fn stream_fails_by_a_call<
+    F: Files,
+    O: Sink,
+    E: Sink,
+    L: TimedLink,
+    R: Fresh,
+    D: Disk,
+    C: Conns,
+    P: TimedLink,
+    I: Input,
+>()
+    ensures { StreamFailsByACall C.Conns (reports_of F.Files O.Sink L.Link L.coming R.Fresh D.Disk (stream_of C.Conns) P.Link P.coming I.Input)
+        (output_of E.Sink) }
+{
+    rises_are_of_one_call();
+}

@@ -11,7 +11,7 @@
 //!   of the link or of the disk only if its count of faults rose. Out of memory alone may come in place of anything.
 //! - With each status but 0 and 6 one line on standard error says why (`sg_ending`). If that line isn't taken, the status is that of a failed write.
 //!
-//! `laws` says of each command on one file that its endings exclude each other.
+//! `laws` says of each command on one file that its endings exclude each other, and of `stream` whose fault a failed link was.
 //!
 //! `specs/Outside.antt` says what the objects report, and `specs/Top.antt` how the program ends, by its command, and what it leaves untouched.
 #![tactic(auto)]
