@@ -3,6 +3,7 @@ ghost use Rattle.std.specs.Prelude.{◌≡◌};
 ghost use Rattle.sg_walk.specs.Model.{event_of};
 
 use crate::kept_state::KeptState;
+use sg_program::Program;
 use sg_vis::ViewId;
 use sg_walk::Event;
 use std::marker::Model;
@@ -37,6 +38,13 @@ impl<'p> Accepted<'p> {
         ensures { result ≡ self.now.view }
     {
         self.view
+    }
+
+    /// The program of the role, in whose table the view is. It takes no memory.
+    pub fn program(&self) -> &'p Program
+        ensures { result.now ≡ self.now.program }
+    {
+        self.after.program
     }
 
     /// What was received. It takes no memory.

@@ -80,6 +80,13 @@ impl<'p> Before<'p> {
         self.kept.sid
     }
 
+    /// The program of the role. It takes no memory.
+    pub fn program(&self) -> &'p Program
+        ensures { result.now ≡ self.now.program }
+    {
+        self.kept.program
+    }
+
     /// The role. It takes no memory.
     pub fn role(&self) -> Role
         ensures role { result ≡ self.now.held.role }

@@ -11,6 +11,7 @@ use crate::{Before, Done};
 use sg_base::{Label, NodeId, Time};
 use sg_cache::Ticket;
 use sg_crypt::Cast;
+use sg_program::Program;
 use std::marker::Model;
 use std::rc::Rc;
 
@@ -57,6 +58,13 @@ impl<'p> Turn<'p> {
         ensures reachable { IsReachableAtTurn real self.now.program self.now.held }
     {
         self.kept.place
+    }
+
+    /// The program of the role. It takes no memory.
+    pub fn program(&self) -> &'p Program
+        ensures { result.now ≡ self.now.program }
+    {
+        self.kept.program
     }
 
     /// The cast. It takes no memory.
