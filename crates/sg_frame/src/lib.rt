@@ -11,11 +11,13 @@ mod field;
 mod frame;
 mod item;
 mod opening;
+mod read;
 mod reading;
 mod writing;
 
 pub use fault::DecodeFault;
 pub use frame::Frame;
 pub use item::Item;
+pub use read::ReadFrame;
 pub use reading::decode;
 pub use writing::{body_len, encode};
