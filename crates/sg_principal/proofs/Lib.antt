@@ -1,5 +1,6 @@
 pub mod Playing
 pub mod Keeping
+pub mod Meanwhile
 pub mod Serving
 pub mod OneLedger
 pub mod FailedLinks

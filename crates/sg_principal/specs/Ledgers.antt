@@ -1,13 +1,14 @@
 -- How the making of a ledger ends, and a run over one, and what they leave of the disk.
-use Rattle.std.specs.Prelude.{◌≡◌, ◌≢◌, ℕ, ◌⊎◌, List, [], take, codes, Some, Result, Ok, Err, OnOk, ⊤}
-use Rattle.sg_base.specs.Outside.{HasRisen}
+use Rattle.std.specs.Prelude.{◌≡◌, ◌≢◌, ℕ, ◌≤◌, ◌⊎◌, Bool, true, false, List, [], ◌++◌, length, take, codes, Option, Some, Result, Ok, Err, OnOk, ⊤}
+use Rattle.sg_base.specs.Outside.{Appends, HasRisen}
 use Rattle.sg_keep.specs.Faults.{Counts, CountsFaults}
-use Rattle.sg_keep.specs.KeptRuns.{AllRepresent, HasKept}
+use Rattle.sg_keep.specs.KeptRuns.{AllRepresent, HasKept, RepresentsAtMost, RepresentsMore}
 use Rattle.sg_keep.specs.declared.fault.KeepFault.{KeepFault}
 use Rattle.sg_keep.specs.declared.fault.KeepFault.TheVariants as KeepFaults
-use Rattle.sg_ledger.specs.Disk.{Keeps, IfSeen}
+use Rattle.sg_ledger.specs.Disk.{Keeps, IfSeen, LeavesOnly}
 use Rattle.sg_ledger.specs.Format.{Join, IsLedger, IsFirstBadSlot, Represents}
 use Rattle.sg_play.specs.Played.{Play, played}
+use Rattle.sg_play.specs.Steps.{lines_of}
 use Rattle.sg_play.specs.declared.fault.PlayFault.TheVariants as PlayFaults
 use Rattle.sg_ending.specs.Ending.{Ending, Written, NoLedger, BadSlot, LedgerNotEmpty, WriteFailed, LinkFailed, DiskFailed, NoMemory}
 use Rattle.sg_ending.specs.Output.{Output, Writes}
@@ -19,9 +20,22 @@ use Rattle.sg_principal.specs.Runs.{Takes, TakesAtMost, WaitsAt, CanHavePlayed}
 abbrev pub IsLeft : (disk disk' : Disked) → Type 0
 IsLeft disk disk' = (disk'.seen ≡ disk.seen) × Keeps disk.may_leave disk'.may_leave
 
--- nothing was asked of the disk: it is bound to the file of before, a crash leaves all that it left before too, and the count is the same
+-- what a disk tells as a call begins, and as it has ended
+abbrev pub moment_in : (disk disk' : Disked) → (ended : Bool) → ℕ
+moment_in disk disk' false = disk.moment
+moment_in disk disk' true = disk'.moment
+
+abbrev pub left_in : (disk disk' : Disked) → (ended : Bool) → (moment : ℕ) → List ℕ → Type 0
+left_in disk disk' false = disk.left_since
+left_in disk disk' true = disk'.left_since
+
+-- at each moment of the call a crash leaves an image that has P
+abbrev pub LeavesMeanwhile : (disk disk' : Disked) → (P : List ℕ → Type 0) → Type 0
+LeavesMeanwhile disk disk' P = LeavesOnly (moment_in disk disk') (left_in disk disk') false true P
+
+-- nothing was asked of the disk: it is bound to the file of before, a crash leaves all that it left before too, and nothing else at any moment, and the count is the same
 abbrev pub IsNotAsked : (disk disk' : Disked) → Type 0
-IsNotAsked disk disk' = IsLeft disk disk' × Keeps disk'.may_leave disk.may_leave × (disk'.bound ≡ disk.bound) × (disk'.faults ≡ disk.faults)
+IsNotAsked disk disk' = IsLeft disk disk' × Keeps disk'.may_leave disk.may_leave × LeavesMeanwhile disk disk' disk.may_leave × (disk'.bound ≡ disk.bound) × (disk'.faults ≡ disk.faults)
 
 -- the disk is bound to the file of this name; or it can't be, which its count of faults shows, and it is bound and left as before
 abbrev pub IsBound : (file : List ℕ) → (disk disk' : Disked) → Ending → Type 0
@@ -67,6 +81,24 @@ abbrev pub PlaysOver : (opened : List Join) → Setup → (most : ℕ) → (old 
 PlaysOver opened s most old new disk' result = (deliveries random : List (List ℕ)) → (old.link).deliveries ≡ Some deliveries → old.random ≡ Some random
     → HasKept (record { written = (old.out).bytes; sent = (old.link).sent }) (record { written = (new.out).bytes; sent = (new.link).sent }) disk'.may_leave (play_over opened s most deliveries random) result
 
+-- At each moment of the call a crash leaves an image of before, or a file that has P
+abbrev pub LeavesOrHas : (disk disk' : Disked) → (P : List ℕ → Type 0) → Type 0
+LeavesOrHas disk disk' P = LeavesMeanwhile disk disk' (λ image. disk.may_leave image ⊎ P image)
+
+-- the lines of the first `count` steps of a play were written, if what was written is known, and at each moment a crash leaves an image of before, or a ledger with at most one join more than these steps made
+pub record KeptMeanwhile (start now : Option (List ℕ)) (disk disk' : Disked) (p : Play) : Type 0 where
+  pub count : ℕ
+  pub within : count ≤ length p.steps
+  -- what was written behind them
+  pub rest : List ℕ
+  pub written : Appends start now (lines_of (take count p.steps) ++ rest)
+  pub any_moment : LeavesOrHas disk disk' (RepresentsAtMost p.past.first p.past.calls count)
+
+-- if the deliveries and the random bytes are known, this play was kept so at each moment
+abbrev pub KeepsMeanwhile : (opened : List Join) → Setup → (most : ℕ) → (old new : Stage) → (disk disk' : Disked) → Type 0
+KeepsMeanwhile opened s most old new disk disk' = (deliveries random : List (List ℕ)) → (old.link).deliveries ≡ Some deliveries → old.random ≡ Some random
+    → KeptMeanwhile (old.out).bytes (new.out).bytes disk disk' (play_over opened s most deliveries random)
+
 -- how the program ends after a play over a ledger
 abbrev pub ending_of_keep : Result (Unit {0}) KeepFault → Ending
 ending_of_keep (Ok u) = Written
@@ -82,6 +114,9 @@ counts o disk = record { link = (o.link).faults; out = (o.out).faults; disk = di
 -- the play of a setup over the joins of an opened ledger ended so, of which a fault is reported only if its count rose
 pub record EndsOver (opened : List Join) (s : Setup) (most : ℕ) (old new : Stage) (disk disk' : Disked) (result : Result (Unit {0}) KeepFault) : Type 0 where
   pub plays : PlaysOver opened s most old new disk' result
+  -- whatever link and random bytes tell, an image of any moment is one of before, or represents the joins of the ledger, and then others
+  pub any_moment : LeavesOrHas disk disk' (RepresentsMore opened)
+  pub throughout : KeepsMeanwhile opened s most old new disk disk'
   pub faults : CountsFaults (counts old disk) (counts new disk') result
   pub left : OnOk result (Takes most (old.link).deliveries (new.link).deliveries)
   pub at_most : TakesAtMost most (old.link).deliveries (new.link).deliveries
@@ -90,7 +125,7 @@ pub record EndsOver (opened : List Join) (s : Setup) (most : ℕ) (old new : Sta
 abbrev pub KeepsSetup : (file : List ℕ) → Setup → (most : ℕ) → (old new : Stage) → (disk disk' : Disked) → Ending → Type 0
 KeepsSetup file s most old new disk disk' ending =
     ((opened : List Join) × (result : Result (Unit {0}) KeepFault) × (disk'.bound ≡ Some file) × IfSeen disk.seen (λ bytes. Represents bytes opened) × WaitsAt s.keys old new ending × EndsOver opened s most old new disk disk' result × (ending ≡ ending_of_keep result))
-    ⊎ ((new ≡ old) × IsLeft disk disk' × IsBound file disk disk' ending × LacksLedger disk disk' ending)
+    ⊎ ((new ≡ old) × IsLeft disk disk' × LeavesMeanwhile disk disk' disk.may_leave × IsBound file disk disk' ending × LacksLedger disk disk' ending)
 
 -- a run over the ledger of a file ends so: the files hold a setup, which is played over the ledger, if there is one; or they hold none, and nothing is touched, nor the disk asked
 abbrev pub KeepsRun : (file : List ℕ) → RunFiles → (most : ℕ) → (files files' : Filed) → (old new : Stage) → (disk disk' : Disked) → Ending → Type 0

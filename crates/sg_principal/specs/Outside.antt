@@ -39,11 +39,13 @@ pub record Entered : Type 0 where
   pub bytes : Option (List ℕ)
   pub faults : ℕ
 
--- a disk: the name of the file that it is bound to, if it is bound to one, the bytes of this file, if they are known, the images, which are what a crash may leave of it, and its count of faults
+-- a disk: the name of the file that it is bound to, if it is bound to one, the bytes of this file, if they are known, the images, which are what a crash may leave of it, the moment, what a crash since an earlier moment might have left, and its count of faults
 pub record Disked : Type 1 where
   pub bound : Option (List ℕ)
   pub seen : Option (List ℕ)
   pub may_leave : List ℕ → Type 0
+  pub moment : ℕ
+  pub left_since : (moment : ℕ) → List ℕ → Type 0
   pub faults : ℕ
 
 abbrev pub files_of : {F : Type 0} → Files.Ghosts F → F → Filed
@@ -62,7 +64,7 @@ abbrev pub input_of : {I : Type 0} → Input.Ghosts I → I → Entered
 input_of g i = record { bytes = g.coming i; faults = g.faults i }
 
 abbrev pub disk_of : {D : Type 0} → Disk.Ghosts D → D → Disked
-disk_of g d = record { bound = g.bound d; seen = g.seen d; may_leave = g.may_leave d; faults = g.faults d }
+disk_of g d = record { bound = g.bound d; seen = g.seen d; may_leave = g.may_leave d; moment = g.moment d; left_since = g.left_since d; faults = g.faults d }
 
 -- ---- what a player acts on
 

@@ -4,7 +4,7 @@ ghost use Rattle.sg_keep.specs.KeptRuns.{AllRepresent};
 ghost use Rattle.sg_ledger.specs.Disk.{IfSeen};
 ghost use Rattle.sg_ledger.specs.Format.{Represents};
 ghost use Rattle.sg_ending.specs.Model.{ending_held};
-ghost use Rattle.sg_principal.specs.Ledgers.{IsBound, IsLeft, LacksLedger};
+ghost use Rattle.sg_principal.specs.Ledgers.{IsBound, IsLeft, LacksLedger, LeavesMeanwhile};
 ghost use Rattle.sg_principal.specs.Outside.{disk_of};
 
 use sg_ending::Ending;
@@ -24,6 +24,7 @@ pub fn open_ledger<D: Disk>(
     ensures tried { IfErr result (λ ending. IsBound file.now (disk_of D.Disk disk.old) (disk_of D.Disk disk.new) (ending_held ending)) }
     ensures lacks { IfErr result (λ ending. LacksLedger (disk_of D.Disk disk.old) (disk_of D.Disk disk.new) (ending_held ending)) }
     ensures left { IsLeft (disk_of D.Disk disk.old) (disk_of D.Disk disk.new) }
+    ensures any_moment { LeavesMeanwhile (disk_of D.Disk disk.old) (disk_of D.Disk disk.new) (D.may_leave disk.old) }
     ensures falls { D.faults disk.old ≤ D.faults disk.new }
 {
     match disk.open(file) {

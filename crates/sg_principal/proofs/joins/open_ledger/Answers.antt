@@ -1,6 +1,7 @@
 use Rattle.std.proofs.Common.{◌∙◌, Err, inl, inr, refl, ap}
 use Rattle.sg_ledger.specs.declared.ledger.OpenFault.{OpenFault}
 use Rattle.sg_ending.proofs.Files.{rises}
+use Rattle.sg_principal.proofs.Meanwhile.{meanwhile_opened, meanwhile_opening}
 use Rattle.sg_principal.proofs.joins.open_ledger.Goals as goal
 
 pub returns-in-Err-clause-left : goal.returns-in-Err-clause-left
@@ -49,3 +50,26 @@ returns-in-Err-Failed-clause-tried g c = inl (c.open-2.ensures.kept_bound ∙ c.
 
 pub returns-in-Err-OutOfMemory-clause-tried : goal.returns-in-Err-OutOfMemory-clause-tried
 returns-in-Err-OutOfMemory-clause-tried g c = inl (c.open-2.ensures.kept_bound ∙ c.in-Ok.ensures.binds)
+
+pub returns-in-Err-clause-any_moment : goal.returns-in-Err-clause-any_moment
+returns-in-Err-clause-any_moment g c = meanwhile_opening g.D.Disk c.args.disk.now c.open.new.self (g.met.D.Disk.only_now c.args.disk.now) c.open.ensures.time c.open.ensures.images
+
+pub returns-in-Ok-open-clause-any_moment : goal.returns-in-Ok-open-clause-any_moment
+returns-in-Ok-open-clause-any_moment g c =
+    meanwhile_opened g.D.Disk c.args.disk.now c.open.new.self (g.met.D.Disk.only_now c.args.disk.now) c.open.ensures.time c.open.ensures.images c.open-2.new.disk c.open-2.ensures.any_moment
+
+pub returns-in-Err-NotALedger-clause-any_moment : goal.returns-in-Err-NotALedger-clause-any_moment
+returns-in-Err-NotALedger-clause-any_moment g c =
+    meanwhile_opened g.D.Disk c.args.disk.now c.open.new.self (g.met.D.Disk.only_now c.args.disk.now) c.open.ensures.time c.open.ensures.images c.open-2.new.disk c.open-2.ensures.any_moment
+
+pub returns-in-Err-BadSlot-clause-any_moment : goal.returns-in-Err-BadSlot-clause-any_moment
+returns-in-Err-BadSlot-clause-any_moment g c =
+    meanwhile_opened g.D.Disk c.args.disk.now c.open.new.self (g.met.D.Disk.only_now c.args.disk.now) c.open.ensures.time c.open.ensures.images c.open-2.new.disk c.open-2.ensures.any_moment
+
+pub returns-in-Err-Failed-clause-any_moment : goal.returns-in-Err-Failed-clause-any_moment
+returns-in-Err-Failed-clause-any_moment g c =
+    meanwhile_opened g.D.Disk c.args.disk.now c.open.new.self (g.met.D.Disk.only_now c.args.disk.now) c.open.ensures.time c.open.ensures.images c.open-2.new.disk c.open-2.ensures.any_moment
+
+pub returns-in-Err-OutOfMemory-clause-any_moment : goal.returns-in-Err-OutOfMemory-clause-any_moment
+returns-in-Err-OutOfMemory-clause-any_moment g c =
+    meanwhile_opened g.D.Disk c.args.disk.now c.open.new.self (g.met.D.Disk.only_now c.args.disk.now) c.open.ensures.time c.open.ensures.images c.open-2.new.disk c.open-2.ensures.any_moment

@@ -16,7 +16,7 @@ returns-in-Ok-clause-keeps g c =
       c.in-Ok.ensures.opened,
       waits c.args.setup.keys _ _ (ending_held c.ended.result) (λ e. c.ended.ensures.ending ∙ ap ending_of_keep e) c.play_over.ensures.waits,
       after_ledger c.in-Ok.ledger.joins (setup_held c.args.setup) c.args.most (stage_of g.O.Sink g.L.Link g.R.Fresh (stage_at_call c.args.stage)) _
-          (disk_of g.D.Disk c.args.disk.now) (disk_of g.D.Disk c.open_ledger.new.disk) (disk_of g.D.Disk c.play_over.new.disk) c.play_over.result c.open_ledger.ensures.falls c.play_over.ensures.ends,
+          (disk_of g.D.Disk c.args.disk.now) (disk_of g.D.Disk c.open_ledger.new.disk) (disk_of g.D.Disk c.play_over.new.disk) c.play_over.result c.open_ledger.ensures.falls c.open_ledger.ensures.left.1 c.open_ledger.ensures.any_moment c.play_over.ensures.ends,
       c.ended.ensures.ending,
     )
 
@@ -24,7 +24,7 @@ pub returns-in-Ok-clause-as_before : goal.returns-in-Ok-clause-as_before
 returns-in-Ok-clause-as_before g c = inl c.ended.ensures.played
 
 pub returns-in-Err-clause-keeps : goal.returns-in-Err-clause-keeps
-returns-in-Err-clause-keeps g c = inr (refl, c.open_ledger.ensures.left, c.in-Err.ensures.tried, c.in-Err.ensures.lacks)
+returns-in-Err-clause-keeps g c = inr (refl, c.open_ledger.ensures.left, c.open_ledger.ensures.any_moment, c.in-Err.ensures.tried, c.in-Err.ensures.lacks)
 
 pub returns-in-Err-clause-as_before : goal.returns-in-Err-clause-as_before
 returns-in-Err-clause-as_before g c = inr refl

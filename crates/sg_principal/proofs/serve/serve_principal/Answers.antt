@@ -1,7 +1,9 @@
-use Rattle.std.proofs.Common.{inl, inr, true, refl, ◌∙◌}
+use Rattle.std.proofs.Common.{inl, inr, true, refl, sym, subst, ◌∙◌}
 use Rattle.sg_ending.specs.Model.{ending_held}
+use Rattle.sg_principal.specs.Ledgers.{IsNotAsked}
 use Rattle.sg_principal.specs.Model.{principal_held}
 use Rattle.sg_principal.specs.Outside.{application_of, disk_of, stage_at_call}
+use Rattle.sg_principal.proofs.Meanwhile.{meanwhile_idle}
 use Rattle.sg_principal.proofs.Serving.{over_later}
 use Rattle.sg_principal.proofs.serve.serve_principal.Goals as goal
 
@@ -17,3 +19,11 @@ returns-in-Ok-clause-serves g c =
 
 pub returns-in-Err-clause-serves : goal.returns-in-Err-clause-serves
 returns-in-Err-clause-serves g c = rw c.in-Some.is (inr (refl, c.open_ledger.ensures.left, c.in-Err.ensures.tried, c.in-Err.ensures.lacks))
+
+pub returns-in-None-clause-serves : goal.returns-in-None-clause-serves
+returns-in-None-clause-serves g c =
+    rw c.in-None.is (
+      c.serve_over-in-None.ensures.serves,
+      subst (λ (d : g.row.D.Denot). IsNotAsked (disk_of g.D.Disk c.args.disk.now) (disk_of g.D.Disk d)) (sym (c.serve_over-in-None.ensures.disk refl))
+          ((refl, λ image left. left), λ image left. left, meanwhile_idle (disk_of g.D.Disk c.args.disk.now) (g.met.D.Disk.only_now c.args.disk.now), refl, refl),
+    )
