@@ -31,7 +31,6 @@ use Rattle.sg_protocol.specs.NodeStates.{RepresentsNode, RepresentsPast, Represe
 use Rattle.sg_protocol.proofs.Reachable.{states_are_reachable}
 use Rattle.sg_protocol.proofs.NodeStates.{node_states_represent}
 use Rattle.sg_protocol.proofs.RealHash.{real_hash}
-use Rattle.sg_walk.specs.declared.event.Event.{Event}
 use Rattle.sg_walk.specs.Model.{event_of}
 use Rattle.sg_role.specs.Model.{RoleState}
 use Rattle.sg_role.specs.Sending.{WaitsOrEnds, with_notes, step_of}
@@ -44,10 +43,9 @@ use Rattle.sg_node.specs.Slots.{Slot, state_in, held_at, held_in, is_of, first_i
 use Rattle.sg_role.specs.Faults.{RefusesToSend}
 use Rattle.sg_role.specs.declared.fault.SendFault.{SendFault as RoleFault}
 use Rattle.sg_role.specs.declared.fault.SendFault.TheVariants as sending
-use Rattle.sg_node.specs.Answers.{IsAnswer, IsActAnswer, GoesOn, is_sending}
-use Rattle.sg_node.specs.Faults.{act_fault, of_send}
-use Rattle.sg_node.specs.declared.fault.ActFault.{ActFault as NodeFault}
-use Rattle.sg_node.specs.declared.fault.ActFault.TheVariants as acting
+use Rattle.sg_node.specs.declared.answer.Happened.{Happened}
+use Rattle.sg_node.specs.Answers.{IsAnswerOfAct, GoesOn, is_sending}
+use Rattle.sg_node.specs.Faults.{send_fault}
 use Rattle.sg_node.specs.Invariant.{IsLiveAt, IfLive, IsSlot, HoldsNode, node_state}
 use Rattle.sg_node.proofs.Indices.{live_at, Tests, First, held_first}
 use Rattle.sg_node.proofs.Leaving.{tests_sid}
@@ -58,13 +56,6 @@ mapped : {A B : Type 0} (f : A → B) (os : List (Option A)) → first_some (map
 mapped f [] = refl
 mapped f (None ∷ os) = mapped f os
 mapped f (Some x ∷ os) = refl
-
--- an act lacks memory only where the step does
-pub lacks : (x : RoleFault) → of_send x ≡ acting.OutOfMemory → x ≡ sending.OutOfMemory
-lacks sending.OutOfMemory e = refl
-lacks sending.NoSuchLabel e = absurd cc
-lacks (sending.BadValues var) e = absurd cc
-lacks sending.TimeSpent e = absurd cc
 
 -- what is noted beside nothing
 pub with_none : (n : Notes) → n ≡ with_notes n no_notes
@@ -195,16 +186,11 @@ module _ (n : Inside) (h : HoldsNode n) (m : Node) (st : RepresentsNode (node_st
       not_sent fault f = let x = its_session in refused m sid label values confs x.session t.program x.is x.program x.represents.turn fault (f x.session x.represents)
 
       -- for the fault that the role answers
-      pub not_sent_by : (x : RoleFault) (r : NodeFault) → r ≡ of_send x → ((s : Session) → RepresentsAtTurn t.program.graph t.held s → RefusesToSend (first_some (rows_of_send t.program s label values)) x) →
-          IsAnswer (answer real m (Act sid label values confs)) (option_map NotActed (act_fault r)) × (r ≢ acting.OutOfMemory → (fault : ActFault) × (answer real m (Act sid label values confs) ≡ NotActed fault))
-      not_sent_by x r e f = subst (λ (r : NodeFault). IsAnswer (answer real m (Act sid label values confs)) (option_map NotActed (act_fault r)) × (r ≢ acting.OutOfMemory → (fault : ActFault) × (answer real m (Act sid label values confs) ≡ NotActed fault))) (sym e) (go x f)
-        where
-          go : (x : RoleFault) → ((s : Session) → RepresentsAtTurn t.program.graph t.held s → RefusesToSend (first_some (rows_of_send t.program s label values)) x) →
-              IsAnswer (answer real m (Act sid label values confs)) (option_map NotActed (act_fault (of_send x))) × (of_send x ≢ acting.OutOfMemory → (fault : ActFault) × (answer real m (Act sid label values confs) ≡ NotActed fault))
-          go sending.NoSuchLabel f = let a = not_sent NoSuchLabel f in (a, λ k. (Send NoSuchLabel, a))
-          go (sending.BadValues var) f = let a = not_sent (BadValues var) f in (a, λ k. (Send (BadValues var), a))
-          go sending.TimeSpent f = let a = not_sent TimeSpent f in (a, λ k. (Send TimeSpent, a))
-          go sending.OutOfMemory f = (tt, λ k. absurd (k refl))
+      pub not_sent_by : (x : RoleFault) → ((s : Session) → RepresentsAtTurn t.program.graph t.held s → RefusesToSend (first_some (rows_of_send t.program s label values)) x) → (o : SendFault) → send_fault x ≡ Some o → answer real m (Act sid label values confs) ≡ NotActed (Send o)
+      not_sent_by sending.NoSuchLabel f o k = let same : NoSuchLabel ≡ o = cc in not_sent NoSuchLabel f ∙ ap (λ z. NotActed (Send z)) same
+      not_sent_by (sending.BadValues var) f o k = let same : BadValues var ≡ o = cc in not_sent (BadValues var) f ∙ ap (λ z. NotActed (Send z)) same
+      not_sent_by sending.TimeSpent f o k = let same : TimeSpent ≡ o = cc in not_sent TimeSpent f ∙ ap (λ z. NotActed (Send z)) same
+      not_sent_by sending.OutOfMemory f o k = absurd (cc)
 
       module _ (good : AreValues values confs) (x : Sent) (d : SentBy n.keys t label values confs x) where
         abbrev written : List Opening
@@ -224,12 +210,12 @@ module _ (n : Inside) (h : HoldsNode n) (m : Node) (st : RepresentsNode (node_st
             ∙ ap (λ (z : Held). Sends (SentEvent z.sid z.role label ((z.kept).time + 1) values) (principal s.cast (receiver (shape t.program.graph) label)) frame) (sym its_session.represents.holds)
 
         -- the event and the frame are those of the definition
-        pub act_answer : (r : Event × (List ℕ × List ℕ)) → event_of r.0 ≡ step_of t.held label values →
+        pub act_answer : (r : Happened × (List ℕ × List ℕ)) → event_of (r.0).event ≡ step_of t.held label values →
             ((s : Session) → RepresentsAtTurn t.program.graph t.held s → r.1 ≡ (principal s.cast (receiver (shape t.program.graph) label), spelling (frame_sent real n.keys t.program s label written))) →
-            IsActAnswer (answer real m (Act sid label values confs)) (Ok r)
+            IsAnswerOfAct (answer real m (Act sid label values confs)) (Ok r)
         act_answer r e f =
             let g = f its_session.session its_session.represents in
-            (frame, answered ∙ ap (λ z. Sends z (principal (its_session.session).cast (receiver (shape t.program.graph) label)) frame) (sym e) ∙ ap (λ (z : List ℕ × List ℕ). Sends (event_of r.0) z.0 frame) (sym g), ap (λ (z : List ℕ × List ℕ). z.1) g)
+            (frame, answered ∙ ap (λ z. Sends z (principal (its_session.session).cast (receiver (shape t.program.graph) label)) frame) (sym e) ∙ ap (λ (z : List ℕ × List ℕ). Sends (event_of (r.0).event) z.0 frame) (sym g), ap (λ (z : List ℕ × List ℕ). z.1) g)
 
         reachable_here : IsReachableAtTurn real t.program t.held
         reachable_here = (at n h sid i (AtTurn t) e there).live.reachable

@@ -1,5 +1,5 @@
 -- A frame that continues a session of a node.
-use Rattle.std.specs.Prelude.{◌≡◌, ℕ, ◌==◌, ◌&&◌, Bool, true, false, List, [], ◌∷◌, find, bytes_eq, refl, Option, Some, None, option_map, Ok}
+use Rattle.std.specs.Prelude.{◌≡◌, ℕ, ◌==◌, ◌&&◌, Bool, true, false, List, [], ◌∷◌, find, map, slice_get, bytes_eq, refl, Option, Some, None, option_map, Ok}
 use Rattle.std.specs.Option.{option_map_or}
 use Rattle.std.specs.List.{AllByRecursion}
 use Rattle.std.proofs.Common.{sym, ◌∙◌, ap, subst}
@@ -12,13 +12,13 @@ use Rattle.sg_protocol.specs.Frame.{Cast, Frame}
 use Rattle.sg_protocol.specs.Keyring.{Keyring, Program}
 use Rattle.sg_protocol.specs.Node.{Node, session_for}
 use Rattle.sg_protocol.specs.NodeStates.{RepresentsNode, RepresentsIf, is_held_for, unless_spent, still_held, with_live, with_join, joined_by, state_taking}
-use Rattle.sg_protocol.specs.Notes.{Notes, no_notes, row_number, notes_in_session, notes_of_read}
-use Rattle.sg_protocol.specs.Session.{Session, Took}
+use Rattle.sg_protocol.specs.Notes.{Notes, no_notes, row_number, notes_in_session, notes_of_read, session_of_frame}
+use Rattle.sg_protocol.specs.Session.{Session, Took, origin}
 use Rattle.sg_protocol.specs.Spelling.{HasSpelling}
-use Rattle.sg_protocol.specs.Representation.{RepresentsBefore, held_after}
+use Rattle.sg_protocol.specs.Representation.{Held, RepresentsBefore, held_after}
 use Rattle.sg_protocol.specs.Reachable.{IsReachableAtTurn, IsReachableWaiting}
 use Rattle.sg_protocol.specs.Texts.{real}
-use Rattle.sg_protocol.specs.Verdict.{rows, rows_of_session, receipt, decided, verdict_on}
+use Rattle.sg_protocol.specs.Verdict.{rows, rows_of_session, receipt, seen, decided, verdict_on}
 use Rattle.sg_protocol.proofs.Reachable.{states_are_reachable}
 use Rattle.sg_protocol.proofs.NodeStates.{node_states_represent}
 use Rattle.sg_protocol.proofs.RealHash.{real_hash}
@@ -27,16 +27,17 @@ use Rattle.sg_role.specs.Faults.{Refuses}
 use Rattle.sg_role.specs.Sending.{with_notes}
 use Rattle.sg_role.specs.Model.{RoleState}
 use Rattle.sg_role.specs.declared.fault.Refusal.{Refusal as RoleRefusal}
-use Rattle.sg_node.specs.Answers.{IsAnswer, may_take_memory}
+use Rattle.sg_node.specs.Answers.{may_take_memory}
+use Rattle.sg_node.specs.Receipts.{Receipt, IsReceiptAt}
 use Rattle.sg_node.specs.declared.node.Node.TheInside.{Inside}
 use Rattle.sg_node.specs.declared.sessions.Live.TheVariants.{AtTurn, Waiting}
-use Rattle.sg_node.specs.Faults.{of_role, refusal}
+use Rattle.sg_node.specs.Faults.{role_refusal}
 use Rattle.sg_node.specs.Slots.{Slot, state_in, held_at, held_in, is_for, first_index, left_after}
 use Rattle.sg_node.specs.Invariant.{IsSlot, HoldsNode, node_state}
 use Rattle.sg_node.proofs.Indices.{live_at, Tests, First, held_first}
 use Rattle.sg_node.proofs.InSlots.{Its, AtIndex, none_here, its_slot, replaced, its_program, its_passes, session_here}
 use Rattle.sg_node.proofs.Memory.{by_session}
-use Rattle.sg_node.proofs.Receipts.{role_refused, early, no_text, no_session, not_waiting, next_rows_waiting, next_notes, unless_left, left_live}
+use Rattle.sg_node.proofs.Receipts.{role_refused, early, no_text, no_session, not_waiting, next_rows_waiting, next_notes, session_is, unless_left, left_live}
 
 turned : (v a b : Bool) → (v && a && b) ≡ (a && b && v)
 turned true a b = sym (and_true (a && b))
@@ -55,6 +56,10 @@ module _ (f : Frame) (ps : List Program) (js : List (List ℕ × ℕ)) where
   tests_for : (ss : List Slot) → AllByRecursion (IsSlot ps js) ss → AllByRecursion (Tests (is_held_for f) (is_for f)) ss
   tests_for [] h = tt
   tests_for (s ∷ ss) h = (test_for s h.0, tests_for ss h.1)
+
+-- the first slot for a frame is that for the same frame
+pub index_for : (f g : Frame) (ss : List Slot) (o : Option ℕ) → f ≡ g → o ≡ first_index (is_for f) ss → first_index (is_for g) ss ≡ o
+index_for f g ss o same found = ap (λ z. first_index (is_for z) ss) (sym same) ∙ sym found
 
 -- an acceptance of a frame by a role that kept this
 pub record AcceptedBy (keys : Keyring) (t : RoleState) (f : Frame) (a : Acceptance) : Type 0 where
@@ -108,8 +113,20 @@ module _ (n : Inside) (h : HoldsNode n) (f : Frame) where
         its_rows : first_some (rows real m f) ≡ first_some (rows_of_session real n.keys t.program it.session f)
         its_rows = next_rows_waiting m f j it.session t.program it.is it.program it.represents.waits ∙ ap (λ k. first_some (rows_of_session real k t.program it.session f)) (sym st.keys)
 
-        pub refused : (r : RoleRefusal) → ((s : Session) → RepresentsBefore t.program.graph t.held s → Refuses (first_some (rows_of_session real n.keys t.program s f)) r) → IsAnswer (verdict_on real m (Ok f)) (option_map NotDelivered (refusal (of_role r)))
-        refused r g = role_refused (receipt f) (first_some (rows real m f)) r (subst (λ x. Refuses x r) (sym its_rows) (g it.session it.represents.before))
+        pub refused : (r : RoleRefusal) → ((s : Session) → RepresentsBefore t.program.graph t.held s → Refuses (first_some (rows_of_session real n.keys t.program s f)) r) → (o : Refusal) → role_refusal r ≡ Some o → verdict_on real m (Ok f) ≡ NotDelivered o
+        refused r g o k = role_refused (receipt f) (first_some (rows real m f)) r o (subst (λ x. Refuses x r) (sym its_rows) (g it.session it.represents.before)) k
+
+        -- its session, with its program
+        pub session_of : session_of_frame m f ≡ Some (t.program, it.session)
+        session_of = session_is m f j it.session t.program it.is it.program
+
+        -- a receipt of this view is of its session
+        pub shown : (r : Receipt) → r.program ≡ t.program → slice_get t.program.views r.view ≡ Some (record { origin = t.held.kept.origin; items = map seen f.items }) → IsReceiptAt m f r
+        shown r is v = record {
+          session = it.session;
+          is_session = session_of ∙ ap (λ p. Some (p, it.session)) (sym is);
+          view = ap (λ (p : Program). slice_get p.views r.view) is ∙ v ∙ ap (λ (k : Held). Some (record { origin = k.kept.origin; items = map seen f.items })) it.represents.before.holds;
+        }
 
         -- it comes to its session, so memory may be taken
         pub may_take : may_take_memory (verdict_on real m (Ok f)) ≡ true

@@ -1,5 +1,5 @@
 -- A frame that joins a session.
-use Rattle.std.specs.Prelude.{◌≡◌, ◌≢◌, ℕ, ◌==◌, ◌&&◌, nat_lt, nat_le, Bool, true, false, if◌then◌else◌, List, [], ◌∷◌, ◌++◌, length, bytes_eq, refl, Option, Some, None, option_map, Ok, map, Contains, IfSome, ◌⊎◌, ◌<◌}
+use Rattle.std.specs.Prelude.{◌≡◌, ◌≢◌, ℕ, ◌==◌, ◌&&◌, nat_lt, nat_le, Bool, true, false, if◌then◌else◌, List, [], ◌∷◌, ◌++◌, length, bytes_eq, refl, Option, Some, None, option_map, Ok, Err, map, slice_get, Contains, IfSome, ◌⊎◌, ◌<◌}
 use Rattle.std.specs.Option.{option_map_or}
 use Rattle.std.specs.List.{AllByRecursion}
 use Rattle.std.proofs.Common.{sym, ◌∙◌, ap, subst, inl, inr, append_assoc}
@@ -13,18 +13,18 @@ use Rattle.sg_model.specs.Shape.{role_at}
 use Rattle.sg_protocol.specs.Calls.{Refusal, Happened, NotDelivered, UnknownGraph, BadCast, UnknownPeer, BadSession, Joined, CacheFull, SessionsFull}
 use Rattle.sg_protocol.specs.Frame.{Cast, Frame, IsCastOf}
 use Rattle.sg_protocol.specs.Ranges.{IsCast}
-use Rattle.sg_protocol.specs.Graph.{shape}
+use Rattle.sg_protocol.specs.Graph.{Graph, shape}
 use Rattle.sg_protocol.specs.IsSchedule.{IsProgram}
 use Rattle.sg_protocol.specs.Keyring.{Keyring, Program}
 use Rattle.sg_protocol.specs.Node.{Node, program_for, is_cast, stranger, has_joined}
 use Rattle.sg_protocol.specs.NodeStates.{NodeState, RepresentsNode, is_held_for, unless_spent, still_held, with_live, with_join, joined_by, state_taking}
-use Rattle.sg_protocol.specs.Notes.{Notes, no_notes, row_number, notes_in_session, notes_of_read}
+use Rattle.sg_protocol.specs.Notes.{Notes, no_notes, row_number, notes_in_session, notes_of_read, session_of_frame}
 use Rattle.sg_protocol.specs.Session.{Session, new_session, principal, Took}
 use Rattle.sg_protocol.specs.Spelling.{HasSpelling}
 use Rattle.sg_protocol.specs.Representation.{RepresentsBefore, nothing_kept, held_after}
 use Rattle.sg_protocol.specs.Reachable.{IsReachableBefore, IsReachableAtTurn}
 use Rattle.sg_protocol.specs.Texts.{real, session_id, session_text_of}
-use Rattle.sg_protocol.specs.Verdict.{rows, rows_of_session, receipt, decided, verdict_on}
+use Rattle.sg_protocol.specs.Verdict.{rows, rows_of_session, receipt, seen, decided, verdict_on}
 use Rattle.sg_protocol.proofs.Reachable.{states_are_reachable}
 use Rattle.sg_protocol.proofs.Live.{sessions_are_sound}
 use Rattle.sg_protocol.proofs.RealHash.{real_hash}
@@ -34,18 +34,19 @@ use Rattle.sg_role.specs.Faults.{Refuses}
 use Rattle.sg_role.specs.Sending.{with_notes}
 use Rattle.sg_role.specs.declared.fault.Refusal.{Refusal as RoleRefusal}
 use Rattle.sg_role.specs.declared.fault.Refusal.TheVariants as role
-use Rattle.sg_node.specs.Answers.{IsAnswer}
+use Rattle.sg_node.specs.Answers.{answer_of_delivery, graph_named, graph_of_delivery}
+use Rattle.sg_node.specs.Receipts.{Receipt, IsReceiptAt}
 use Rattle.sg_node.specs.declared.join.Obstacle.{Obstacle}
 use Rattle.sg_node.specs.declared.join.Obstacle.TheVariants as Why
 use Rattle.sg_node.specs.declared.node.Node.TheInside.{Inside}
-use Rattle.sg_node.specs.Faults.{of_role, refusal}
+use Rattle.sg_node.specs.Faults.{delivery_refusal, role_refusal}
 use Rattle.sg_node.specs.Joining.{obstacle_to, refusal_for}
 use Rattle.sg_node.specs.Slots.{Slot, held_at, held_in, slot_of, left_after}
 use Rattle.sg_node.specs.Invariant.{IsSlot, HoldsNode, node_state}
 use Rattle.sg_node.proofs.InSlots.{found_all}
 use Rattle.sg_node.proofs.Joined.{as_many, held_more, slots_more, no_slot, nothing_else, free_by, past_three}
 use Rattle.sg_node.proofs.Starts.{first_state}
-use Rattle.sg_node.proofs.Receipts.{role_refused, early, no_text_yet, text, no_program, bad_cast, no_key, bad_session, joining_rows, join_notes, unless_left, left_live}
+use Rattle.sg_node.proofs.Receipts.{role_refused, early, no_text_yet, text, no_program, bad_cast, no_key, bad_session, joining_rows, join_notes, join_session_is, unless_left, left_live}
 use Rattle.sg_node.proofs.Continuing.{AcceptedBy, same_state}
 
 -- what is noted of a frame that is refused before a session is looked at
@@ -81,6 +82,12 @@ module _ (n : NodeState) (f : Frame) (c : Cast) (j : f.join ≡ Some c) (p : Pro
       let r = bad_session m f c j p (subst (λ ps. program_for ps c.graph f.receiver ≡ Some p) st.programs q)
       (subst (λ z. (is_cast z p.graph c f.receiver && nat_lt f.sender (length c.names)) ≡ true) st.keys test) (subst (λ k. stranger k c ≡ None) st.keys covered) b in
       (ap (decided (receipt f)) r, early m f BadSession r refl refl refl ∙ ap (λ h. record { made = []; found = []; hashed = h }) (text m f c j 5 refl))
+
+-- what hinders a frame from joining names no number
+pub no_graph : (o : Obstacle) (g : Option Graph) → graph_of_delivery (Err (refusal_for o)) ≡ graph_named (answer_of_delivery (Err (refusal_for o))) g
+no_graph Why.Joined g = refl
+no_graph Why.Cache g = refl
+no_graph Why.Sessions g = refl
 
 -- ---- the others, by the state of the node
 
@@ -149,7 +156,7 @@ module _ (n : Inside) (h : HoldsNode n) (f : Frame) (c : Cast) (j : f.join ≡ S
           ∙ ap (λ k. obstacle_to m.joins k f.sid f.receiver) (as_many m.programs (held_in n.sessions.slots) m.live st.live)
 
       abbrev refused_by : Obstacle → Option Refusal
-      refused_by o = refusal (refusal_for o)
+      refused_by o = Some (delivery_refusal (refusal_for o))
 
       by_obstacle : (x y z : Bool) (o : Obstacle) (rest : List (Option Refusal)) → obstacles_by x y z ≡ Some o →
           first_some ((if x then Some Joined else None) ∷ (if y then Some CacheFull else None) ∷ (if z then Some SessionsFull else None) ∷ rest) ≡ refused_by o
@@ -159,10 +166,10 @@ module _ (n : Inside) (h : HoldsNode n) (f : Frame) (c : Cast) (j : f.join ≡ S
       by_obstacle false false false o rest e = absurd (cc)
 
       pub hindered : (o : Obstacle) → obstacle_to n.joins.pairs (length (held_in n.sessions.slots)) f.sid f.receiver ≡ Some o →
-          IsAnswer (verdict_on real m (Ok f)) (option_map NotDelivered (refusal (refusal_for o))) × (notes_of_read real m (Ok f) ≡ first_text c)
+          (verdict_on real m (Ok f) ≡ NotDelivered (delivery_refusal (refusal_for o))) × (notes_of_read real m (Ok f) ≡ first_text c)
       hindered o e = go o (joining_rows m f c j p q_here (both m.keys st.keys) covered_here (bytes_same f.sid (session_id real c) its_sid) ∙ by_obstacle (has_joined m.joins f.sid f.receiver) (nat_le 65536 (length m.joins)) (nat_le 4096 (length m.live)) o (rows_of_session real m.keys p (new_session f.sid c f.receiver) f) (sym same_obstacles ∙ e))
         where
-          go : (o : Obstacle) → first_some (rows real m f) ≡ refused_by o → IsAnswer (verdict_on real m (Ok f)) (option_map NotDelivered (refusal (refusal_for o))) × (notes_of_read real m (Ok f) ≡ first_text c)
+          go : (o : Obstacle) → first_some (rows real m f) ≡ refused_by o → (verdict_on real m (Ok f) ≡ NotDelivered (delivery_refusal (refusal_for o))) × (notes_of_read real m (Ok f) ≡ first_text c)
           go Why.Joined r = (ap (decided (receipt f)) r, early m f Joined r refl refl refl ∙ ap (λ h. record { made = []; found = []; hashed = h }) (text m f c j 6 refl))
           go Why.Cache r = (ap (decided (receipt f)) r, early m f CacheFull r refl refl refl ∙ ap (λ h. record { made = []; found = []; hashed = h }) (text m f c j 7 refl))
           go Why.Sessions r = (ap (decided (receipt f)) r, early m f SessionsFull r refl refl refl ∙ ap (λ h. record { made = []; found = []; hashed = h }) (text m f c j 8 refl))
@@ -189,8 +196,20 @@ module _ (n : Inside) (h : HoldsNode n) (f : Frame) (c : Cast) (j : f.join ≡ S
       here_rows : first_some (rows_of_session real m.keys p (new_session f.sid c f.receiver) f) ≡ first_some (rows_of_session real n.keys p its_session f)
       here_rows = ap (λ s. first_some (rows_of_session real m.keys p s f)) same_session ∙ ap (λ k. first_some (rows_of_session real k p its_session f)) (sym st.keys)
 
-      pub refused : (r : RoleRefusal) → ((s : Session) → RepresentsBefore p.graph (first_state p c).held s → Refuses (first_some (rows_of_session real n.keys p s f)) r) → IsAnswer (verdict_on real m (Ok f)) (option_map NotDelivered (refusal (of_role r)))
-      refused r g = role_refused (receipt f) (first_some (rows real m f)) r (subst (λ x. Refuses x r) (sym (its_rows ∙ here_rows)) (g its_session represents))
+      pub refused : (r : RoleRefusal) → ((s : Session) → RepresentsBefore p.graph (first_state p c).held s → Refuses (first_some (rows_of_session real n.keys p s f)) r) → (o : Refusal) → role_refusal r ≡ Some o → verdict_on real m (Ok f) ≡ NotDelivered o
+      refused r g o k = role_refused (receipt f) (first_some (rows real m f)) r o (subst (λ x. Refuses x r) (sym (its_rows ∙ here_rows)) (g its_session represents)) k
+
+      -- its session, with its program
+      pub session_of : session_of_frame m f ≡ Some (p, new_session f.sid c f.receiver)
+      session_of = join_session_is m f c j p (q_here m st) ∙ ap (option_map (λ (p : Program). (p, new_session f.sid c f.receiver))) (q_here m st)
+
+      -- a receipt of this view is of its session, in which the role has done nothing
+      pub shown : (r : Receipt) → r.program ≡ p → slice_get p.views r.view ≡ Some (record { origin = None; items = map seen f.items }) → IsReceiptAt m f r
+      shown r is v = record {
+        session = new_session f.sid c f.receiver;
+        is_session = session_of ∙ ap (λ z. Some (z, new_session f.sid c f.receiver)) (sym is);
+        view = ap (λ (z : Program). slice_get z.views r.view) is ∙ v;
+      }
 
       pub taken : (a : Acceptance) → AcceptedBy n.keys (first_state p c) f a → verdict_on real m (Ok f) ≡ Happened (receipt f)
       taken a d = ap (decided (receipt f)) (its_rows ∙ here_rows ∙ d.rows its_session represents)

@@ -1,5 +1,5 @@
 -- A pair that joins: it was not there, and its session goes last.
-use Rattle.std.specs.Prelude.{◌≡◌, ◌≢◌, ℕ, zero, suc, ◌<◌, ◌≤◌, ◌==◌, nat_le, Bool, true, false, if◌then◌else◌, List, [], ◌∷◌, ◌++◌, map, length, refl, Option, Some, None, option_and_then, get_or, Contains}
+use Rattle.std.specs.Prelude.{◌≡◌, ◌≢◌, ℕ, zero, suc, ◌<◌, ◌≤◌, ◌==◌, nat_le, Bool, true, false, if◌then◌else◌, List, [], ◌∷◌, ◌++◌, map, length, refl, Option, Some, None, option_map, get_or, Contains}
 use Rattle.std.specs.List.{AllByRecursion}
 use Rattle.std.proofs.Common.{sym, ◌∙◌, ap, subst, inl, inr, arith, append_assoc}
 use Rattle.std.proofs.lemmas.Bool.{cases_Bool, eq-eqb, eqb-true}
@@ -22,8 +22,8 @@ use Rattle.sg_role.proofs.Edges.{goes_on_by}
 use Rattle.sg_role.specs.Accepting.{goes_on}
 use Rattle.sg_node.specs.declared.join.Obstacle.TheVariants as Why
 use Rattle.sg_node.specs.declared.sessions.Live.{Live}
-use Rattle.sg_node.specs.Faults.{start_fault}
-use Rattle.sg_node.specs.Joining.{obstacle_to, fault_for}
+use Rattle.sg_node.specs.Faults.{start_refusal}
+use Rattle.sg_node.specs.Joining.{obstacle_to, start_refusal_for}
 use Rattle.sg_node.specs.Slots.{Slot, held_at, held_in, slot_of}
 use Rattle.sg_node.specs.Invariant.{IfLive, IsSlot}
 
@@ -95,7 +95,7 @@ free_by js live sid r e =
     (not_joined js sid r z.0, let b = z.1 in grind (arith, nat_tests, b))
 
 -- what stands in the way of a start, and of a frame that joins
-pub rows_of_obstacles : (a b c : Bool) → first_some (row a Protocol.StartFault.Joined ∷ row b Protocol.StartFault.CacheFull ∷ row c Protocol.StartFault.SessionsFull ∷ []) ≡ option_and_then (λ o. start_fault (fault_for o)) (if a then Some Why.Joined else (if b then Some Why.Cache else (if c then Some Why.Sessions else None)))
+pub rows_of_obstacles : (a b c : Bool) → first_some (row a Protocol.StartFault.Joined ∷ row b Protocol.StartFault.CacheFull ∷ row c Protocol.StartFault.SessionsFull ∷ []) ≡ option_map (λ o. start_refusal (start_refusal_for o)) (if a then Some Why.Joined else (if b then Some Why.Cache else (if c then Some Why.Sessions else None)))
 rows_of_obstacles true b c = refl
 rows_of_obstacles false true c = refl
 rows_of_obstacles false false true = refl

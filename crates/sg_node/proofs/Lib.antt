@@ -8,6 +8,7 @@ pub mod Turning
 pub mod Going
 pub mod InSlots
 pub mod Acts
+pub mod Refusing
 pub mod Joined
 pub mod Memory
 pub mod Starts

@@ -18,11 +18,11 @@ use Rattle.sg_protocol.specs.Verdict.{row, bad_time, decided, is_shown, has_fram
 use Rattle.sg_node.specs.Answers.{may_take_memory}
 use Rattle.sg_node.specs.declared.join.Obstacle.{Obstacle}
 use Rattle.sg_node.specs.declared.join.Obstacle.TheVariants as Why
-use Rattle.sg_node.specs.Faults.{start_fault}
-use Rattle.sg_node.specs.Joining.{fault_for}
+use Rattle.sg_node.specs.Faults.{start_refusal}
+use Rattle.sg_node.specs.Joining.{start_refusal_for}
 
 -- a start that comes to the obstacles
-pub started_may : (sid : List ℕ) (r : ℕ) (o : Option Obstacle) → may_take_memory (started sid r (option_and_then (λ o. start_fault (fault_for o)) o)) ≡ true
+pub started_may : (sid : List ℕ) (r : ℕ) (o : Option Obstacle) → may_take_memory (started sid r (option_map (λ o. start_refusal (start_refusal_for o)) o)) ≡ true
 started_may sid r None = refl
 started_may sid r (Some Why.Joined) = refl
 started_may sid r (Some Why.Cache) = refl

@@ -1,5 +1,5 @@
 -- What a node answers to a frame, and what is live after it.
-use Rattle.std.specs.Prelude.{◌≡◌, ℕ, ◌==◌, ◌&&◌, nat_lt, nat_le, not, Bool, true, false, if◌then◌else◌, List, [], ◌∷◌, ◌++◌, length, bytes_eq, refl, Option, Some, None, option_map, option_and_then, Result, Ok, Err, is_ok, IsOk, IfOk, OnOk, OnErr}
+use Rattle.std.specs.Prelude.{◌≡◌, ◌≢◌, ℕ, ◌==◌, ◌&&◌, nat_lt, nat_le, not, Bool, true, false, if◌then◌else◌, List, [], ◌∷◌, ◌++◌, length, bytes_eq, refl, Option, Some, None, option_map, option_and_then, Result, Ok, Err, is_ok, IsOk, IsErr, IfOk, IfErr, MatchResult, OnOk, OnErr}
 use Rattle.std.specs.Option.{option_map_or}
 use Rattle.std.specs.List.{list_any}
 use Rattle.std.proofs.Common.{sym, ◌∙◌, ap, subst, take, append-nil}
@@ -22,34 +22,67 @@ use Rattle.sg_role.specs.Faults.{Refuses}
 use Rattle.sg_role.specs.Model.{RoleState}
 use Rattle.sg_role.specs.declared.fault.Refusal.{Refusal as RoleRefusal}
 use Rattle.sg_role.specs.declared.fault.Refusal.TheVariants as role
-use Rattle.sg_walk.specs.declared.event.Event.{Event as WalkEvent}
-use Rattle.sg_walk.specs.Model.{event_of}
-use Rattle.sg_node.specs.declared.fault.Refusal.{Refusal as NodeRefusal}
-use Rattle.sg_node.specs.Answers.{IsAnswer, delivery_answer, may_take_memory}
+use Rattle.sg_protocol.specs.Graph.{Graph}
+use Rattle.sg_node.specs.declared.refusal.DeliveryRefusal.{DeliveryRefusal}
+use Rattle.sg_node.specs.Answers.{answer_of_delivery, graph_named, graph_of_delivery, may_take_memory}
+use Rattle.sg_node.specs.Receipts.{Receipt}
 use Rattle.sg_node.specs.declared.sessions.Live.TheVariants.{AtTurn}
-use Rattle.sg_node.specs.Faults.{of_role, refusal}
+use Rattle.sg_node.specs.Faults.{delivery_refusal, role_refusal}
 use Rattle.sg_node.specs.Slots.{held_at, left_after}
 use Rattle.sg_node.specs.Invariant.{IfLive}
 use Rattle.sg_node.proofs.InSlots.{turn_held}
 use Rattle.sg_node.proofs.Memory.{by_session, by_join}
 
--- a refusal of the role is the node's
-pub role_refused : (e : Event) (x : Option Refusal) (r : RoleRefusal) → Refuses x r → IsAnswer (decided e x) (option_map NotDelivered (refusal (of_role r)))
-role_refused e x role.BadFrameTag h = ap (decided e) h
-role_refused e x role.NoSuchView h = ap (decided e) h
-role_refused e x (role.BadTime item got least) h = ap (decided e) h
-role_refused e x (role.BadEvidence item) h = ap (decided e) h
-role_refused e x (role.BadOpening var) h = ap (decided e) h
-role_refused e x role.OutOfMemory h = tt
+-- a refusal of the role is what the node answers
+pub role_refused : (e : Event) (x : Option Refusal) (r : RoleRefusal) (o : Refusal) → Refuses x r → role_refusal r ≡ Some o → decided e x ≡ NotDelivered o
+role_refused e x role.BadFrameTag o h k = ap (decided e) (h ∙ k)
+role_refused e x role.NoSuchView o h k = ap (decided e) (h ∙ k)
+role_refused e x (role.BadTime item got least) o h k = ap (decided e) (h ∙ k)
+role_refused e x (role.BadEvidence item) o h k = ap (decided e) (h ∙ k)
+role_refused e x (role.BadOpening var) o h k = ap (decided e) (h ∙ k)
+role_refused e x role.OutOfMemory o h k = absurd (cc)
 
--- so it is what the node answers
-pub refused_by : (a : Answer) (r : RoleRefusal) (x : NodeRefusal) → x ≡ of_role r → IsAnswer a (option_map NotDelivered (refusal (of_role r))) → IsAnswer a (option_map NotDelivered (refusal x))
-refused_by a r x e h = subst (λ z. IsAnswer a (option_map NotDelivered (refusal z))) (sym e) h
+-- so it is beside the graph, or memory ran out
+pub refused_by : {E : Type 0} (a : Answer) (q : RoleRefusal) (res : Result (Result Receipt DeliveryRefusal) E) → IfOk res (λ r. IsErr r) → MatchResult res (λ r. IfErr r (λ why. role_refusal q ≡ Some (delivery_refusal why))) (λ e. q ≡ role.OutOfMemory)
+    → ((o : Refusal) → role_refusal q ≡ Some o → a ≡ NotDelivered o) → IfOk res (λ r. a ≡ answer_of_delivery r)
+refused_by a q (Ok (Err why)) e m g = g (delivery_refusal why) m
+refused_by a q (Ok (Ok x)) e m g = clash true refl (sym e)
+refused_by a q (Err y) e m g = tt
 
--- the error, or this one
-abbrev pub err_or : {T E : Type 0} → Result T E → E → E
-err_or (Ok x) d = d
-err_or (Err y) d = y
+-- whatever holds if something was received holds of a refusal
+pub never_received : {E : Type 0} (P : Receipt → Type 0) (res : Result (Result Receipt DeliveryRefusal) E) → IfOk res (λ r. IsErr r) → IfOk res (λ r. IfOk r P)
+never_received P (Ok (Err why)) e = tt
+never_received P (Ok (Ok x)) e = clash true refl (sym e)
+never_received P (Err y) e = tt
+
+pub never_taken : {E : Type 0} (P : Type 0) (res : Result (Result Receipt DeliveryRefusal) E) → IfOk res (λ r. IsErr r) → IfOk res (λ r. OnOk r P)
+never_taken P (Ok (Err why)) e = tt
+never_taken P (Ok (Ok x)) e = clash true refl (sym e)
+never_taken P (Err y) e = tt
+
+-- whatever holds holds after a refusal
+pub all_refused : {A B E : Type 0} (P : Type 0) (res : Result (Result A B) E) → P → IfOk res (λ r. OnErr r P)
+all_refused P (Ok (Ok x)) p = tt
+all_refused P (Ok (Err why)) p = p
+all_refused P (Err y) p = tt
+
+-- want of memory was the role's
+pub if_memory : {E : Type 0} (P : Type 0) (q : RoleRefusal) (res : Result (Result Receipt DeliveryRefusal) E) → IfOk res (λ r. IsErr r) → MatchResult res (λ r. IfErr r (λ why. role_refusal q ≡ Some (delivery_refusal why))) (λ e. q ≡ role.OutOfMemory)
+    → (q ≡ role.OutOfMemory → P) → OnErr res P
+if_memory P q (Ok x) e m g = tt
+if_memory P q (Err y) e m g = g m
+
+-- a refusal is no want of memory, so the role's wasn't
+pub not_memory : {E : Type 0} (P : Type 0) (q : RoleRefusal) (res : Result (Result Receipt DeliveryRefusal) E) → IfOk res (λ r. IsErr r) → MatchResult res (λ r. IfErr r (λ why. role_refusal q ≡ Some (delivery_refusal why))) (λ e. q ≡ role.OutOfMemory)
+    → (q ≢ role.OutOfMemory → P) → OnOk res P
+not_memory P q (Ok (Err why)) e m g = g (λ w. let z : None ≡ Some (delivery_refusal why) = ap role_refusal (sym w) ∙ m in cc)
+not_memory P q (Ok (Ok x)) e m g = clash true refl (sym e)
+not_memory P q (Err y) e m g = tt
+
+-- the graph beside it is that of the session, if it names a variable
+pub same_graph : {E : Type 0} (res : Result (Result Receipt DeliveryRefusal) E) (g h : Option Graph) → IfOk res (λ r. graph_of_delivery r ≡ graph_named (answer_of_delivery r) g) → g ≡ h → IfOk res (λ r. graph_of_delivery r ≡ graph_named (answer_of_delivery r) h)
+same_graph (Ok r) g h k e = k ∙ ap (graph_named (answer_of_delivery r)) e
+same_graph (Err y) g h k e = tt
 
 -- ---- what a call gives that does not fail
 
@@ -57,20 +90,29 @@ pub in_ok : {T E : Type 0} (P : Type 0) (r : Result T E) → P → OnOk r P
 in_ok P (Ok x) p = p
 in_ok P (Err y) p = tt
 
-pub not_err : {T E : Type 0} (P : Type 0) (r : Result T E) → IsOk r → OnErr r P
-not_err P (Ok x) k = tt
-not_err P (Err y) k = clash true refl (sym k)
+pub in_err : {T E : Type 0} (P : Type 0) (r : Result T E) → P → OnErr r P
+in_err P (Ok x) p = tt
+in_err P (Err y) p = p
 
-pub no_err : {T E B : Type 0} (r : Result T E) (y : E) → IsOk r → r ≡ Err y → B
-no_err r y k e = clash (is_ok r) k (ap is_ok e)
+pub on_ok : {T E : Type 0} (P Q : Type 0) (r : Result T E) → (P → Q) → OnOk r P → OnOk r Q
+on_ok P Q (Ok x) f h = f h
+on_ok P Q (Err y) f h = tt
+
+pub no_ok : {T E : Type 0} (P : Type 0) (r : Result T E) → is_ok r ≡ false → OnOk r P
+no_ok P (Ok x) k = clash true refl k
+no_ok P (Err y) k = tt
+
+pub no_err : {T E : Type 0} (P : Type 0) (r : Result T E) → is_ok r ≡ true → OnErr r P
+no_err P (Ok x) k = tt
+no_err P (Err y) k = clash true refl (sym k)
+
+pub err_gives : {T E : Type 0} (P : Type 0) (r : Result T E) → is_ok r ≡ false → OnErr r P → P
+err_gives P (Ok x) k p = clash true refl k
+err_gives P (Err y) k p = p
 
 pub ok_gives : {T E : Type 0} (P : Type 0) (r : Result T E) → IsOk r → OnOk r P → P
 ok_gives P (Ok x) k p = p
 ok_gives P (Err y) k p = clash true refl (sym k)
-
-pub received : (a : Answer) (e : Event) (r : Result WalkEvent NodeRefusal) → IsOk r → IfOk r (λ x. event_of x ≡ e) → a ≡ Happened e → IsAnswer a (delivery_answer r)
-received a e (Ok x) k h q = q ∙ ap Happened (sym h)
-received a e (Err y) k h q = clash true refl (sym k)
 
 -- ---- notes
 
@@ -131,7 +173,7 @@ module _ (m : Node) (f : Frame) where
       pub next_rows_waiting : at_turn p.graph s ≡ false → first_some (rows real m f) ≡ first_some (rows_of_session real m.keys p s f)
       next_rows_waiting t = ap first_some next_rows_are ∙ ap (λ b. first_some (row b NotWaiting ∷ rows_of_session real m.keys p s f)) t
 
-      session_is : session_of_frame m f ≡ Some (p, s)
+      pub session_is : session_of_frame m f ≡ Some (p, s)
       session_is =
           ap (λ (o : Option Cast). option_and_then (λ (s : Session). option_map (λ (p : Program). (p, s)) (program_for m.programs (s.cast).graph s.role)) (option_map_or (λ c. Some (new_session f.sid c f.receiver)) o (session_for m.live f))) j
           ∙ ap (λ (o : Option Session). option_and_then (λ (s : Session). option_map (λ (p : Program). (p, s)) (program_for m.programs (s.cast).graph s.role)) o) e
@@ -203,7 +245,7 @@ module _ (m : Node) (f : Frame) where
           pub joining_rows : first_some (rows real m f) ≡ first_some (obstacle_rows (has_joined m.joins f.sid f.receiver) (nat_le 65536 (length m.joins)) (nat_le 4096 (length m.live)))
           joining_rows = known_rows ∙ ap (λ b. first_some (later_rows b)) b
 
-      join_session_is : session_of_frame m f ≡ option_map (λ (p : Program). (p, new_session f.sid c f.receiver)) (program_for m.programs c.graph f.receiver)
+      pub join_session_is : session_of_frame m f ≡ option_map (λ (p : Program). (p, new_session f.sid c f.receiver)) (program_for m.programs c.graph f.receiver)
       join_session_is = ap (λ (o : Option Cast). option_and_then (λ (s : Session). option_map (λ (p : Program). (p, s)) (program_for m.programs (s.cast).graph s.role)) (option_map_or (λ c. Some (new_session f.sid c f.receiver)) o (session_for m.live f))) j
 
       -- the session text, and what is noted of the session

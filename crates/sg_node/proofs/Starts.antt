@@ -1,5 +1,5 @@
 -- What a node answers to a start, and what is live after it.
-use Rattle.std.specs.Prelude.{◌≡◌, ℕ, nat_le, not, Bool, true, false, if◌then◌else◌, List, [], ◌∷◌, ◌++◌, length, refl, Option, Some, None, option_map, option_and_then}
+use Rattle.std.specs.Prelude.{◌≡◌, ℕ, nat_le, not, Bool, true, false, if◌then◌else◌, List, [], ◌∷◌, ◌++◌, length, refl, Option, Some, None, option_map, Result, Ok, Err, IfOk}
 use Rattle.std.specs.Option.{option_map_or}
 use Rattle.std.specs.List.{AllByRecursion}
 use Rattle.std.proofs.Common.{sym, ◌∙◌, ap, subst, append-nil}
@@ -9,7 +9,6 @@ use Rattle.sg_model.specs.Shape.{role_at}
 use Rattle.sg_protocol.specs.Acting.{started, rows_of_start, answer_start}
 use Rattle.sg_protocol.specs.Calls.{Answer, Start, Started, Happened, NotStarted, UnknownGraph, BadCast, UnknownPeer, Joined, CacheFull, SessionsFull}
 use Rattle.sg_protocol.specs.Frame.{Cast}
-use Rattle.sg_protocol.specs.Graph.{shape}
 use Rattle.sg_protocol.specs.IsSchedule.{IsProgram}
 use Rattle.sg_protocol.specs.Keyring.{Program, may_return}
 use Rattle.sg_protocol.specs.Node.{Node, starter, program_for, is_cast, stranger, has_joined}
@@ -24,13 +23,18 @@ use Rattle.sg_protocol.proofs.RealHash.{real_hash}
 use Rattle.sg_role.specs.Accepting.{goes_on}
 use Rattle.sg_role.specs.Sending.{with_notes}
 use Rattle.sg_role.specs.Model.{RoleState}
-use Rattle.sg_node.specs.Answers.{IsAnswer, may_take_memory}
+use Rattle.sg_protocol.specs.Graph.{Graph, shape}
+use Rattle.sg_protocol.specs.Session.{Session, new_session}
+use Rattle.sg_protocol.specs.Named.{graph_of_call}
+use Rattle.sg_node.specs.declared.answer.Happened.{Happened as Begun}
+use Rattle.sg_node.specs.declared.refusal.StartRefusal.{StartRefusal}
+use Rattle.sg_node.specs.Answers.{answer_of_start, graph_named, graph_of_start, may_take_memory}
 use Rattle.sg_node.specs.declared.join.Obstacle.{Obstacle}
 use Rattle.sg_node.specs.declared.join.Obstacle.TheVariants as Why
 use Rattle.sg_node.specs.declared.node.Node.TheInside.{Inside}
 use Rattle.sg_node.specs.declared.sessions.Live.TheVariants.{AtTurn}
-use Rattle.sg_node.specs.Faults.{start_fault}
-use Rattle.sg_node.specs.Joining.{obstacle_to, fault_for}
+use Rattle.sg_node.specs.Faults.{start_refusal}
+use Rattle.sg_node.specs.Joining.{obstacle_to, start_refusal_for}
 use Rattle.sg_node.specs.Slots.{held_in}
 use Rattle.sg_node.specs.Invariant.{IsSlot, HoldsNode, node_state}
 use Rattle.sg_node.proofs.Joined.{as_many, held_more, slots_more, rows_of_obstacles, start_goes_on}
@@ -57,13 +61,22 @@ module _ (m : Node) (c : Cast) where
     no_key f name g = by_rows ∙ ap (λ b. by_test b (stranger m.keys c)) f ∙ ap (by_test true) g
 
     by_obstacles : is_cast m.keys p.graph c p.role ≡ true → stranger m.keys c ≡ None →
-        answer_start real m c ≡ started (session_id real c) p.role (option_and_then (λ o. start_fault (fault_for o)) (obstacle_to m.joins (length m.live) (session_id real c) p.role))
+        answer_start real m c ≡ started (session_id real c) p.role (option_map (λ o. start_refusal (start_refusal_for o)) (obstacle_to m.joins (length m.live) (session_id real c) p.role))
     by_obstacles f g = by_rows ∙ ap (λ b. by_test b (stranger m.keys c)) f ∙ ap (by_test true) g
         ∙ ap (started (session_id real c) p.role) (rows_of_obstacles (has_joined m.joins (session_id real c) p.role) (nat_le 65536 (length m.joins)) (nat_le 4096 (length m.live)))
 
     -- once the graph, the cast and the keys are right, memory may be taken
     pub start_may : is_cast m.keys p.graph c p.role ≡ true → stranger m.keys c ≡ None → may_take_memory (answer_start real m c) ≡ true
     start_may f g = ap may_take_memory (by_obstacles f g) ∙ started_may (session_id real c) p.role (obstacle_to m.joins (length m.live) (session_id real c) p.role)
+
+-- the graph of a start is that of its program
+pub start_graph : (n : Node) (c : Cast) (p : Program) → starter n.programs c.graph ≡ Some p → graph_of_call real n (Start c) ≡ Some p.graph
+start_graph n c p e = ap (λ (o : Option Program). option_map (λ (x : Program × Session). x.0.graph) (option_map (λ (p : Program). (p, new_session (session_id real c) c p.role)) o)) e
+
+-- a start by this graph, which is that of its call
+pub same_graph : {E : Type 0} (r : Result (Result Begun StartRefusal) E) (g h : Option Graph) → IfOk r (λ r. graph_of_start r ≡ graph_named (answer_of_start r) g) → g ≡ h → IfOk r (λ r. graph_of_start r ≡ graph_named (answer_of_start r) h)
+same_graph (Ok r) g h k e = k ∙ ap (graph_named (answer_of_start r)) e
+same_graph (Err y) g h k e = tt
 
 -- what is noted of a start that comes to the test of the joins
 abbrev pub text_noted : Cast → Notes
@@ -74,26 +87,26 @@ with_text n c = λ i. record { made = sym (append-nil n.made) i; found = sym (ap
 
 module _ (n : Inside) (m : Node) (st : RepresentsNode (node_state n) m) (c : Cast) (p : Program)
     (e : starter n.programs.now c.graph ≡ Some p) (f : is_cast n.keys p.graph c p.role ≡ true) (g : stranger n.keys c ≡ None) where
-  pub by_state : answer_start real m c ≡ started (session_id real c) p.role (option_and_then (λ o. start_fault (fault_for o)) (obstacle_to n.joins.pairs (length (held_in n.sessions.slots)) (session_id real c) p.role))
+  pub by_state : answer_start real m c ≡ started (session_id real c) p.role (option_map (λ o. start_refusal (start_refusal_for o)) (obstacle_to n.joins.pairs (length (held_in n.sessions.slots)) (session_id real c) p.role))
   by_state =
       by_obstacles m c p (subst (λ ps. starter ps c.graph ≡ Some p) st.programs e) (subst (λ k. is_cast k p.graph c p.role ≡ true) st.keys f) (subst (λ k. stranger k c ≡ None) st.keys g)
-      ∙ ap (λ js. started (session_id real c) p.role (option_and_then (λ o. start_fault (fault_for o)) (obstacle_to js (length m.live) (session_id real c) p.role))) (sym st.joins)
-      ∙ ap (λ k. started (session_id real c) p.role (option_and_then (λ o. start_fault (fault_for o)) (obstacle_to n.joins.pairs k (session_id real c) p.role))) (sym (as_many m.programs (held_in n.sessions.slots) m.live st.live))
+      ∙ ap (λ js. started (session_id real c) p.role (option_map (λ o. start_refusal (start_refusal_for o)) (obstacle_to js (length m.live) (session_id real c) p.role))) (sym st.joins)
+      ∙ ap (λ k. started (session_id real c) p.role (option_map (λ o. start_refusal (start_refusal_for o)) (obstacle_to n.joins.pairs k (session_id real c) p.role))) (sym (as_many m.programs (held_in n.sessions.slots) m.live st.live))
 
   -- an obstacle stands in the way
   pub hindered : (o : Obstacle) → obstacle_to n.joins.pairs (length (held_in n.sessions.slots)) (session_id real c) p.role ≡ Some o →
-      IsAnswer (answer_start real m c) (option_map NotStarted (start_fault (fault_for o))) × (notes_of_start c (answer_start real m c) ≡ text_noted c) × (state_after (node_state n) (Start c) (answer_start real m c) ≡ node_state n)
-  hindered o q = go o (by_state ∙ ap (λ o. started (session_id real c) p.role (option_and_then (λ o. start_fault (fault_for o)) o)) q)
+      (answer_start real m c ≡ NotStarted (start_refusal (start_refusal_for o))) × (notes_of_start c (answer_start real m c) ≡ text_noted c) × (state_after (node_state n) (Start c) (answer_start real m c) ≡ node_state n)
+  hindered o q = go o (by_state ∙ ap (λ o. started (session_id real c) p.role (option_map (λ o. start_refusal (start_refusal_for o)) o)) q)
     where
-      go : (o : Obstacle) → answer_start real m c ≡ started (session_id real c) p.role (start_fault (fault_for o)) →
-          IsAnswer (answer_start real m c) (option_map NotStarted (start_fault (fault_for o))) × (notes_of_start c (answer_start real m c) ≡ text_noted c) × (state_after (node_state n) (Start c) (answer_start real m c) ≡ node_state n)
+      go : (o : Obstacle) → answer_start real m c ≡ started (session_id real c) p.role (Some (start_refusal (start_refusal_for o))) →
+          (answer_start real m c ≡ NotStarted (start_refusal (start_refusal_for o))) × (notes_of_start c (answer_start real m c) ≡ text_noted c) × (state_after (node_state n) (Start c) (answer_start real m c) ≡ node_state n)
       go Why.Joined a = (a, ap (notes_of_start c) a, ap (state_after (node_state n) (Start c)) a)
       go Why.Cache a = (a, ap (notes_of_start c) a, ap (state_after (node_state n) (Start c)) a)
       go Why.Sessions a = (a, ap (notes_of_start c) a, ap (state_after (node_state n) (Start c)) a)
 
   -- nothing does
   pub free : obstacle_to n.joins.pairs (length (held_in n.sessions.slots)) (session_id real c) p.role ≡ None → answer_start real m c ≡ Happened (Started (session_id real c) p.role)
-  free q = by_state ∙ ap (λ o. started (session_id real c) p.role (option_and_then (λ o. start_fault (fault_for o)) o)) q
+  free q = by_state ∙ ap (λ o. started (session_id real c) p.role (option_map (λ o. start_refusal (start_refusal_for o)) o)) q
 
 -- ---- what begins
 

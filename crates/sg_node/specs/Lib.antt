@@ -1,6 +1,6 @@
 pub mod Slots
-pub mod Graphs
 pub mod Faults
+pub mod Receipts
 pub mod Joining
 pub mod Answers
 pub mod Invariant

@@ -1,132 +1,127 @@
 //! How a node takes a delivery.
-ghost use Rattle.std.specs.Prelude.{◌≡◌, ◌≢◌, ◌<◌, ◌++◌, ◌&&◌, ◌↔◌, ◌⊎◌, [], ◌∷◌, true, IsTrue, nat_lt, length, slice_get, option_and_then, Ok, Err, None, Some, IfOk, IsErr, IsOk, OnErr, OnOk};
+ghost use Rattle.std.specs.Prelude.{◌≡◌, ◌<◌, ◌++◌, ◌&&◌, ◌↔◌, ◌⊎◌, [], ◌∷◌, true, IsTrue, nat_lt, length, slice_get, option_and_then, option_map, Ok, Err, None, Some, IfErr, IfOk, IsErr, IsOk, OnErr, OnOk, MatchResult};
 ghost use Rattle.std.specs.Option.{option_copied};
 ghost use Rattle.indexmap.specs.IndexMap.{set_value_at};
 ghost use Rattle.sg_model.specs.Limits.{most_frame_bytes};
 ghost use Rattle.sg_protocol.specs.Acting.{answer};
 ghost use Rattle.sg_protocol.specs.Calls.{Deliver};
+ghost use Rattle.sg_protocol.specs.Frame.{Frame};
 ghost use Rattle.sg_protocol.specs.Node.{Node as DefinedNode, program_for, is_cast, stranger};
 ghost use Rattle.sg_protocol.specs.NodeStates.{RepresentsNode, RepresentsPast, state_taking};
-ghost use Rattle.sg_protocol.specs.Notes.{Notes, notes as noted_of, notes_of_read};
+ghost use Rattle.sg_protocol.specs.Notes.{Notes, notes as noted_of, notes_of_read, session_of_frame};
 ghost use Rattle.sg_protocol.specs.Past.{Past, node_of};
 ghost use Rattle.sg_protocol.specs.Reading.{read, read_version};
-ghost use Rattle.sg_protocol.specs.Spelling.{SpellsFrame};
 ghost use Rattle.sg_protocol.specs.Texts.{real, session_id, session_text_of};
+ghost use Rattle.sg_protocol.specs.Named.{graph_of_call};
 ghost use Rattle.sg_protocol.specs.Verdict.{verdict_on};
-ghost use Rattle.sg_walk.specs.Model.{event_of};
 ghost use Rattle.sg_role.specs.Sending.{with_notes};
-ghost use Rattle.sg_node.specs.Answers.{IsAnswer, delivery_answer, GoesOn, may_take_memory};
+ghost use Rattle.sg_role.specs.declared.fault.Refusal.TheVariants as role;
+ghost use Rattle.sg_node.specs.Answers.{GoesOn, answer_of_delivery, graph_named, graph_of_delivery, may_take_memory};
+ghost use Rattle.sg_node.specs.Faults.{delivery_refusal, role_refusal};
 ghost use Rattle.sg_node.specs.Joining.{refusal_for};
+ghost use Rattle.sg_node.specs.Receipts.{IsReceiptAt};
 ghost use Rattle.sg_node.specs.Slots.{left_after};
 ghost use Rattle.sg_node.specs.declared.sessions.Live.TheVariants.{Waiting};
 
 use crate::cast::{is_cast, program_for};
-use crate::fault::refused;
 use crate::join::{Obstacle, first_obstacle, join_session, make_room, note_session};
 use crate::sessions::{Live, Sessions};
-use crate::{Node, Refusal};
-use sg_base::{Sid, facts_of_bytes};
-use sg_crypt::{Cast, Notes, session_id};
-use sg_frame::{DecodeFault, Frame, decode};
+use crate::{DeliveryRefusal, Node, Receipt};
+use sg_base::{OutOfMemory, Sid, facts_of_bytes};
+use sg_crypt::{Cast, Notes, SharedCast, session_id};
+use sg_frame::{DecodeFault, Frame, ReadFrame};
+use sg_graph::Graph;
 use sg_keys::Keyring;
 use sg_program::{Program, Programs};
 use sg_role::{Accepted, Before, TurnOrDone, examine};
-use sg_walk::Event;
+use std::alloc::AllocError;
 
 impl<'p> Node<'p> {
     /// Takes bytes that were delivered: the receipt of the frame that they spell, in the session that it continues or joins, or the
-    /// first cause for which it is refused. After a refusal the node is as before. Too many bytes and a wrong beginning are refused
-    /// without memory.
-    pub fn deliver(&mut self, bytes: &[u8], notes: &mut Notes) -> Result<Event, Refusal>
-        ensures answer { (past : Past) → RepresentsPast self.old past → IsAnswer (answer real (node_of past) (Deliver bytes.now)) (delivery_answer result) }
-        ensures state { (past : Past) → RepresentsPast self.old past → result ≢ Err Refusal.OutOfMemory → GoesOn self.old self.new (Deliver bytes.now) past }
-        ensures notes { (past : Past) → RepresentsPast self.old past → result ≢ Err Refusal.OutOfMemory
-            → notes.new ≡ with_notes notes.old (noted_of real (node_of past) (Deliver bytes.now)) }
-        ensures back { OnErr result (self.new ≡ self.old) }
-        ensures memory { result ≡ Err Refusal.OutOfMemory → notes.new ≡ notes.old }
-        // Memory runs out neither for too many bytes nor for a wrong beginning.
-        ensures early { (most_frame_bytes < length bytes.now) ⊎ IsErr (read_version 0 bytes.now) → result ≢ Err Refusal.OutOfMemory }
+    /// first cause for which it is refused. After a refusal the node is as before, and if memory runs out the notes are too. The bytes are
+    /// read once. Too many bytes, a wrong beginning, an unknown graph, a bad cast, an unknown peer, an unknown session and a session at its
+    /// turn are refused without memory.
+    pub fn receive(
+        &mut self,
+        bytes: &[u8],
+        notes: &mut Notes,
+    ) -> Result<Result<Receipt<'p>, DeliveryRefusal<'p>>, OutOfMemory>
+        ensures answer { (past : Past) → RepresentsPast self.old past → IfOk result (λ r. answer real (node_of past) (Deliver bytes.now) ≡ answer_of_delivery r) }
+        // By the graph of its session, if it names a role, a label or a variable.
+        ensures graph { (past : Past) → RepresentsPast self.old past
+            → IfOk result (λ r. graph_of_delivery r ≡ graph_named (answer_of_delivery r) (graph_of_call real (node_of past) (Deliver bytes.now))) }
+        // What was received is the view that the frame shows in its session.
+        ensures shown { (past : Past) (f : Frame) → RepresentsPast self.old past → read bytes.now ≡ Ok f → IfOk result (λ r. IfOk r (λ x. IsReceiptAt (node_of past) f x × (x.cast ≡ f.join))) }
+        ensures state { (past : Past) → RepresentsPast self.old past → OnOk result (GoesOn self.old self.new (Deliver bytes.now) past) }
+        ensures notes { (past : Past) → RepresentsPast self.old past → OnOk result (notes.new ≡ with_notes notes.old (noted_of real (node_of past) (Deliver bytes.now))) }
+        ensures refused { IfOk result (λ r. OnErr r (self.new ≡ self.old)) }
+        ensures memory { OnErr result ((self.new ≡ self.old) × (notes.new ≡ notes.old)) }
+        // Memory runs out neither for too many bytes, nor for a wrong beginning, nor for what needs none.
+        ensures early { (most_frame_bytes < length bytes.now) ⊎ IsErr (read_version 0 bytes.now) → IsOk result }
+        ensures needed { (past : Past) (f : Frame) → RepresentsPast self.old past → read bytes.now ≡ Ok f → OnErr result (may_take_memory (answer real (node_of past) (Deliver bytes.now)) ≡ true) }
     {
         facts_of_bytes(bytes);
-        match decode(self.alloc, bytes) {
-            Ok(frame) => self.deliver_frame(&frame, bytes, notes),
-            Err(DecodeFault::Malformed { at }) => Err(Refusal::Malformed { at }),
-            Err(DecodeFault::OutOfMemory) => Err(Refusal::OutOfMemory),
+        match ReadFrame::new(self.alloc, bytes) {
+            Ok(read) => self.take_frame(&read, notes),
+            Err(DecodeFault::Malformed { at }) => Ok(Err(DeliveryRefusal::Malformed { at })),
+            Err(DecodeFault::OutOfMemory) => Err(AllocError),
         }
     }
 
-    /// Takes bytes that were delivered, of which the frame that they spell was read before. The result is that of `deliver`; after
-    /// a refusal the node is as before. An unknown graph, a bad cast, an unknown peer, an unknown session and a session at its turn are
-    /// refused without memory.
-    pub fn deliver_frame(
-        &mut self,
-        frame: &Frame,
-        bytes: &[u8],
-        notes: &mut Notes,
-    ) -> Result<Event, Refusal>
-        requires spelled { SpellsFrame bytes.now frame.now }
-        requires read { read bytes.now ≡ Ok frame.now }
-        ensures answer { (past : Past) → RepresentsPast self.old past → IsAnswer (answer real (node_of past) (Deliver bytes.now)) (delivery_answer result) }
-        ensures state { (past : Past) → RepresentsPast self.old past → result ≢ Err Refusal.OutOfMemory → GoesOn self.old self.new (Deliver bytes.now) past }
-        ensures notes { (past : Past) → RepresentsPast self.old past → result ≢ Err Refusal.OutOfMemory
-            → notes.new ≡ with_notes notes.old (noted_of real (node_of past) (Deliver bytes.now)) }
-        ensures back { OnErr result (self.new ≡ self.old) }
-        ensures memory { result ≡ Err Refusal.OutOfMemory → notes.new ≡ notes.old }
-        // Memory never runs out for an unknown graph, a bad cast, an unknown peer, an unknown session, or a session that doesn't wait.
-        ensures early { (past : Past) → RepresentsPast self.old past → result ≡ Err Refusal.OutOfMemory
-            → may_take_memory (answer real (node_of past) (Deliver bytes.now)) ≡ true }
-    {
-        facts_of_bytes(bytes);
-        let _programs = self.programs;
-        self.receive(frame, bytes, notes)
-    }
-
     // Takes a frame.
-    fn receive(&mut self, frame: &Frame, bytes: &[u8], notes: &mut Notes) -> Result<Event, Refusal>
-        requires { SpellsFrame bytes.now frame.now }
-        ensures answer { (n : DefinedNode) → RepresentsNode self.old n → IsAnswer (verdict_on real n (Ok frame.now)) (delivery_answer result) }
-        ensures taken { OnOk result (self.new ≡ state_taking self.old (Ok frame.now)) }
-        ensures back { OnErr result (self.new ≡ self.old) }
-        ensures notes { (n : DefinedNode) → RepresentsNode self.old n → result ≢ Err Refusal.OutOfMemory
-            → notes.new ≡ with_notes notes.old (notes_of_read real n (Ok frame.now)) }
-        ensures memory { result ≡ Err Refusal.OutOfMemory → notes.new ≡ notes.old }
-        ensures early { (n : DefinedNode) → RepresentsNode self.old n → result ≡ Err Refusal.OutOfMemory → may_take_memory (verdict_on real n (Ok frame.now)) ≡ true }
+    fn take_frame(
+        &mut self,
+        read: &ReadFrame<'_>,
+        notes: &mut Notes,
+    ) -> Result<Result<Receipt<'p>, DeliveryRefusal<'p>>, OutOfMemory>
+        ensures answer { (n : DefinedNode) → RepresentsNode self.old n → IfOk result (λ r. verdict_on real n (Ok read.now.frame) ≡ answer_of_delivery r) }
+        ensures graph { (n : DefinedNode) → RepresentsNode self.old n
+            → IfOk result (λ r. graph_of_delivery r ≡ graph_named (answer_of_delivery r) (option_map (λ x. x.0.graph) (session_of_frame n read.now.frame))) }
+        ensures shown { (n : DefinedNode) → RepresentsNode self.old n → IfOk result (λ r. IfOk r (λ x. IsReceiptAt n read.now.frame x × (x.cast ≡ read.now.frame.join))) }
+        ensures taken { IfOk result (λ r. OnOk r (self.new ≡ state_taking self.old (Ok read.now.frame))) }
+        ensures refused { IfOk result (λ r. OnErr r (self.new ≡ self.old)) }
+        ensures notes { (n : DefinedNode) → RepresentsNode self.old n → OnOk result (notes.new ≡ with_notes notes.old (notes_of_read real n (Ok read.now.frame))) }
+        ensures memory { OnErr result ((self.new ≡ self.old) × (notes.new ≡ notes.old)) }
+        ensures early { (n : DefinedNode) → RepresentsNode self.old n → OnErr result (may_take_memory (verdict_on real n (Ok read.now.frame)) ≡ true) }
     {
-        match &frame.join {
-            Some(cast) => self.join(frame, *cast.get(), bytes, notes),
-            None => self.continue_session(frame, bytes, notes),
+        match &read.frame().join {
+            Some(cast) => self.join(read, *cast.get(), notes),
+            None => self.continue_session(read, notes),
         }
     }
 
     // Takes a frame that continues a session.
     fn continue_session(
         &mut self,
-        frame: &Frame,
-        bytes: &[u8],
+        read: &ReadFrame<'_>,
         notes: &mut Notes,
-    ) -> Result<Event, Refusal>
-        requires spelled { SpellsFrame bytes.now frame.now }
-        requires continues { frame.now.join ≡ None }
-        ensures answer { (n : DefinedNode) → RepresentsNode self.old n → IsAnswer (verdict_on real n (Ok frame.now)) (delivery_answer result) }
-        ensures taken { OnOk result (self.new ≡ state_taking self.old (Ok frame.now)) }
-        ensures back { OnErr result (self.new ≡ self.old) }
-        ensures notes { (n : DefinedNode) → RepresentsNode self.old n → result ≢ Err Refusal.OutOfMemory
-            → notes.new ≡ with_notes notes.old (notes_of_read real n (Ok frame.now)) }
-        ensures memory { result ≡ Err Refusal.OutOfMemory → notes.new ≡ notes.old }
-        ensures early { (n : DefinedNode) → RepresentsNode self.old n → result ≡ Err Refusal.OutOfMemory → may_take_memory (verdict_on real n (Ok frame.now)) ≡ true }
+    ) -> Result<Result<Receipt<'p>, DeliveryRefusal<'p>>, OutOfMemory>
+        requires continues { read.now.frame.join ≡ None }
+        ensures answer { (n : DefinedNode) → RepresentsNode self.old n → IfOk result (λ r. verdict_on real n (Ok read.now.frame) ≡ answer_of_delivery r) }
+        ensures graph { (n : DefinedNode) → RepresentsNode self.old n
+            → IfOk result (λ r. graph_of_delivery r ≡ graph_named (answer_of_delivery r) (option_map (λ x. x.0.graph) (session_of_frame n read.now.frame))) }
+        ensures shown { (n : DefinedNode) → RepresentsNode self.old n → IfOk result (λ r. IfOk r (λ x. IsReceiptAt n read.now.frame x × (x.cast ≡ read.now.frame.join))) }
+        ensures taken { IfOk result (λ r. OnOk r (self.new ≡ state_taking self.old (Ok read.now.frame))) }
+        ensures refused { IfOk result (λ r. OnErr r (self.new ≡ self.old)) }
+        ensures notes { (n : DefinedNode) → RepresentsNode self.old n → OnOk result (notes.new ≡ with_notes notes.old (notes_of_read real n (Ok read.now.frame))) }
+        ensures memory { OnErr result ((self.new ≡ self.old) × (notes.new ≡ notes.old)) }
+        ensures early { (n : DefinedNode) → RepresentsNode self.old n → OnErr result (may_take_memory (verdict_on real n (Ok read.now.frame)) ≡ true) }
     {
+        let frame = read.frame();
         let Some(index) = self.sessions.find_for(frame) else {
-            return Err(Refusal::UnknownSession);
+            return Ok(Err(DeliveryRefusal::UnknownSession));
         };
+        let alloc = self.alloc;
         match self.sessions.get(index) {
             Some(Live::Waiting(wait)) => {
                 let kept = wait.before();
-                match examine(self.alloc, kept, &self.keys, frame, bytes, notes) {
-                    Ok(accepted) => take(&mut self.sessions, index, accepted),
-                    Err(refusal) => Err(refused(refusal)),
+                let graph = kept.program().graph();
+                match examine(alloc, kept, &self.keys, frame, read.bytes(), notes) {
+                    Ok(accepted) => Ok(Ok(take(&mut self.sessions, index, accepted))),
+                    Err(refusal) => refused(refusal, graph),
                 }
             }
-            Some(Live::AtTurn(_turn)) => Err(Refusal::NotWaiting),
+            Some(Live::AtTurn(_turn)) => Ok(Err(DeliveryRefusal::NotWaiting)),
             None => unreachable!(),
         }
     }
@@ -134,61 +129,60 @@ impl<'p> Node<'p> {
     // Takes a frame that joins.
     fn join(
         &mut self,
-        frame: &Frame,
+        read: &ReadFrame<'_>,
         cast: Cast,
-        bytes: &[u8],
         notes: &mut Notes,
-    ) -> Result<Event, Refusal>
-        requires spelled { SpellsFrame bytes.now frame.now }
-        requires joins { frame.now.join ≡ Some cast }
-        ensures answer { (n : DefinedNode) → RepresentsNode self.old n → IsAnswer (verdict_on real n (Ok frame.now)) (delivery_answer result) }
-        ensures taken { OnOk result (self.new ≡ state_taking self.old (Ok frame.now)) }
-        ensures back { OnErr result (self.new ≡ self.old) }
-        ensures notes { (n : DefinedNode) → RepresentsNode self.old n → result ≢ Err Refusal.OutOfMemory
-            → notes.new ≡ with_notes notes.old (notes_of_read real n (Ok frame.now)) }
-        ensures memory { result ≡ Err Refusal.OutOfMemory → notes.new ≡ notes.old }
-        ensures early { (n : DefinedNode) → RepresentsNode self.old n → result ≡ Err Refusal.OutOfMemory → may_take_memory (verdict_on real n (Ok frame.now)) ≡ true }
+    ) -> Result<Result<Receipt<'p>, DeliveryRefusal<'p>>, OutOfMemory>
+        requires joins { read.now.frame.join ≡ Some cast }
+        ensures answer { (n : DefinedNode) → RepresentsNode self.old n → IfOk result (λ r. verdict_on real n (Ok read.now.frame) ≡ answer_of_delivery r) }
+        ensures graph { (n : DefinedNode) → RepresentsNode self.old n
+            → IfOk result (λ r. graph_of_delivery r ≡ graph_named (answer_of_delivery r) (option_map (λ x. x.0.graph) (session_of_frame n read.now.frame))) }
+        ensures shown { (n : DefinedNode) → RepresentsNode self.old n → IfOk result (λ r. IfOk r (λ x. IsReceiptAt n read.now.frame x × (x.cast ≡ read.now.frame.join))) }
+        ensures taken { IfOk result (λ r. OnOk r (self.new ≡ state_taking self.old (Ok read.now.frame))) }
+        ensures refused { IfOk result (λ r. OnErr r (self.new ≡ self.old)) }
+        ensures notes { (n : DefinedNode) → RepresentsNode self.old n → OnOk result (notes.new ≡ with_notes notes.old (notes_of_read real n (Ok read.now.frame))) }
+        ensures memory { OnErr result ((self.new ≡ self.old) × (notes.new ≡ notes.old)) }
+        ensures early { (n : DefinedNode) → RepresentsNode self.old n → OnErr result (may_take_memory (verdict_on real n (Ok read.now.frame)) ≡ true) }
     {
+        let frame = read.frame();
         let Some(program) = program_of(self.programs, &cast, frame) else {
-            return Err(Refusal::UnknownGraph);
+            return Ok(Err(DeliveryRefusal::UnknownGraph));
         };
         if !fits(&self.keys, program, &cast, frame) {
-            return Err(Refusal::BadCast);
+            return Ok(Err(DeliveryRefusal::BadCast));
         }
         if let Some(name) = self.keys.covers(&cast) {
-            return Err(Refusal::UnknownPeer { name });
+            return Ok(Err(DeliveryRefusal::UnknownPeer { name }));
         }
-        self.join_known(program, frame, cast, bytes, notes)
+        self.join_known(program, read, cast, notes)
     }
 
     // Takes a frame that joins, if its cast is right and all keys are there.
     fn join_known(
         &mut self,
         program: &'p Program,
-        frame: &Frame,
+        read: &ReadFrame<'_>,
         cast: Cast,
-        bytes: &[u8],
         notes: &mut Notes,
-    ) -> Result<Event, Refusal>
-        requires spelled { SpellsFrame bytes.now frame.now }
-        requires joins { frame.now.join ≡ Some cast }
-        requires program { program_for self.old.programs cast.graph frame.now.receiver ≡ Some program.now }
-        requires cast { (is_cast self.old.keys program.now.graph cast frame.now.receiver && nat_lt frame.now.sender (length cast.names)) ≡ true }
+    ) -> Result<Result<Receipt<'p>, DeliveryRefusal<'p>>, OutOfMemory>
+        requires joins { read.now.frame.join ≡ Some cast }
+        requires program { program_for self.old.programs cast.graph read.now.frame.receiver ≡ Some program.now }
+        requires cast { (is_cast self.old.keys program.now.graph cast read.now.frame.receiver && nat_lt read.now.frame.sender (length cast.names)) ≡ true }
         requires covered { stranger self.old.keys cast ≡ None }
-        ensures answer { (n : DefinedNode) → RepresentsNode self.old n → IsAnswer (verdict_on real n (Ok frame.now)) (delivery_answer result) }
-        ensures taken { OnOk result (self.new ≡ state_taking self.old (Ok frame.now)) }
-        ensures back { OnErr result (self.new ≡ self.old) }
-        ensures notes { (n : DefinedNode) → RepresentsNode self.old n → result ≢ Err Refusal.OutOfMemory
-            → notes.new ≡ with_notes notes.old (notes_of_read real n (Ok frame.now)) }
-        ensures memory { result ≡ Err Refusal.OutOfMemory → notes.new ≡ notes.old }
+        ensures answer { (n : DefinedNode) → RepresentsNode self.old n → IfOk result (λ r. verdict_on real n (Ok read.now.frame) ≡ answer_of_delivery r) }
+        ensures graph { (n : DefinedNode) → RepresentsNode self.old n
+            → IfOk result (λ r. graph_of_delivery r ≡ graph_named (answer_of_delivery r) (option_map (λ x. x.0.graph) (session_of_frame n read.now.frame))) }
+        ensures shown { (n : DefinedNode) → RepresentsNode self.old n → IfOk result (λ r. IfOk r (λ x. IsReceiptAt n read.now.frame x × (x.cast ≡ read.now.frame.join))) }
+        ensures taken { IfOk result (λ r. OnOk r (self.new ≡ state_taking self.old (Ok read.now.frame))) }
+        ensures refused { IfOk result (λ r. OnErr r (self.new ≡ self.old)) }
+        ensures notes { (n : DefinedNode) → RepresentsNode self.old n → OnOk result (notes.new ≡ with_notes notes.old (notes_of_read real n (Ok read.now.frame))) }
+        ensures memory { OnErr result ((self.new ≡ self.old) × (notes.new ≡ notes.old)) }
     {
         let counts = notes.counts();
         let sid = session_id(&cast);
-        if note_session(self.alloc, &cast, &sid, notes).is_err() {
-            return Err(Refusal::OutOfMemory);
-        }
-        let result = self.join_in(program, frame, cast, sid, bytes, notes);
-        if is_memory(&result) {
+        note_session(self.alloc, &cast, &sid, notes)?;
+        let result = self.join_in(program, read, cast, sid, notes);
+        if result.is_err() {
             notes.keep(counts);
         }
         result
@@ -198,28 +192,30 @@ impl<'p> Node<'p> {
     fn join_in(
         &mut self,
         program: &'p Program,
-        frame: &Frame,
+        read: &ReadFrame<'_>,
         cast: Cast,
         sid: Sid,
-        bytes: &[u8],
         notes: &mut Notes,
-    ) -> Result<Event, Refusal>
-        requires spelled { SpellsFrame bytes.now frame.now }
-        requires joins { frame.now.join ≡ Some cast }
-        requires program { program_for self.old.programs cast.graph frame.now.receiver ≡ Some program.now }
-        requires cast { (is_cast self.old.keys program.now.graph cast frame.now.receiver && nat_lt frame.now.sender (length cast.names)) ≡ true }
+    ) -> Result<Result<Receipt<'p>, DeliveryRefusal<'p>>, OutOfMemory>
+        requires joins { read.now.frame.join ≡ Some cast }
+        requires program { program_for self.old.programs cast.graph read.now.frame.receiver ≡ Some program.now }
+        requires cast { (is_cast self.old.keys program.now.graph cast read.now.frame.receiver && nat_lt read.now.frame.sender (length cast.names)) ≡ true }
         requires covered { stranger self.old.keys cast ≡ None }
         requires session { sid ≡ session_id real cast }
-        ensures answer { (n : DefinedNode) → RepresentsNode self.old n → IsAnswer (verdict_on real n (Ok frame.now)) (delivery_answer result) }
-        ensures taken { OnOk result (self.new ≡ state_taking self.old (Ok frame.now)) }
-        ensures back { OnErr result (self.new ≡ self.old) }
+        ensures answer { (n : DefinedNode) → RepresentsNode self.old n → IfOk result (λ r. verdict_on real n (Ok read.now.frame) ≡ answer_of_delivery r) }
+        ensures graph { (n : DefinedNode) → RepresentsNode self.old n
+            → IfOk result (λ r. graph_of_delivery r ≡ graph_named (answer_of_delivery r) (option_map (λ x. x.0.graph) (session_of_frame n read.now.frame))) }
+        ensures shown { (n : DefinedNode) → RepresentsNode self.old n → IfOk result (λ r. IfOk r (λ x. IsReceiptAt n read.now.frame x × (x.cast ≡ read.now.frame.join))) }
+        ensures taken { IfOk result (λ r. OnOk r (self.new ≡ state_taking self.old (Ok read.now.frame))) }
+        ensures refused { IfOk result (λ r. OnErr r (self.new ≡ self.old)) }
         ensures notes { (n : DefinedNode) (first : Notes) → RepresentsNode self.old n
-            → notes.old ≡ record first { hashed = first.hashed ++ session_text_of cast ∷ [] } → result ≢ Err Refusal.OutOfMemory
-            → notes.new ≡ with_notes first (notes_of_read real n (Ok frame.now)) }
-        ensures memory { result ≡ Err Refusal.OutOfMemory → notes.new ≡ notes.old }
+            → notes.old ≡ record first { hashed = first.hashed ++ session_text_of cast ∷ [] }
+            → OnOk result (notes.new ≡ with_notes first (notes_of_read real n (Ok read.now.frame))) }
+        ensures memory { OnErr result ((self.new ≡ self.old) × (notes.new ≡ notes.old)) }
     {
+        let frame = read.frame();
         if !is_session(&frame.sid, &sid) {
-            return Err(Refusal::BadSession);
+            return Ok(Err(DeliveryRefusal::BadSession));
         }
         if let Some(obstacle) = first_obstacle(
             &self.joins,
@@ -227,26 +223,54 @@ impl<'p> Node<'p> {
             &frame.sid,
             frame.receiver,
         ) {
-            return Err(refusal_of(obstacle));
+            return Ok(Err(refusal_of(obstacle)));
         }
-        if make_room(&mut self.joins, &mut self.sessions).is_err() {
-            return Err(Refusal::OutOfMemory);
-        }
-        let Ok(before) = Before::with_sid(self.alloc, program, cast, sid) else {
-            return Err(Refusal::OutOfMemory);
-        };
-        match examine(self.alloc, &before, &self.keys, frame, bytes, notes) {
-            Ok(accepted) => join_session(&mut self.joins, &mut self.sessions, before, accepted),
-            Err(refusal) => Err(refused(refusal)),
+        let shared = share(&frame.join)?;
+        make_room(&mut self.joins, &mut self.sessions)?;
+        let before = Before::with_sid(self.alloc, program, cast, sid)?;
+        match examine(self.alloc, &before, &self.keys, frame, read.bytes(), notes) {
+            Ok(accepted) => Ok(Ok(join_session(
+                &mut self.joins,
+                &mut self.sessions,
+                before,
+                accepted,
+                shared,
+            ))),
+            Err(refusal) => refused(refusal, program.graph()),
         }
     }
 }
 
-// Memory ran out.
-fn is_memory(taken: &Result<Event, Refusal>) -> bool
-    ensures { IsTrue result ↔ (taken.now ≡ Err Refusal.OutOfMemory) }
+// The same cast, held once more, if there is one.
+fn share(cast: &Option<SharedCast>) -> Result<Option<SharedCast>, OutOfMemory>
+    ensures { IfOk result (λ c. c ≡ cast.now) }
 {
-    matches!(taken, Err(Refusal::OutOfMemory))
+    match cast {
+        Some(cast) => Ok(Some(cast.share()?)),
+        None => Ok(None),
+    }
+}
+
+// What a node answers if the role that waits refuses a frame, in a session of this graph.
+fn refused<'p>(
+    refusal: sg_role::Refusal,
+    graph: &'p Graph,
+) -> Result<Result<Receipt<'p>, DeliveryRefusal<'p>>, OutOfMemory>
+    ensures refused { IfOk result (λ r. IsErr r) }
+    ensures refusal { MatchResult result (λ r. IfErr r (λ why. role_refusal refusal ≡ Some (delivery_refusal why))) (λ e. refusal ≡ role.OutOfMemory) }
+    ensures graph { IfOk result (λ r. graph_of_delivery r ≡ graph_named (answer_of_delivery r) (Some graph.entry.now)) }
+{
+    let why = match refusal {
+        sg_role::Refusal::BadFrameTag => DeliveryRefusal::BadFrameTag,
+        sg_role::Refusal::NoSuchView => DeliveryRefusal::NoSuchView,
+        sg_role::Refusal::BadTime { item, got, least } => {
+            DeliveryRefusal::BadTime { item, got, least }
+        }
+        sg_role::Refusal::BadEvidence { item } => DeliveryRefusal::BadEvidence { item },
+        sg_role::Refusal::BadOpening { var } => DeliveryRefusal::BadOpening { var, graph },
+        sg_role::Refusal::OutOfMemory => return Err(AllocError),
+    };
+    Ok(Err(why))
 }
 
 // The program for the cast's graph and the frame's receiver.
@@ -271,39 +295,34 @@ fn is_session(sid: &Sid, session: &Sid) -> bool
 }
 
 // Takes a frame that was accepted, in the session that waits for it.
-fn take<'p>(
-    sessions: &mut Sessions<'p>,
-    index: usize,
-    accepted: Accepted<'p>,
-) -> Result<Event, Refusal>
+fn take<'p>(sessions: &mut Sessions<'p>, index: usize, accepted: Accepted<'p>) -> Receipt<'p>
     requires within { index < length sessions.old.slots }
     requires waits { option_and_then (λ s. s.1) (slice_get sessions.old.slots index) ≡ Some (Waiting (record { program = accepted.program; held = accepted.before })) }
-    ensures ok { IsOk result }
-    ensures event { IfOk result (λ e. event_of e ≡ accepted.entry.event) }
+    requires view { accepted.view < length accepted.program.views }
+    ensures receipt { result ≡ record { event = accepted.entry.event; program = accepted.entry.program; view = accepted.entry.view; cast = None } }
     ensures slots { sessions.new.slots ≡ set_value_at sessions.old.slots index (left_after accepted.entry) }
 {
+    let program = accepted.program();
+    let view = accepted.view();
     match sessions.take(index) {
         Some(Live::Waiting(wait)) => {
             let (event, taken) = wait.accept_unchecked(accepted);
-            match taken {
-                TurnOrDone::Turn(turn) => {
-                    sessions.put(index, Live::AtTurn(turn));
-                    Ok(event)
-                }
-                TurnOrDone::Done(_done) => Ok(event),
+            if let TurnOrDone::Turn(turn) = taken {
+                sessions.put(index, Live::AtTurn(turn));
             }
+            Receipt::new(event, program, view, None)
         }
         _ => unreachable!(),
     }
 }
 
 // The refusal of a frame whose pair can't be joined.
-fn refusal_of(obstacle: Obstacle) -> Refusal
+fn refusal_of<'p>(obstacle: Obstacle) -> DeliveryRefusal<'p>
     ensures { result ≡ refusal_for obstacle }
 {
     match obstacle {
-        Obstacle::Joined => Refusal::Joined,
-        Obstacle::Cache => Refusal::CacheFull,
-        Obstacle::Sessions => Refusal::SessionsFull,
+        Obstacle::Joined => DeliveryRefusal::Joined,
+        Obstacle::Cache => DeliveryRefusal::CacheFull,
+        Obstacle::Sessions => DeliveryRefusal::SessionsFull,
     }
 }

@@ -1,4 +1,5 @@
 //! Why a node refuses a call.
+use crate::{ActRefusal, DeliveryRefusal, StartRefusal};
 use sg_base::{Name, Time, Var};
 use sg_role::SendFault;
 use thiserror::Error;
@@ -131,19 +132,64 @@ pub enum Refusal {
     OutOfMemory,
 }
 
-// A refusal of the role that waits for the frame is one of the node.
-ghost use Rattle.std.specs.Prelude.{◌≡◌};
-ghost use Rattle.sg_node.specs.Faults.{of_role};
+impl From<StartRefusal> for StartFault {
+    ghost use Rattle.std.specs.Prelude.{◌≡◌, Some};
+    ghost use Rattle.sg_node.specs.Faults.{start_fault, start_refusal};
 
-pub(crate) fn refused(refusal: sg_role::Refusal) -> Refusal
-    ensures { result ≡ of_role refusal }
-{
-    match refusal {
-        sg_role::Refusal::BadFrameTag => Refusal::BadFrameTag,
-        sg_role::Refusal::NoSuchView => Refusal::NoSuchView,
-        sg_role::Refusal::BadTime { item, got, least } => Refusal::BadTime { item, got, least },
-        sg_role::Refusal::BadEvidence { item } => Refusal::BadEvidence { item },
-        sg_role::Refusal::BadOpening { var } => Refusal::BadOpening { var },
-        sg_role::Refusal::OutOfMemory => Refusal::OutOfMemory,
+    ghost from_gives = { λ refusal fault. start_fault fault ≡ Some (start_refusal refusal) };
+
+    fn from(refusal: StartRefusal) -> StartFault {
+        match refusal {
+            StartRefusal::UnknownGraph => StartFault::UnknownGraph,
+            StartRefusal::BadCast => StartFault::BadCast,
+            StartRefusal::UnknownPeer { name } => StartFault::UnknownPeer { name },
+            StartRefusal::Joined => StartFault::Joined,
+            StartRefusal::CacheFull => StartFault::CacheFull,
+            StartRefusal::SessionsFull => StartFault::SessionsFull,
+        }
+    }
+}
+
+impl<'p> From<ActRefusal<'p>> for ActFault {
+    ghost use Rattle.std.specs.Prelude.{◌≡◌, Some};
+    ghost use Rattle.sg_node.specs.Faults.{act_fault, act_refusal};
+
+    ghost from_gives = { λ refusal fault. act_fault fault ≡ Some (act_refusal refusal) };
+
+    fn from(refusal: ActRefusal<'p>) -> ActFault {
+        match refusal {
+            ActRefusal::UnknownSession => ActFault::UnknownSession,
+            ActRefusal::NotYourTurn => ActFault::NotYourTurn,
+            ActRefusal::NoSuchLabel => ActFault::Send(SendFault::NoSuchLabel),
+            ActRefusal::BadValues { var, .. } => ActFault::Send(SendFault::BadValues { var }),
+            ActRefusal::TimeSpent => ActFault::Send(SendFault::TimeSpent),
+        }
+    }
+}
+
+impl<'p> From<DeliveryRefusal<'p>> for Refusal {
+    ghost use Rattle.std.specs.Prelude.{◌≡◌, Some};
+    ghost use Rattle.sg_node.specs.Faults.{delivery_refusal, refusal};
+
+    ghost from_gives = { λ why fault. refusal fault ≡ Some (delivery_refusal why) };
+
+    fn from(refusal: DeliveryRefusal<'p>) -> Refusal {
+        match refusal {
+            DeliveryRefusal::Malformed { at } => Refusal::Malformed { at },
+            DeliveryRefusal::UnknownGraph => Refusal::UnknownGraph,
+            DeliveryRefusal::BadCast => Refusal::BadCast,
+            DeliveryRefusal::UnknownPeer { name } => Refusal::UnknownPeer { name },
+            DeliveryRefusal::BadSession => Refusal::BadSession,
+            DeliveryRefusal::Joined => Refusal::Joined,
+            DeliveryRefusal::CacheFull => Refusal::CacheFull,
+            DeliveryRefusal::SessionsFull => Refusal::SessionsFull,
+            DeliveryRefusal::UnknownSession => Refusal::UnknownSession,
+            DeliveryRefusal::NotWaiting => Refusal::NotWaiting,
+            DeliveryRefusal::BadFrameTag => Refusal::BadFrameTag,
+            DeliveryRefusal::NoSuchView => Refusal::NoSuchView,
+            DeliveryRefusal::BadTime { item, got, least } => Refusal::BadTime { item, got, least },
+            DeliveryRefusal::BadEvidence { item } => Refusal::BadEvidence { item },
+            DeliveryRefusal::BadOpening { var, .. } => Refusal::BadOpening { var },
+        }
     }
 }

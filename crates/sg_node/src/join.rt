@@ -1,5 +1,5 @@
 //! What a node looks at before it joins a session, and how it joins.
-ghost use Rattle.std.specs.Prelude.{◌≡◌, ◌≢◌, ◌<◌, ◌++◌, [], ◌∷◌, length, map, None, Some, Contains, IfSome, IsSome, IfOk, IsOk, OnOk, OnErr};
+ghost use Rattle.std.specs.Prelude.{◌≡◌, ◌≢◌, ◌<◌, ◌++◌, [], ◌∷◌, length, map, None, Some, Contains, IfSome, IsSome, OnOk, OnErr};
 ghost use Rattle.sg_model.specs.Limits.{most_joins};
 ghost use Rattle.sg_model.specs.Shape.{role_at};
 ghost use Rattle.sg_protocol.specs.Graph.{shape};
@@ -11,11 +11,11 @@ ghost use Rattle.sg_node.specs.Slots.{held_in, left_after, slot_of};
 ghost use Rattle.sg_node.specs.Joining.{obstacle_to};
 ghost use Rattle.sg_node.specs.declared.sessions.Live.TheVariants.{AtTurn};
 
-use crate::Refusal;
+use crate::Receipt;
 use crate::sessions::{Live, Sessions};
 use sg_base::{OutOfMemory, Role, Sid};
 use sg_cache::{Cache, Ticket};
-use sg_crypt::{Cast, Hashed, Notes, session_text};
+use sg_crypt::{Cast, Hashed, Notes, SharedCast, session_text};
 use sg_role::{Accepted, Await, Before, Turn, TurnOrDone};
 use sg_walk::Event;
 use std::alloc::Global;
@@ -111,15 +111,16 @@ pub(crate) fn begin_session<'p>(joins: &mut Cache, sessions: &mut Sessions<'p>, 
     }
 }
 
-/// Joins a session by a frame that was accepted, in a role that does not start its graph and has done nothing. Room was made, so it
-/// takes no memory.
+/// Joins a session by a frame with this cast that was accepted, in a role that does not start its graph and has done nothing. Room was
+/// made, so it takes no memory.
 #[inline(never)]
 pub(crate) fn join_session<'p>(
     joins: &mut Cache,
     sessions: &mut Sessions<'p>,
     before: Before<'p>,
     accepted: Accepted<'p>,
-) -> Result<Event, Refusal>
+    cast: Option<SharedCast>,
+) -> Receipt<'p>
     requires absent { ¬ Contains joins.old.pairs (before.held.sid, before.held.role) }
     requires count { length joins.old.pairs < most_joins }
     requires room { 0 < joins.old.spare }
@@ -129,13 +130,15 @@ pub(crate) fn join_session<'p>(
     requires waits { role_at (shape before.program.graph) 0 ≢ before.held.role }
     requires origin { before.held.kept.origin ≡ None }
     requires accepted { accepted.before ≡ before.held }
-    ensures ok { IsOk result }
-    ensures event { IfOk result (λ e. event_of e ≡ accepted.entry.event) }
+    requires view { accepted.view < length accepted.program.views }
+    ensures receipt { result ≡ record { event = accepted.entry.event; program = accepted.entry.program; view = accepted.entry.view; cast = cast } }
     ensures joins { joins.new.pairs ≡ joins.old.pairs ++ (before.entry.held.sid, before.entry.held.role) ∷ [] }
     ensures slots { sessions.new.slots ≡ sessions.old.slots ++ slot_of (before.entry.held.sid, before.entry.held.role) (left_after accepted.entry) }
 {
     let sid = before.sid();
     let role = before.role();
+    let program = accepted.program();
+    let view = accepted.view();
     let ticket = claim(joins, sid, role);
     let Some((event, taken)) = first_receipt(ticket, before, accepted) else {
         unreachable!();
@@ -143,7 +146,7 @@ pub(crate) fn join_session<'p>(
     if let TurnOrDone::Turn(turn) = taken {
         sessions.push(sid, role, Live::AtTurn(turn));
     }
-    Ok(event)
+    Receipt::new(event, program, view, cast)
 }
 
 // The first turn of a role that starts its graph and has done nothing. It takes no memory.

@@ -9,10 +9,15 @@
 //! sessions and joins there are. Room in the table, room among the joins and the next state are made before a pair is claimed, and
 //! nothing grows after it. A delivery is looked at in the order of the refusals: nothing is hashed for those that need no hash.
 //!
-//! What an answer names by number has a name in the graph of the call's session, which a node gives for each call before it is made.
+//! `begin`, `send` and `receive` give what a call learnt: the event with the graph of its session, by which its numbers have names; of a
+//! frame also the view that it shows, with a walk that shows it, and the cast with which it joined; and a refusal that names a variable with the graph
+//! that has it. Want of memory is no answer, but the call's error. `start`, `act` and `deliver` are the same calls for who wants the
+//! event alone.
 #![tactic(auto)]
 
 mod act;
+mod answer;
+mod calls;
 mod cast;
 mod deliver;
 mod fault;
@@ -20,8 +25,11 @@ mod graphs;
 mod join;
 pub mod laws;
 mod node;
+mod refusal;
 mod sessions;
 mod start;
 
+pub use answer::{Happened, Receipt};
 pub use fault::{ActFault, Refusal, StartFault, UnknownSession};
 pub use node::Node;
+pub use refusal::{ActRefusal, DeliveryRefusal, StartRefusal};

@@ -1,63 +1,65 @@
-use Rattle.std.proofs.Common.{◌≡◌, ◌++◌, [], ◌∷◌, length, map, true, None, Some, Err, sym, ◌∙◌, ap, subst, Contains}
+use Rattle.std.proofs.Common.{◌≡◌, true, None, Some, sym, ap, subst, rules, arith}
+use Rattle.std.proofs.lemmas.Grind.{common_steps}
 use Rattle.std.specs.List.{AllByRecursion}
-use Rattle.sg_model.specs.Shape.{role_at}
 use Rattle.sg_protocol.specs.Acting.{answer_start}
-use Rattle.sg_protocol.specs.Reachable.{IsReachableBefore}
-use Rattle.sg_protocol.specs.Calls.{Start, Started, Happened}
-use Rattle.sg_protocol.specs.Graph.{shape}
-use Rattle.sg_protocol.specs.Node.{starter, program_for, is_cast, stranger}
-use Rattle.sg_protocol.specs.NodeStates.{NodeState, RepresentsNode, state_after}
-use Rattle.sg_protocol.specs.Notes.{notes_of_start}
-use Rattle.sg_protocol.specs.Texts.{real, session_id}
-use Rattle.sg_role.specs.Model.{RoleState}
-use Rattle.sg_role.specs.Sending.{with_notes}
-use Rattle.sg_node.specs.Answers.{IsAnswer, start_answer}
-use Rattle.sg_node.specs.Joining.{obstacle_to}
-use Rattle.sg_node.specs.Slots.{Slot, held_in}
-use Rattle.sg_node.specs.Invariant.{IsSlot}
-use Rattle.sg_node.specs.declared.sessions.Live.TheVariants.{AtTurn}
-use Rattle.sg_node.proofs.Joined.{free_by, no_slot}
-use Rattle.sg_node.proofs.Receipts.{ok_gives}
-use Rattle.sg_node.proofs.Starts.{first_state, hindered, free, start_state, start_slots, with_text}
+use Rattle.sg_protocol.specs.Calls.{Start, NotStarted}
+use Rattle.sg_protocol.specs.Calls as Protocol
+use Rattle.sg_protocol.specs.IsSchedule.{IsProgram}
+use Rattle.sg_protocol.specs.Node.{starter, is_cast, stranger}
+use Rattle.sg_protocol.specs.NodeStates.{NodeState, IsReachableLive, RepresentsPast, state_after}
+use Rattle.sg_protocol.specs.Past.{Past, node_of}
+use Rattle.sg_protocol.specs.Texts.{real}
+use Rattle.sg_node.proofs.Going.{all_reachable, goes_on}
+use Rattle.sg_protocol.specs.Named.{graph_of_call}
+use Rattle.sg_node.specs.Answers.{GoesOn}
+use Rattle.sg_node.proofs.Receipts.{in_err, on_ok}
+use Rattle.sg_node.proofs.Starts.{same_graph, start_graph, start_may}
 use Rattle.sg_node.proofs.node.Node.begin.Goals as goal
-use Rattle.sg_node.proofs.node.Node.begin.Goals.{in-Ok, in-Err}
 
-pub returns-in-Some-clause-answer : goal.returns-in-Some-clause-answer
-returns-in-Some-clause-answer c = λ m st. elim c.match-note_session.branch [
-  | in-Ok w ↦ subst (λ r. IsAnswer (answer_start real m c.args.cast) (start_answer r)) (sym (w.result-is ∙ ap Err w.fault_of.ensures)) (hindered c.self.inside m (subst (λ (z : NodeState). RepresentsNode z m) (sym c.self.view_is) st) c.args.cast c.args.program.now (subst (λ (z : NodeState). starter z.programs c.args.cast.graph ≡ Some c.args.program.now) (sym c.self.view_is) c.requires.starts) (subst (λ (z : NodeState). is_cast z.keys c.args.program.now.graph c.args.cast c.args.program.now.role ≡ true) (sym c.self.view_is) c.requires.cast) (subst (λ (z : NodeState). stranger z.keys c.args.cast ≡ None) (sym c.self.view_is) c.requires.covered) c.in-Some.obstacle (ap (λ z. obstacle_to c.self.inside.joins.pairs (length (held_in c.self.inside.sessions.slots)) z c.args.program.now.role) (sym c.session_id-sid.ensures) ∙ ap (λ z. obstacle_to c.self.inside.joins.pairs (length (held_in c.self.inside.sessions.slots)) c.session_id-sid.result z) (sym c.role-role.ensures.role) ∙ sym c.first_obstacle.ensures ∙ c.in-Some.is)).0
-  | in-Err w ↦ subst (λ r. IsAnswer (answer_start real m c.args.cast) (start_answer r)) (sym w.result-is) tt
-]
+pub returns-in_default-clause-state : goal.returns-in_default-clause-state
+returns-in_default-clause-state c =
+    let all : (past : Past) → RepresentsPast c.args.self.now past → answer_start real (node_of past) c.args.cast ≡ NotStarted Protocol.StartFault.UnknownGraph = first_of (search rules, grind (arith, common_steps)) in
+    λ past st. goes_on c.args.self.now c.args.self.now (Start c.args.cast) past (subst (λ (z : NodeState). AllByRecursion (IsProgram real) z.programs) c.self.view_is c.self.invariant.programs) (subst (λ (z : NodeState). AllByRecursion (IsReachableLive real z.programs) z.live) c.self.view_is (all_reachable c.self.inside c.self.invariant)) c.facts_of_cast.ensures st (ap (state_after c.args.self.now (Start c.args.cast)) (sym (all past st)))
 
-pub returns-in-Some-clause-state : goal.returns-in-Some-clause-state
-returns-in-Some-clause-state c = λ m st k. subst (λ (z : NodeState). z ≡ state_after z (Start c.args.cast) (answer_start real m c.args.cast)) c.self.view_is (sym (hindered c.self.inside m (subst (λ (z : NodeState). RepresentsNode z m) (sym c.self.view_is) st) c.args.cast c.args.program.now (subst (λ (z : NodeState). starter z.programs c.args.cast.graph ≡ Some c.args.program.now) (sym c.self.view_is) c.requires.starts) (subst (λ (z : NodeState). is_cast z.keys c.args.program.now.graph c.args.cast c.args.program.now.role ≡ true) (sym c.self.view_is) c.requires.cast) (subst (λ (z : NodeState). stranger z.keys c.args.cast ≡ None) (sym c.self.view_is) c.requires.covered) c.in-Some.obstacle (ap (λ z. obstacle_to c.self.inside.joins.pairs (length (held_in c.self.inside.sessions.slots)) z c.args.program.now.role) (sym c.session_id-sid.ensures) ∙ ap (λ z. obstacle_to c.self.inside.joins.pairs (length (held_in c.self.inside.sessions.slots)) c.session_id-sid.result z) (sym c.role-role.ensures.role) ∙ sym c.first_obstacle.ensures ∙ c.in-Some.is)).2)
+pub returns-then-not-is_cast-clause-state : goal.returns-then-not-is_cast-clause-state
+returns-then-not-is_cast-clause-state c =
+    let all : (past : Past) → RepresentsPast c.args.self.now past → answer_start real (node_of past) c.args.cast ≡ NotStarted Protocol.StartFault.BadCast = first_of (search rules, grind (arith, common_steps)) in
+    λ past st. goes_on c.args.self.now c.args.self.now (Start c.args.cast) past (subst (λ (z : NodeState). AllByRecursion (IsProgram real) z.programs) c.self.view_is c.self.invariant.programs) (subst (λ (z : NodeState). AllByRecursion (IsReachableLive real z.programs) z.live) c.self.view_is (all_reachable c.self.inside c.self.invariant)) c.facts_of_cast.ensures st (ap (state_after c.args.self.now (Start c.args.cast)) (sym (all past st)))
 
-pub begin_session-requires-clause-absent : goal.begin_session-requires-clause-absent
-begin_session-requires-clause-absent c = subst (λ (s : RoleState). ¬ Contains c.make_room.new.joins.pairs (s.held.sid, s.held.role)) (sym c.in-Ok-with_sid.ensures) (subst (λ js. ¬ Contains js (session_id real c.args.cast, c.args.program.now.role)) (sym c.make_room.ensures.joins) (free_by c.self.inside.joins.pairs (length (held_in c.self.inside.sessions.slots)) (session_id real c.args.cast) c.args.program.now.role (ap (λ z. obstacle_to c.self.inside.joins.pairs (length (held_in c.self.inside.sessions.slots)) z c.args.program.now.role) (sym c.session_id-sid.ensures) ∙ ap (λ z. obstacle_to c.self.inside.joins.pairs (length (held_in c.self.inside.sessions.slots)) c.session_id-sid.result z) (sym c.role-role.ensures.role) ∙ sym c.first_obstacle.ensures ∙ c.in_default.is)).0)
-
-pub begin_session-requires-clause-free : goal.begin_session-requires-clause-free
-begin_session-requires-clause-free c = subst (λ (s : RoleState). ¬ Contains (map (λ (s : Slot). s.0) c.make_room.new.sessions.slots) (s.held.sid, s.held.role)) (sym c.in-Ok-with_sid.ensures) (subst (λ ss. ¬ Contains (map (λ (s : Slot). s.0) ss) (session_id real c.args.cast, c.args.program.now.role)) (sym c.make_room.ensures.sessions) (no_slot c.self.inside.programs.now c.self.inside.joins.pairs (session_id real c.args.cast, c.args.program.now.role) c.self.inside.sessions.slots c.self.invariant.slots ((free_by c.self.inside.joins.pairs (length (held_in c.self.inside.sessions.slots)) (session_id real c.args.cast) c.args.program.now.role (ap (λ z. obstacle_to c.self.inside.joins.pairs (length (held_in c.self.inside.sessions.slots)) z c.args.program.now.role) (sym c.session_id-sid.ensures) ∙ ap (λ z. obstacle_to c.self.inside.joins.pairs (length (held_in c.self.inside.sessions.slots)) c.session_id-sid.result z) (sym c.role-role.ensures.role) ∙ sym c.first_obstacle.ensures ∙ c.in_default.is)).0)))
-
-pub begin_session-requires-clause-starts : goal.begin_session-requires-clause-starts
-begin_session-requires-clause-starts c = subst (λ (s : RoleState). role_at (shape s.program.graph) 0 ≡ s.held.role) (sym c.in-Ok-with_sid.ensures) c.requires.node
-
-pub invariant_of-self-2 : goal.invariant_of-self-2
-invariant_of-self-2 c = record {
-  programs = c.self.invariant.programs;
-  slots = subst (λ js. AllByRecursion (IsSlot c.self.inside.programs.now js) c.begin_session.new.sessions.slots) (sym (c.begin_session.ensures.joins ∙ ap (λ z. z ++ (c.in-Ok-with_sid.before.held.sid, c.in-Ok-with_sid.before.held.role) ∷ []) c.make_room.ensures.joins ∙ ap (λ (s : RoleState). c.self.inside.joins.pairs ++ (s.held.sid, s.held.role) ∷ []) c.in-Ok-with_sid.ensures)) (subst (AllByRecursion (IsSlot c.self.inside.programs.now (c.self.inside.joins.pairs ++ (session_id real c.args.cast, c.args.program.now.role) ∷ []))) (sym (c.begin_session.ensures.slots ∙ ap (λ z. z ++ ((c.in-Ok-with_sid.before.held.sid, c.in-Ok-with_sid.before.held.role), Some (AtTurn c.in-Ok-with_sid.before)) ∷ []) c.make_room.ensures.sessions ∙ ap (λ (s : RoleState). c.self.inside.sessions.slots ++ ((s.held.sid, s.held.role), Some (AtTurn s)) ∷ []) c.in-Ok-with_sid.ensures)) (start_slots c.self.inside c.self.invariant c.args.cast c.args.program.now (subst (λ (z : NodeState). program_for z.programs c.args.cast.graph c.args.program.now.role ≡ Some c.args.program.now) (sym c.self.view_is) c.requires.first) c.requires.node (subst (λ (s : RoleState). IsReachableBefore real s.program s.held) (c.before-2.view_is ∙ c.in-Ok-with_sid.ensures) c.before-2.invariant.reachable)));
-}
-
-pub returns-clause-answer : goal.returns-clause-answer
-returns-clause-answer c = λ m st. (free c.self.inside m (subst (λ (z : NodeState). RepresentsNode z m) (sym c.self.view_is) st) c.args.cast c.args.program.now (subst (λ (z : NodeState). starter z.programs c.args.cast.graph ≡ Some c.args.program.now) (sym c.self.view_is) c.requires.starts) (subst (λ (z : NodeState). is_cast z.keys c.args.program.now.graph c.args.cast c.args.program.now.role ≡ true) (sym c.self.view_is) c.requires.cast) (subst (λ (z : NodeState). stranger z.keys c.args.cast ≡ None) (sym c.self.view_is) c.requires.covered) (ap (λ z. obstacle_to c.self.inside.joins.pairs (length (held_in c.self.inside.sessions.slots)) z c.args.program.now.role) (sym c.session_id-sid.ensures) ∙ ap (λ z. obstacle_to c.self.inside.joins.pairs (length (held_in c.self.inside.sessions.slots)) c.session_id-sid.result z) (sym c.role-role.ensures.role) ∙ sym c.first_obstacle.ensures ∙ c.in_default.is)) ∙ ap (λ z. Happened (Started z c.args.program.now.role)) (sym c.session_id-sid.ensures) ∙ ap (λ z. Happened (Started c.session_id-sid.result z)) (sym c.role-role.ensures.role)
+pub returns-in-Some-covers-clause-state : goal.returns-in-Some-covers-clause-state
+returns-in-Some-covers-clause-state c =
+    let all : (past : Past) → RepresentsPast c.args.self.now past → answer_start real (node_of past) c.args.cast ≡ NotStarted (Protocol.StartFault.UnknownPeer c.in-Some-covers.name) = first_of (search rules, grind (arith, common_steps)) in
+    λ past st. goes_on c.args.self.now c.args.self.now (Start c.args.cast) past (subst (λ (z : NodeState). AllByRecursion (IsProgram real) z.programs) c.self.view_is c.self.invariant.programs) (subst (λ (z : NodeState). AllByRecursion (IsReachableLive real z.programs) z.live) c.self.view_is (all_reachable c.self.inside c.self.invariant)) c.facts_of_cast.ensures st (ap (state_after c.args.self.now (Start c.args.cast)) (sym (all past st)))
 
 pub returns-clause-state : goal.returns-clause-state
-returns-clause-state c = λ m st k.
-    let js = (c.begin_session.ensures.joins ∙ ap (λ z. z ++ (c.in-Ok-with_sid.before.held.sid, c.in-Ok-with_sid.before.held.role) ∷ []) c.make_room.ensures.joins ∙ ap (λ (s : RoleState). c.self.inside.joins.pairs ++ (s.held.sid, s.held.role) ∷ []) c.in-Ok-with_sid.ensures) in
-    let ss = (c.begin_session.ensures.slots ∙ ap (λ z. z ++ ((c.in-Ok-with_sid.before.held.sid, c.in-Ok-with_sid.before.held.role), Some (AtTurn c.in-Ok-with_sid.before)) ∷ []) c.make_room.ensures.sessions ∙ ap (λ (s : RoleState). c.self.inside.sessions.slots ++ ((s.held.sid, s.held.role), Some (AtTurn s)) ∷ []) c.in-Ok-with_sid.ensures) in
-    let new : NodeState = record { keys = c.self.inside.keys; programs = c.self.inside.programs.now; joins = c.begin_session.new.joins.pairs; live = held_in c.begin_session.new.sessions.slots } in
-    let q : new ≡ record { keys = c.self.inside.keys; programs = c.self.inside.programs.now; joins = c.self.inside.joins.pairs ++ (session_id real c.args.cast, c.args.program.now.role) ∷ []; live = held_in (c.self.inside.sessions.slots ++ ((session_id real c.args.cast, c.args.program.now.role), Some (AtTurn (first_state c.args.program.now c.args.cast))) ∷ []) } = λ i. record { keys = c.self.inside.keys; programs = c.self.inside.programs.now; joins = js i; live = held_in (ss i) } in
-    subst (λ (z : NodeState). new ≡ state_after z (Start c.args.cast) (answer_start real m c.args.cast)) c.self.view_is (q ∙ start_state c.self.inside m c.args.cast c.args.program.now c.role-role.ensures.program (subst (λ (z : NodeState). program_for z.programs c.args.cast.graph c.args.program.now.role ≡ Some c.args.program.now) (sym c.self.view_is) c.requires.first) c.requires.node (free c.self.inside m (subst (λ (z : NodeState). RepresentsNode z m) (sym c.self.view_is) st) c.args.cast c.args.program.now (subst (λ (z : NodeState). starter z.programs c.args.cast.graph ≡ Some c.args.program.now) (sym c.self.view_is) c.requires.starts) (subst (λ (z : NodeState). is_cast z.keys c.args.program.now.graph c.args.cast c.args.program.now.role ≡ true) (sym c.self.view_is) c.requires.cast) (subst (λ (z : NodeState). stranger z.keys c.args.cast ≡ None) (sym c.self.view_is) c.requires.covered) (ap (λ z. obstacle_to c.self.inside.joins.pairs (length (held_in c.self.inside.sessions.slots)) z c.args.program.now.role) (sym c.session_id-sid.ensures) ∙ ap (λ z. obstacle_to c.self.inside.joins.pairs (length (held_in c.self.inside.sessions.slots)) c.session_id-sid.result z) (sym c.role-role.ensures.role) ∙ sym c.first_obstacle.ensures ∙ c.in_default.is)))
+returns-clause-state c = λ past st.
+    on_ok (c.begin_in.new.self ≡ state_after c.args.self.now (Start c.args.cast) (answer_start real (node_of past) c.args.cast)) (GoesOn c.args.self.now c.begin_in.new.self (Start c.args.cast) past) c.begin_in.result
+    (goes_on c.args.self.now c.begin_in.new.self (Start c.args.cast) past (subst (λ (z : NodeState). AllByRecursion (IsProgram real) z.programs) c.self.view_is c.self.invariant.programs)
+    (subst (λ (z : NodeState). AllByRecursion (IsReachableLive real z.programs) z.live) c.self.view_is (all_reachable c.self.inside c.self.invariant)) c.facts_of_cast.ensures st)
+    (c.begin_in.ensures.state (node_of past) st)
 
-pub returns-clause-notes : goal.returns-clause-notes
-returns-clause-notes c = λ m st k.
-    let began : answer_start real m c.args.cast ≡ Happened (Started (session_id real c.args.cast) c.args.program.now.role) = (free c.self.inside m (subst (λ (z : NodeState). RepresentsNode z m) (sym c.self.view_is) st) c.args.cast c.args.program.now (subst (λ (z : NodeState). starter z.programs c.args.cast.graph ≡ Some c.args.program.now) (sym c.self.view_is) c.requires.starts) (subst (λ (z : NodeState). is_cast z.keys c.args.program.now.graph c.args.cast c.args.program.now.role ≡ true) (sym c.self.view_is) c.requires.cast) (subst (λ (z : NodeState). stranger z.keys c.args.cast ≡ None) (sym c.self.view_is) c.requires.covered) (ap (λ z. obstacle_to c.self.inside.joins.pairs (length (held_in c.self.inside.sessions.slots)) z c.args.program.now.role) (sym c.session_id-sid.ensures) ∙ ap (λ z. obstacle_to c.self.inside.joins.pairs (length (held_in c.self.inside.sessions.slots)) c.session_id-sid.result z) (sym c.role-role.ensures.role) ∙ sym c.first_obstacle.ensures ∙ c.in_default.is)) in
-    ok_gives _ c.note_session-else-is_err.result c.if-is_err-2.ensures.negation c.note_session-else-is_err.ensures.ok ∙ with_text c.args.notes.now c.args.cast ∙ ap (λ a. with_notes c.args.notes.now (notes_of_start c.args.cast a)) (sym began)
+pub returns-clause-graph : goal.returns-clause-graph
+returns-clause-graph c = λ past st.
+    let found : starter c.args.self.now.programs c.args.cast.graph ≡ Some c.in-Some.program.now = search rules in
+    same_graph c.begin_in.result (Some c.in-Some.program.now.graph) (graph_of_call real (node_of past) (Start c.args.cast)) c.begin_in.ensures.graph
+    (sym (start_graph (node_of past) c.args.cast c.in-Some.program.now (subst (λ ps. starter ps c.args.cast.graph ≡ Some c.in-Some.program.now) st.programs found)))
+
+pub returns-then-not-is_first-clause-early : goal.returns-then-not-is_first-clause-early
+returns-then-not-is_first-clause-early c = λ past st.
+    let found : starter c.args.self.now.programs c.args.cast.graph ≡ Some c.in-Some.program.now = search rules in
+    let right : is_cast c.args.self.now.keys c.in-Some.program.now.graph c.args.cast c.in-Some.program.now.role ≡ true = search rules in
+    let covered : stranger c.args.self.now.keys c.args.cast ≡ None = search rules in
+    start_may (node_of past) c.args.cast c.in-Some.program.now
+    (subst (λ ps. starter ps c.args.cast.graph ≡ Some c.in-Some.program.now) st.programs found)
+    (subst (λ k. is_cast k c.in-Some.program.now.graph c.args.cast c.in-Some.program.now.role ≡ true) st.keys right)
+    (subst (λ k. stranger k c.args.cast ≡ None) st.keys covered)
+
+pub returns-clause-early : goal.returns-clause-early
+returns-clause-early c = λ past st.
+    let found : starter c.args.self.now.programs c.args.cast.graph ≡ Some c.in-Some.program.now = search rules in
+    let right : is_cast c.args.self.now.keys c.in-Some.program.now.graph c.args.cast c.in-Some.program.now.role ≡ true = search rules in
+    let covered : stranger c.args.self.now.keys c.args.cast ≡ None = search rules in
+    in_err _ c.begin_in.result (start_may (node_of past) c.args.cast c.in-Some.program.now
+    (subst (λ ps. starter ps c.args.cast.graph ≡ Some c.in-Some.program.now) st.programs found)
+    (subst (λ k. is_cast k c.in-Some.program.now.graph c.args.cast c.in-Some.program.now.role ≡ true) st.keys right)
+    (subst (λ k. stranger k c.args.cast ≡ None) st.keys covered))
