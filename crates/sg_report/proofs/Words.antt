@@ -1,21 +1,12 @@
 -- Words that follow others.
-use Rattle.std.proofs.Common.{◌≡◌, ℕ, refl, sym, subst, ap, ◌∙◌, List, ◌++◌, length, take, Option, Some, None, option_map, codes, append_assoc}
+use Rattle.std.proofs.Common.{◌≡◌, ℕ, refl, sym, subst, ap, ◌∙◌, List, ◌++◌, length, take, append_assoc}
 use Rattle.std.proofs.Math.Seq.{take-append_seam}
 use Rattle.std.specs.Fmt.{decimal}
-use Rattle.std.specs.Prelude.{[], ◌∷◌, Result, Ok, Err, OnErr, OnOk, IfSome, IsSomeAnd}
+use Rattle.std.specs.Prelude.{[], ◌∷◌, Result, Ok, Err, OnErr, OnOk}
 use Rattle.sg_model.proofs.Small.{heads, tails}
-use Rattle.sg_protocol.specs.Calls.{ActFault}
 use Rattle.sg_protocol.specs.Graph.{Graph}
 use Rattle.sg_report.specs.Lines.{by_whom, line_text, reported_text}
-use Rattle.sg_report.specs.Reasons.{act_text}
-use Rattle.sg_report.specs.Reported.{NotActed, Reported}
-
--- the reason of a refused act, behind the word for a refusal
-pub then_act : {A E : Type 0} (r : Result A E) (session : List ℕ) (g : Graph) (old mid new : List ℕ) (o : Option ActFault) → mid ≡ old ++ codes "refused "
-    → OnOk r (IsSomeAnd o (λ f. new ≡ mid ++ act_text g f)) → OnOk r (IsSomeAnd (option_map NotActed o) (λ reported. new ≡ old ++ reported_text session g reported))
-then_act (Ok x) session g old mid new (Some f) e h = h ∙ ap (λ t. t ++ act_text g f) e ∙ append_assoc old (codes "refused ") (act_text g f)
-then_act (Ok x) session g old mid new None e h = h
-then_act (Err x) session g old mid new o e h = h
+use Rattle.sg_report.specs.Reported.{Reported}
 
 -- pieces, one after another
 pub pieces : {A E : Type 0} (r : Result A E) (old mid new a b c d e f g : List ℕ) → mid ≡ old ++ (a ++ b) → OnOk r (new ≡ mid ++ (c ++ d ++ e ++ f ++ g)) → OnOk r (new ≡ old ++ (a ++ b ++ c ++ d ++ e ++ f ++ g))
@@ -23,13 +14,12 @@ pieces (Ok x) old mid new a b c d e f g first rest = rest ∙ ap (λ t. t ++ (c 
 pieces (Err x) old mid new a b c d e f g first rest = rest
 
 -- the line of a step, piece by piece
-pub line_put : {A E : Type 0} (r : Result A E) (o : Option Reported) (session who : List ℕ) (g : Graph) (step : ℕ) (old number space whom line new : List ℕ) → number ≡ old ++ decimal step
-    → space ≡ number ++ 32 ∷ [] → IfSome o (λ reported. whom ≡ space ++ by_whom who reported) → IsSomeAnd o (λ reported. line ≡ whom ++ reported_text session g reported)
-    → OnOk r (new ≡ line ++ 10 ∷ []) → OnOk r (IsSomeAnd o (λ reported. new ≡ old ++ line_text session g step who reported))
-line_put (Ok x) (Some reported) session who g step old number space whom line new a b c d e =
+pub line_put : {A E : Type 0} (r : Result A E) (reported : Reported) (session who : List ℕ) (g : Graph) (step : ℕ) (old number space whom line new : List ℕ) → number ≡ old ++ decimal step
+    → space ≡ number ++ 32 ∷ [] → whom ≡ space ++ by_whom who reported → line ≡ whom ++ reported_text session g reported → OnOk r (new ≡ line ++ 10 ∷ [])
+    → OnOk r (new ≡ old ++ line_text session g step who reported)
+line_put (Ok x) reported session who g step old number space whom line new a b c d e =
     e ∙ ap (λ t. t ++ 10 ∷ []) (d ∙ ap (λ t. t ++ reported_text session g reported) (c ∙ ap (λ t. t ++ by_whom who reported) (b ∙ ap (λ t. t ++ 32 ∷ []) a))) ∙ simp append_assoc
-line_put (Ok x) None session who g step old number space whom line new a b c d e = d
-line_put (Err x) o session who g step old number space whom line new a b c d e = e
+line_put (Err x) reported session who g step old number space whom line new a b c d e = e
 
 -- ---- what was written stands first
 

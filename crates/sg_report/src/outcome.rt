@@ -1,29 +1,33 @@
 //! The outcome of a step.
-ghost use Rattle.std.specs.Prelude.{◌≡◌, option_and_then, option_map};
+ghost use Rattle.std.specs.Prelude.{◌≡◌, ℕ, Result, Some, None, option_map};
+ghost use Rattle.std.specs.Option.{option_copied};
+ghost use Rattle.sg_node.specs.Answers.{answer_of_delivery, answer_of_start, graph_of_delivery, graph_of_start};
 ghost use Rattle.sg_protocol.specs.Calls.{sid_of};
-ghost use Rattle.sg_report.specs.Outcome.{outcome_of};
-ghost use Rattle.sg_report.specs.Reported.{event_reported, sid_reported};
+ghost use Rattle.sg_walk.specs.Model.{event_of};
+ghost use Rattle.sg_report.specs.Outcome.{graph_in, graph_of_event, outcome_of};
+ghost use Rattle.sg_report.specs.Reported.{event_reported, reported_answer, sid_reported};
 
 use sg_base::{Name, Sid};
-use sg_node::{ActFault, Refusal, StartFault};
+use sg_graph::Graph;
+use sg_node::{ActRefusal, DeliveryRefusal, Happened, Receipt, StartRefusal};
 use sg_walk::{Event, sid_of};
 
-/// The outcome of a step. No fault in it is `OutOfMemory`.
+/// The outcome of a step. What it names by a number has its name in the graph that stands beside. None says that memory ran out.
 #[derive(Debug, Drop)]
-pub enum Outcome {
+pub enum Outcome<'p> {
     /// The principal started a session.
-    Started(Event),
+    Started(Happened<'p>),
     /// The principal sent a step.
     Sent {
         /// The event, with the values that were written.
-        event: Event,
+        sent: Happened<'p>,
         /// The principal to whom the frame goes.
         to: Name,
         /// The frame's number, from 1.
         frame: u32,
     },
     /// The principal took a frame.
-    Received(Event),
+    Received(Receipt<'p>),
     /// The principal left a session.
     Abandoned,
     /// A frame was made and recorded.
@@ -32,32 +36,72 @@ pub enum Outcome {
         frame: u32,
     },
     /// No session was started.
-    NotStarted(StartFault),
+    NotStarted(StartRefusal),
     /// The principal didn't act.
-    NotActed(ActFault),
+    NotActed(ActRefusal<'p>),
     /// No live session was there to leave.
     NotAbandoned,
     /// A delivery was refused.
-    NotDelivered(Refusal),
+    NotDelivered(DeliveryRefusal<'p>),
     /// No frame of this number was recorded so far.
     NoFrame,
 }
 
+impl<'p> Outcome<'p> {
+    /// The outcome of a start. It takes no memory.
+    pub fn of_start(answer: Result<Happened<'p>, StartRefusal>) -> Outcome<'p>
+        ensures reported { (number : ℕ) → outcome_of result ≡ reported_answer number (answer_of_start answer.entry) }
+        ensures graph { graph_in result ≡ graph_of_start answer.entry }
+    {
+        match answer {
+            Ok(begun) => Outcome::Started(begun),
+            Err(refusal) => Outcome::NotStarted(refusal),
+        }
+    }
+
+    /// The outcome of a delivery. It takes no memory.
+    pub fn of_delivery(answer: Result<Receipt<'p>, DeliveryRefusal<'p>>) -> Outcome<'p>
+        ensures reported { (number : ℕ) → outcome_of result ≡ reported_answer number (answer_of_delivery answer.entry) }
+        ensures graph { graph_in result ≡ graph_of_delivery answer.entry }
+    {
+        match answer {
+            Ok(receipt) => Outcome::Received(receipt),
+            Err(refusal) => Outcome::NotDelivered(refusal),
+        }
+    }
+
+    /// The event, if it has one. It takes no memory.
+    pub fn event(&self) -> Option<&Event>
+        ensures { option_map (λ e. event_of e.now) result ≡ event_reported (outcome_of self.now) }
+    {
+        match self {
+            Outcome::Started(begun) => Some(&begun.event),
+            Outcome::Sent { sent, .. } => Some(&sent.event),
+            Outcome::Received(receipt) => Some(receipt.event()),
+            _ => None,
+        }
+    }
+
+    /// The graph of the session of the event, if it has one. It takes no memory.
+    pub fn graph(&self) -> Option<&'p Graph>
+        ensures { option_copied result ≡ graph_of_event self.now }
+    {
+        match self {
+            Outcome::Started(begun) => Some(begun.graph),
+            Outcome::Sent { sent, .. } => Some(sent.graph),
+            Outcome::Received(receipt) => Some(receipt.graph()),
+            _ => None,
+        }
+    }
+}
+
 /// The session of the event of an outcome, if it has one.
-pub fn sid_reported(outcome: &Outcome) -> Option<Sid>
-    ensures reported { result ≡ option_and_then sid_reported (outcome_of outcome.now) }
-    ensures event { result ≡ option_map sid_of (option_and_then event_reported (outcome_of outcome.now)) }
+pub fn sid_reported(outcome: &Outcome<'_>) -> Option<Sid>
+    ensures reported { result ≡ sid_reported (outcome_of outcome.now) }
+    ensures event { result ≡ option_map sid_of (event_reported (outcome_of outcome.now)) }
 {
-    match outcome {
-        Outcome::Started(event) => Some(sid_of(event)),
-        Outcome::Sent { event, .. } => Some(sid_of(event)),
-        Outcome::Received(event) => Some(sid_of(event)),
-        Outcome::Abandoned => None,
-        Outcome::Crafted { .. } => None,
-        Outcome::NotStarted(_) => None,
-        Outcome::NotActed(_) => None,
-        Outcome::NotAbandoned => None,
-        Outcome::NotDelivered(_) => None,
-        Outcome::NoFrame => None,
+    match outcome.event() {
+        Some(event) => Some(sid_of(event)),
+        None => None,
     }
 }

@@ -1,99 +1,76 @@
 //! Why a step was refused, in words.
-ghost use Rattle.std.specs.Prelude.{◌≡◌, ◌<◌, ◌++◌, IfSome, IsSomeAnd, OnErr, OnOk, codes, length, take};
+ghost use Rattle.std.specs.Prelude.{◌≡◌, ◌<◌, ◌++◌, OnErr, OnOk, codes, length, take};
 ghost use Rattle.std.specs.Fmt.{decimal};
-ghost use Rattle.std.specs.Option.{option_copied};
-ghost use Rattle.sg_node.specs.Faults.{act_fault, refusal, send_fault, start_fault};
-ghost use Rattle.sg_protocol.specs.Calls.{Send};
+ghost use Rattle.sg_node.specs.Faults.{act_refusal, delivery_refusal, graph_of_act_refusal, graph_of_delivery_refusal, start_refusal};
 ghost use Rattle.sg_protocol.specs.Graph.{variable_name};
 ghost use Rattle.sg_report.specs.Lines.{graph_or_none};
-ghost use Rattle.sg_report.specs.Reasons.{act_text, refusal_text, send_text, start_text};
+ghost use Rattle.sg_report.specs.Reasons.{act_text, refusal_text, start_text};
 ghost use Rattle.sg_report.specs.Reported.{CanBeReported, NotActed, NotDelivered};
 
 use sg_base::{ByteOut, Name, OutOfMemory, Time, Var};
 use sg_graph::Graph;
-use sg_node::{ActFault, Refusal, StartFault};
-use sg_role::SendFault;
-use std::alloc::AllocError;
+use sg_node::{ActRefusal, DeliveryRefusal, StartRefusal};
 
-/// Writes why a start was refused. `OutOfMemory` is passed on.
-pub(crate) fn put_start_fault(out: &mut ByteOut, fault: StartFault) -> Result<(), OutOfMemory>
-    ensures ok { OnOk result (IsSomeAnd (start_fault fault) (λ f. out.new ≡ out.old ++ start_text f)) }
-    ensures prefix { OnErr result (take (length out.old) out.new ≡ out.old) }
-{
-    match fault {
-        StartFault::UnknownGraph => out.bytes(b"unknown-graph"),
-        StartFault::BadCast => out.bytes(b"bad-cast"),
-        StartFault::UnknownPeer { name } => put_unknown_peer(out, &name),
-        StartFault::Joined => out.bytes(b"joined"),
-        StartFault::CacheFull => out.bytes(b"cache-full"),
-        StartFault::SessionsFull => out.bytes(b"sessions-full"),
-        StartFault::OutOfMemory => Err(AllocError),
-    }
-}
-
-/// Writes why an act was refused. `OutOfMemory` is passed on.
-pub(crate) fn put_act_fault(
-    out: &mut ByteOut,
-    graph: Option<&Graph>,
-    fault: ActFault,
-) -> Result<(), OutOfMemory>
-    requires { IfSome (act_fault fault) (λ f. CanBeReported (option_copied graph) (NotActed f)) }
-    ensures ok { OnOk result (IsSomeAnd (act_fault fault) (λ f. out.new ≡ out.old ++ act_text (graph_or_none (option_copied graph.entry)) f)) }
-    ensures prefix { OnErr result (take (length out.old) out.new ≡ out.old) }
-{
-    match fault {
-        ActFault::UnknownSession => out.bytes(b"unknown-session"),
-        ActFault::NotYourTurn => out.bytes(b"not-your-turn"),
-        ActFault::Send(fault) => put_send_fault(out, graph, fault),
-        ActFault::OutOfMemory => Err(AllocError),
-    }
-}
-
-// Writes why a step was not sent.
-fn put_send_fault(
-    out: &mut ByteOut,
-    graph: Option<&Graph>,
-    fault: SendFault,
-) -> Result<(), OutOfMemory>
-    requires { IfSome (send_fault fault) (λ f. CanBeReported (option_copied graph) (NotActed (Send f))) }
-    ensures ok { OnOk result (IsSomeAnd (send_fault fault) (λ f. out.new ≡ out.old ++ send_text (graph_or_none (option_copied graph.entry)) f)) }
-    ensures prefix { OnErr result (take (length out.old) out.new ≡ out.old) }
-{
-    match fault {
-        SendFault::NoSuchLabel => out.bytes(b"no-such-label"),
-        SendFault::BadValues { var } => put_of_var(out, b"bad-values ", graph, var),
-        SendFault::TimeSpent => out.bytes(b"time-spent"),
-        SendFault::OutOfMemory => Err(AllocError),
-    }
-}
-
-/// Writes why a delivery was refused. `OutOfMemory` is passed on.
-pub(crate) fn put_refusal(
-    out: &mut ByteOut,
-    graph: Option<&Graph>,
-    why: Refusal,
-) -> Result<(), OutOfMemory>
-    requires { IfSome (refusal why) (λ w. CanBeReported (option_copied graph) (NotDelivered w)) }
-    ensures ok { OnOk result (IsSomeAnd (refusal why) (λ w. out.new ≡ out.old ++ refusal_text (graph_or_none (option_copied graph.entry)) w)) }
+/// Writes why a start was refused.
+pub(crate) fn put_start_refusal(out: &mut ByteOut, why: &StartRefusal) -> Result<(), OutOfMemory>
+    ensures ok { OnOk result (out.new ≡ out.old ++ start_text (start_refusal why.now)) }
     ensures prefix { OnErr result (take (length out.old) out.new ≡ out.old) }
 {
     match why {
-        Refusal::Malformed { at } => put_number(out, b"malformed at ", at),
-        Refusal::UnknownGraph => out.bytes(b"unknown-graph"),
-        Refusal::BadCast => out.bytes(b"bad-cast"),
-        Refusal::UnknownPeer { name } => put_unknown_peer(out, &name),
-        Refusal::BadSession => out.bytes(b"bad-session"),
-        Refusal::Joined => out.bytes(b"joined"),
-        Refusal::CacheFull => out.bytes(b"cache-full"),
-        Refusal::SessionsFull => out.bytes(b"sessions-full"),
-        Refusal::UnknownSession => out.bytes(b"unknown-session"),
-        Refusal::NotWaiting => out.bytes(b"not-waiting"),
-        Refusal::BadFrameTag => out.bytes(b"bad-frame-tag"),
-        Refusal::NoSuchView => out.bytes(b"no-such-view"),
-        Refusal::BadTime { item, got, least } => put_bad_time(out, item, got, least),
-        Refusal::BadEvidence { item } => put_number(out, b"bad-evidence item ", item),
-        Refusal::BadOpening { var } => put_of_var(out, b"bad-opening ", graph, var),
-        Refusal::OutOfMemory => Err(AllocError),
+        StartRefusal::UnknownGraph => out.bytes(b"unknown-graph"),
+        StartRefusal::BadCast => out.bytes(b"bad-cast"),
+        StartRefusal::UnknownPeer { name } => put_unknown_peer(out, name),
+        StartRefusal::Joined => out.bytes(b"joined"),
+        StartRefusal::CacheFull => out.bytes(b"cache-full"),
+        StartRefusal::SessionsFull => out.bytes(b"sessions-full"),
+    }
+}
+
+/// Writes why an act was refused.
+pub(crate) fn put_act_refusal(out: &mut ByteOut, why: &ActRefusal<'_>) -> Result<(), OutOfMemory>
+    requires { CanBeReported (graph_of_act_refusal why.now) (NotActed (act_refusal why.now)) }
+    ensures ok { OnOk result (out.new ≡ out.old ++ act_text (graph_or_none (graph_of_act_refusal why.now)) (act_refusal why.now)) }
+    ensures prefix { OnErr result (take (length out.old) out.new ≡ out.old) }
+{
+    match why {
+        ActRefusal::UnknownSession => out.bytes(b"unknown-session"),
+        ActRefusal::NotYourTurn => out.bytes(b"not-your-turn"),
+        ActRefusal::NoSuchLabel => out.bytes(b"no-such-label"),
+        ActRefusal::BadValues { var, graph } => put_variable(out, b"bad-values ", graph, *var),
+        ActRefusal::TimeSpent => out.bytes(b"time-spent"),
+    }
+}
+
+/// Writes why a delivery was refused.
+pub(crate) fn put_delivery_refusal(
+    out: &mut ByteOut,
+    why: &DeliveryRefusal<'_>,
+) -> Result<(), OutOfMemory>
+    requires { CanBeReported (graph_of_delivery_refusal why.now) (NotDelivered (delivery_refusal why.now)) }
+    ensures ok { OnOk result (out.new ≡ out.old ++ refusal_text (graph_or_none (graph_of_delivery_refusal why.now)) (delivery_refusal why.now)) }
+    ensures prefix { OnErr result (take (length out.old) out.new ≡ out.old) }
+{
+    match why {
+        DeliveryRefusal::Malformed { at } => put_number(out, b"malformed at ", *at),
+        DeliveryRefusal::UnknownGraph => out.bytes(b"unknown-graph"),
+        DeliveryRefusal::BadCast => out.bytes(b"bad-cast"),
+        DeliveryRefusal::UnknownPeer { name } => put_unknown_peer(out, name),
+        DeliveryRefusal::BadSession => out.bytes(b"bad-session"),
+        DeliveryRefusal::Joined => out.bytes(b"joined"),
+        DeliveryRefusal::CacheFull => out.bytes(b"cache-full"),
+        DeliveryRefusal::SessionsFull => out.bytes(b"sessions-full"),
+        DeliveryRefusal::UnknownSession => out.bytes(b"unknown-session"),
+        DeliveryRefusal::NotWaiting => out.bytes(b"not-waiting"),
+        DeliveryRefusal::BadFrameTag => out.bytes(b"bad-frame-tag"),
+        DeliveryRefusal::NoSuchView => out.bytes(b"no-such-view"),
+        DeliveryRefusal::BadTime { item, got, least } => put_bad_time(out, *item, *got, *least),
+        DeliveryRefusal::BadEvidence { item } => put_number(out, b"bad-evidence item ", *item),
+        DeliveryRefusal::BadOpening { var, graph } => put_variable(
+            out,
+            b"bad-opening ",
+            graph,
+            *var,
+        ),
     }
 }
 
@@ -123,28 +100,8 @@ fn put_bad_time(out: &mut ByteOut, item: u32, got: Time, least: Time) -> Result<
     put_number(out, b" least ", least.0)
 }
 
-fn put_of_var(
-    out: &mut ByteOut,
-    words: &[u8],
-    graph: Option<&Graph>,
-    var: Var,
-) -> Result<(), OutOfMemory>
-    requires { IsSomeAnd (option_copied graph) (λ g. var < length g.variables) }
-    ensures ok { OnOk result (out.new ≡ out.old ++ (words.now ++ variable_name (graph_or_none (option_copied graph.entry)) var)) }
-    ensures prefix { OnErr result (take (length out.old) out.new ≡ out.old) }
-{
-    match graph {
-        Some(graph) => put_word_and_var(out, words, graph, var),
-        None => unreachable!(),
-    }
-}
-
-fn put_word_and_var(
-    out: &mut ByteOut,
-    words: &[u8],
-    graph: &Graph,
-    var: Var,
-) -> Result<(), OutOfMemory>
+// Writes words and the name of a variable of a graph.
+fn put_variable(out: &mut ByteOut, words: &[u8], graph: &Graph, var: Var) -> Result<(), OutOfMemory>
     requires { var < length graph.now.variables }
     ensures ok { OnOk result (out.new ≡ out.old ++ (words.now ++ variable_name graph.now var)) }
     ensures prefix { OnErr result (take (length out.old) out.new ≡ out.old) }

@@ -1,13 +1,12 @@
 use Rattle.std.specs.Fmt.{decimal}
-use Rattle.std.specs.Option.{option_copied}
 use Rattle.sg_report.specs.Lines.{graph_or_none}
-use Rattle.sg_report.specs.Outcome.{outcome_of}
+use Rattle.sg_report.specs.Outcome.{graph_in, outcome_of}
 use Rattle.sg_report.proofs.Words.{line_begins, line_put, on_err}
 use Rattle.sg_report.proofs.line.put_line.Goals as goal
 
 pub returns-clause-ok : goal.returns-clause-ok
 returns-clause-ok c =
-    line_put c.u8-2.result (outcome_of c.args.outcome.now) c.args.session.now c.args.who.now (graph_or_none (option_copied c.args.graph)) c.args.step c.args.out.now
+    line_put c.u8-2.result (outcome_of c.args.outcome.now) c.args.session.now c.args.who.now (graph_or_none (graph_in c.args.outcome.now)) c.args.step c.args.out.now
     c.decimal.new.self c.u8.new.self c.put_whom.new.out c.put_reported.new.out c.u8-2.new.self
     c.in_ok-decimal.ensures.ok c.in_ok-u8.ensures.ok c.in_ok-put_whom.ensures.ok c.in_ok-put_reported.ensures.ok c.u8-2.ensures.ok
 
