@@ -32,9 +32,3 @@ found_none sid [] h = refl
 found_none sid (e ∷ es) h =
     let ps = or_parts (bytes_eq sid e.0) (has_text sid (keys es)) h in
     rw (same-bytes_eq sid e.0, ps.0) (found_none sid es ps.1)
-
--- the entry of a value at an index
-pub entry_at : (es : List Entry) (i : ℕ) (v : Trace) → slice_get (map (λ (e : Entry). e.1) es) i ≡ Some v → (sid : List ℕ) × (slice_get es i ≡ Some (sid, v))
-entry_at [] i v e = absurd (cc)
-entry_at (x ∷ xs) zero v e = let q : x.1 ≡ v = cc in (x.0, ap (λ (z : Trace). Some (x.0, z)) q)
-entry_at (x ∷ xs) (suc i) v e = entry_at xs i v e

@@ -10,6 +10,7 @@ use Rattle.sg_certify.proofs.Parted.{events_of-part}
 use Rattle.sg_text.proofs.Firsts.{has_text-firsts}
 use Rattle.sg_model.specs.Lists.{has_text, is_in}
 use Rattle.sg_model.proofs.Small.{same_bytes}
+use Rattle.sg_protocol.specs.Keyring.{Program}
 use Rattle.sg_protocol.specs.Run.{run, events_of}
 use Rattle.sg_protocol.specs.Schedule.{Schedule, honest_role}
 use Rattle.sg_protocol.specs.Texts.{real}
@@ -36,19 +37,19 @@ none_found (e ∷ es) sid h = elim (cases_Bool (bytes_eq sid e.0)) [
   | inr n ↦ rw n (none_found es sid (rw n at h))
 ]
 
-module _ (s : Schedule) (c : Traces) (u : IsUnbroken c.programs s) (are : AreTraces s (run real c.programs s).log c) (sid : List ℕ) where
+module _ (programs : List Program) (s : Schedule) (c : Traces) (u : IsUnbroken programs s) (are : AreTraces programs s (run real programs s).log c) (sid : List ℕ) where
   abbrev log : List Logged
-  log = (run real c.programs s).log
+  log = (run real programs s).log
 
-  pub explained : (x : Trace) (steps : List StoredStep) → trace_at c sid ≡ Some x → steps ≡ explaining_walk x.graph (λ r. is_in r x.honest) [] x.shown → IsExplainedBy c.programs s sid steps
+  pub explained : (x : Trace) (steps : List StoredStep) → trace_at c sid ≡ Some x → steps ≡ explaining_walk x.graph (λ r. is_in r x.honest) [] x.shown → IsExplainedBy programs s sid steps
   explained x steps at is =
-      let h : IsTraceOf s log log sid x = found_trace (IsTraceOf s log log) c.traces sid x are.each at in
-      let path : OnePath x.graph (honest_role s x.cast) (events_of sid log) (explaining_walk x.graph (honest_role s x.cast) [] x.shown) =
-      traces_are_explained real real_hash c.programs s sid x.cast x.graph x.shown x.origins u.compiled u.schedule u.premises h.cast h.graph h.trace in
-      let same : steps ≡ explaining_walk x.graph (honest_role s x.cast) [] x.shown = is ∙ (λ i. explaining_walk x.graph (λ r. h.honest r i) [] x.shown) in
-      (record { cast = x.cast; is_cast = h.cast; graph = x.graph; is_graph = h.graph; steps = steps; path = subst (OnePath x.graph (honest_role s x.cast) (events_of sid log)) (sym same) path }, refl)
+      let h : IsTraceOf s log log sid x = found_trace (IsTraceOf s log log) c sid x are.each at in
+      let path : OnePath x.graph (honest_role s h.cast) (events_of sid log) (explaining_walk x.graph (honest_role s h.cast) [] x.shown) =
+      traces_are_explained real real_hash programs s sid h.cast x.graph x.shown u.compiled u.schedule u.premises h.is_cast h.graph h.trace in
+      let same : steps ≡ explaining_walk x.graph (honest_role s h.cast) [] x.shown = is ∙ (λ i. explaining_walk x.graph (λ r. h.honest r i) [] x.shown) in
+      (record { cast = h.cast; is_cast = h.is_cast; graph = x.graph; is_graph = h.graph; steps = steps; path = subst (OnePath x.graph (honest_role s h.cast) (events_of sid log)) (sym same) path }, refl)
 
   pub no_event : trace_at c sid ≡ None → events_of sid log ≡ []
   no_event none =
-      let absent : has_text sid (sids_of log) ≡ false = sym (has_text-firsts sid (sids_of log)) ∙ ap (has_text sid) (sym are.sids) ∙ none_found c.traces sid none in
+      let absent : has_text sid (sids_of log) ≡ false = sym (has_text-firsts sid (sids_of log)) ∙ ap (has_text sid) (sym are.sids) ∙ none_found c sid none in
       sym (events_of-part sid log) ∙ ap (events_of sid) (no_steps sid log absent).0

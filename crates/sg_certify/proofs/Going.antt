@@ -1,6 +1,6 @@
 -- The traces of a run go on by a step.
 use Rattle.std.proofs.Common.{◌≡◌, ℕ, zero, suc, ◌<◌, nat_lt, Bool, true, false, not, ◌||◌, ◌&&◌, cond, List, [], ◌∷◌, ◌++◌, map, filter, length, refl, sym, ◌∙◌, ap, subst, inl, inr, arith, append-nil}
-use Rattle.std.specs.Prelude.{Some, Ok, bytes_eq, find, flat_map, slice_get, option_and_then}
+use Rattle.std.specs.Prelude.{Some, bytes_eq, find, flat_map, slice_get}
 use Rattle.std.specs.List.{AllByRecursion, list_any}
 use Rattle.std.proofs.lemmas.Bool.{and_parts, or_parts, cases_Bool, not-true, or_right}
 use Rattle.std.proofs.lemmas.Bool.Decides.{nat_tests}
@@ -8,32 +8,28 @@ use Rattle.std.proofs.lemmas.Grind.{flat_map-append}
 use Rattle.std.proofs.lemmas.List.{map-append}
 use Rattle.std.proofs.lemmas.List.Elements.{filter-append}
 use Rattle.indexmap.specs.IndexMap.{set_value_at}
-use Rattle.sg_certify.specs.Traces.{IsTrace, is_receipt, Trace, Traces}
+use Rattle.sg_certify.specs.Traces.{IsTrace, Trace, Traces}
 use Rattle.sg_certify.specs.Sessions.{is_of_session, steps_of_session}
-use Rattle.sg_certify.proofs.Traced.{goes_on, traces_show_views}
+use Rattle.sg_certify.proofs.Parted.{events_of-part, same_shown}
+use Rattle.sg_certify.proofs.Traced.{no_steps_yet, one_more}
 use Rattle.sg_text.specs.Sessions.{firsts}
 use Rattle.sg_text.proofs.Firsts.{has_text-firsts, has_text-filtered, firsts-new, firsts-again}
 use Rattle.sg_model.specs.Lists.{has_text, all_differ, is_in}
-use Rattle.sg_model.proofs.Small.{same_bytes, bytes_same, bytes_refl, all-append, clash, or_false}
-use Rattle.sg_protocol.specs.Calls.{Event, Call, Deliver, Happened, sid_of, role_of}
-use Rattle.sg_protocol.specs.Evidence.{IsView}
-use Rattle.sg_protocol.specs.Frame.{Cast, Frame}
+use Rattle.sg_model.proofs.Small.{same_bytes, bytes_same, all-append, clash, or_false}
+use Rattle.sg_protocol.specs.Calls.{Event, sid_of}
+use Rattle.sg_protocol.specs.Explaining.{IsShown}
+use Rattle.sg_protocol.specs.Frame.{Cast}
 use Rattle.sg_protocol.specs.Graph.{Graph}
 use Rattle.sg_protocol.specs.IsSchedule.{IsSchedule}
 use Rattle.sg_protocol.specs.Keyring.{Program}
-use Rattle.sg_protocol.specs.Node.{program_for}
-use Rattle.sg_protocol.specs.Reading.{read}
-use Rattle.sg_protocol.specs.Run.{run, events_of, events_of_outcome, cast_in, cast_of_session}
+use Rattle.sg_protocol.specs.Run.{run, events_of, events_of_outcome, cast_of_session}
 use Rattle.sg_protocol.specs.Schedule.{Schedule, graph_with, honest_role}
 use Rattle.sg_protocol.specs.Session.{principal}
 use Rattle.sg_protocol.specs.Texts.{real}
-use Rattle.sg_protocol.specs.Verdict.{receipt}
-use Rattle.sg_protocol.specs.World.{Logged, Answered}
-use Rattle.sg_protocol.proofs.RealHash.{real_hash}
+use Rattle.sg_protocol.specs.World.{Logged}
 use Rattle.sg_protocol.proofs.Whole.{honest_inside}
-use Rattle.sg_certify.specs.Runs.{IsUnbroken, IsTraceOf, AreTraces, sids_of}
-use Rattle.sg_certify.specs.Adding.{AreHonestIn, Begins, Adds, Takes, view_now}
-use Rattle.sg_certify.proofs.Entries.{IsEntry}
+use Rattle.sg_certify.specs.Runs.{IsTraceOf, AreTraces, sids_of}
+use Rattle.sg_certify.specs.Adding.{AreHonestIn, begun, with_shown}
 
 -- ---- texts that stand once
 
@@ -112,14 +108,6 @@ no_steps sid (x ∷ xs) h =
     let rest = no_steps sid xs ps.1 in
     (rw none rest.0, λ more. rw none (rest.1 more))
 
--- the first event of a session has its cast in the call
-pub first_cast : (sid : List ℕ) (before : List Logged) (l : Logged) (after : List Logged) (e : Event) (call : Call) (cast : Cast) → has_text sid (sids_of before) ≡ false → events_of_outcome l.outcome ≡ e ∷ [] → sid_of e ≡ sid → l.call ≡ Some call
-    → cast_of_session sid (before ++ l ∷ after) ≡ Some cast → cast_in call ≡ Some cast
-first_cast sid before l after e call cast none one is called has =
-    let yes : is_of_session sid l ≡ true = of_session sid l e one ∙ or_false (bytes_eq (sid_of e) sid) ∙ bytes_same (sid_of e) sid is in
-    let at : find (is_of_session sid) (before ++ l ∷ after) ≡ Some l = (no_steps sid before none).1 (l ∷ after) ∙ ap (λ (b : Bool). cond b (Some l) (find (is_of_session sid) after)) yes in
-    ap (option_and_then cast_in) (sym called) ∙ ap (option_and_then (λ (x : Logged). option_and_then cast_in x.call)) (sym at) ∙ has
-
 -- ---- one trace
 
 module _ (s : Schedule) (log : List Logged) (before : List Logged) (l : Logged) where
@@ -130,7 +118,7 @@ module _ (s : Schedule) (log : List Logged) (before : List Logged) (l : Logged) 
   Now x = IsTraceOf s log (before ++ l ∷ []) x.0 x.1
 
   same_trace : (x : Entry) → steps_of_session x.0 (before ++ l ∷ []) ≡ steps_of_session x.0 before → Before x → Now x
-  same_trace x same h = record { cast = h.cast; graph = h.graph; honest = h.honest; trace = subst (λ ls. IsTrace x.1.graph x.0 ls x.1.shown x.1.origins) (sym same) h.trace }
+  same_trace x same h = record { cast = h.cast; is_cast = h.is_cast; graph = h.graph; honest = h.honest; trace = subst (λ ls. IsTrace x.1.graph x.0 ls x.1.shown) (sym same) h.trace }
 
   -- a step of another session leaves it
   of_other : (e : Event) → events_of_outcome l.outcome ≡ e ∷ [] → (x : Entry) → bytes_eq (sid_of e) x.0 ≡ false → Before x → Now x
@@ -175,7 +163,7 @@ keys_kept (x ∷ xs) (suc i) new = ap (λ ks. x.0 ∷ ks) (keys_kept xs i new)
 -- a session that has a trace goes on
 pub goes_at : (s : Schedule) (programs : List Program) (before : List Logged) (l : Logged) (e : Event) (es : List Entry) (i : ℕ) (old new : Trace) → events_of_outcome l.outcome ≡ e ∷ [] → slice_get es i ≡ Some (sid_of e, old)
     → (IsTraceOf s (run real programs s).log before (sid_of e) old → IsTraceOf s (run real programs s).log (before ++ l ∷ []) (sid_of e) new)
-    → AreTraces s before (record { programs = programs; traces = es }) → AreTraces s (before ++ l ∷ []) (record { programs = programs; traces = set_value_at es i new })
+    → AreTraces programs s before es → AreTraces programs s (before ++ l ∷ []) (set_value_at es i new)
 goes_at s programs before l e es i old new one at step are =
     let log = (run real programs s).log in
     let there : has_text (sid_of e) (sids_of before) ≡ true = sym (has_text-firsts (sid_of e) (sids_of before)) ∙ ap (has_text (sid_of e)) (sym are.sids) ∙ in_keys s log before l es i (sid_of e) old at in
@@ -188,7 +176,7 @@ goes_at s programs before l e es i old new one at step are =
 -- a session that has none begins
 pub goes_new : (s : Schedule) (programs : List Program) (before : List Logged) (l : Logged) (e : Event) (es : List Entry) (new : Trace) → events_of_outcome l.outcome ≡ e ∷ [] → has_text (sid_of e) (keys es) ≡ false
     → IsTraceOf s (run real programs s).log (before ++ l ∷ []) (sid_of e) new
-    → AreTraces s before (record { programs = programs; traces = es }) → AreTraces s (before ++ l ∷ []) (record { programs = programs; traces = es ++ (sid_of e, new) ∷ [] })
+    → AreTraces programs s before es → AreTraces programs s (before ++ l ∷ []) (es ++ (sid_of e, new) ∷ [])
 goes_new s programs before l e es new one none is are =
     let log = (run real programs s).log in
     let absent : has_text (sid_of e) (sids_of before) ≡ false = sym (has_text-firsts (sid_of e) (sids_of before)) ∙ ap (has_text (sid_of e)) (sym are.sids) ∙ none in
@@ -198,13 +186,13 @@ goes_new s programs before l e es new one none is are =
     }
 
 -- a step without an event leaves all as they were
-pub goes_past : (s : Schedule) (before : List Logged) (l : Logged) (c : Traces) → events_of_outcome l.outcome ≡ [] → AreTraces s before c → AreTraces s (before ++ l ∷ []) c
-goes_past s before l c none are =
-    let log = (run real c.programs s).log in
+pub goes_past : (programs : List Program) (s : Schedule) (before : List Logged) (l : Logged) (c : Traces) → events_of_outcome l.outcome ≡ [] → AreTraces programs s before c → AreTraces programs s (before ++ l ∷ []) c
+goes_past programs s before l c none are =
+    let log = (run real programs s).log in
     let no : (sid : List ℕ) → is_of_session sid l ≡ false = λ sid. ap (list_any (λ x. bytes_eq (sid_of x) sid)) none in
     record {
       sids = are.sids ∙ ap firsts (sym (ap (map sid_of) (flat_map-append (λ (x : Logged). events_of_outcome x.outcome) before (l ∷ []) ∙ ap (λ es. flat_map (λ (x : Logged). events_of_outcome x.outcome) before ++ (es ++ [])) none ∙ append-nil (flat_map (λ (x : Logged). events_of_outcome x.outcome) before))));
-      each = all_same (λ x h. same_trace s log before l x (none_of x.0 before l (no x.0)) h) c.traces are.each;
+      each = all_same (λ x h. same_trace s log before l x (none_of x.0 before l (no x.0)) h) c are.each;
     }
   where
     all_same : {P Q : Entry → Type 0} → ((x : Entry) → P x → Q x) → (es : List Entry) → AllByRecursion P es → AllByRecursion Q es
@@ -213,25 +201,25 @@ goes_past s before l c none are =
 
 -- ---- the step of a trace
 
--- the new trace, by what it adds
-added : (s : Schedule) (log before : List Logged) (l : Logged) (sid : List ℕ) (old new : Trace) (e : Event) (walk : List ℕ) → events_of_outcome l.outcome ≡ e ∷ [] → sid_of e ≡ sid → Adds old new e walk
-    → IsTraceOf s log before sid old → IsTrace old.graph sid (steps_of_session sid before ++ l ∷ []) (old.shown ++ (e, walk) ∷ []) new.origins → IsTraceOf s log (before ++ l ∷ []) sid new
-added s log before l sid old new e walk one is add h trace = record {
-  cast = h.cast ∙ ap Some (sym add.cast);
-  graph = ap (λ (c : Cast). graph_with real s.graphs c.graph) add.cast ∙ h.graph ∙ ap Some (sym add.graph);
-  honest = λ r. ap (is_in r) add.honest ∙ h.honest r ∙ ap (λ (c : Cast). honest_role s c r) (sym add.cast);
-  trace = subst (λ (g : Graph). IsTrace g sid (steps_of_session sid (before ++ l ∷ [])) new.shown new.origins) (sym add.graph)
-      (subst (λ ls. IsTrace old.graph sid ls new.shown new.origins) (sym (more_of sid before l e one is))
-      (subst (λ ps. IsTrace old.graph sid (steps_of_session sid before ++ l ∷ []) ps new.origins) (sym add.shown) trace));
-}
+-- what the step shows by the session's steps alone
+of_its_steps : (g : Graph) (sid : List ℕ) (before : List Logged) (l : Logged) (walk : List ℕ) → IsShown g sid before l walk → IsShown g sid (steps_of_session sid before) l walk
+of_its_steps g sid before l walk is = same_shown g sid (steps_of_session sid before) before l l walk refl (sym (events_of-part sid before)) is
 
--- an act or a start
-pub acts : (s : Schedule) (log before : List Logged) (l : Logged) (sid : List ℕ) (old new : Trace) (e : Event) (walk : List ℕ) → events_of_outcome l.outcome ≡ e ∷ [] → sid_of e ≡ sid → is_receipt e ≡ false → Adds old new e walk
-    → IsTraceOf s log before sid old → IsTraceOf s log (before ++ l ∷ []) sid new
-acts s log before l sid old new e walk one is other add h =
-    let here : events_of sid (l ∷ []) ≡ e ∷ [] = ap (λ es. filter (λ x. bytes_eq (sid_of x) sid) (es ++ [])) one ∙ ap (λ (b : Bool). cond b (e ∷ []) []) (bytes_same (sid_of e) sid is) in
-    let trace : IsTrace old.graph sid (steps_of_session sid before ++ l ∷ []) (old.shown ++ (e, walk) ∷ []) new.origins = (goes_on old.graph sid).acts (steps_of_session sid before) old.shown old.origins new.origins l e walk h.trace one here other add.origins in
-    added s log before l sid old new e walk one is add h trace
+-- the event alone, in its session
+pub its_event : (sid : List ℕ) (l : Logged) (e : Event) → events_of_outcome l.outcome ≡ e ∷ [] → sid_of e ≡ sid → events_of sid (l ∷ []) ≡ e ∷ []
+its_event sid l e one is = ap (λ es. filter (λ x. bytes_eq (sid_of x) sid) (es ++ [])) one ∙ ap (λ (b : Bool). cond b (e ∷ []) []) (bytes_same (sid_of e) sid is)
+
+-- a trace with one event more
+pub added : (s : Schedule) (log before : List Logged) (l : Logged) (sid : List ℕ) (old : Trace) (e : Event) (walk : List ℕ) → events_of_outcome l.outcome ≡ e ∷ [] → sid_of e ≡ sid → IsShown old.graph sid before l walk
+    → IsTraceOf s log before sid old → IsTraceOf s log (before ++ l ∷ []) sid (with_shown old e walk)
+added s log before l sid old e walk one is shown h = record {
+  cast = h.cast;
+  is_cast = h.is_cast;
+  graph = h.graph;
+  honest = h.honest;
+  trace = subst (λ ls. IsTrace old.graph sid ls (old.shown ++ (e, walk) ∷ [])) (sym (more_of sid before l e one is))
+      (one_more old.graph sid (steps_of_session sid before) old.shown l e walk h.trace (its_event sid l e one is) (of_its_steps old.graph sid before l walk shown));
+}
 
 -- ---- where a trace begins
 
@@ -244,39 +232,14 @@ honest_roles s sched cast set are r = are r ∙ by (nat_lt r (length cast.names)
     by false e false h = refl
     by false e true h = absurd (let less : r < length cast.names = honest_inside real s sched cast r h in let z : nat_lt r (length cast.names) ≡ true = grind (arith, nat_tests, less) in let y : true ≡ false = sym z ∙ e in cc)
 
--- a new trace is that of a session of which no step has an event
-pub begins : (programs : List Program) (s : Schedule) (u : IsUnbroken programs s) (before : List Logged) (e : Event) (i : IsEntry programs s e) (cast : Cast) (c : Trace) → has_text (sid_of e) (sids_of before) ≡ false → i.cast ≡ cast
-    → Begins programs s.honest cast (role_of e) c → IsTraceOf s (run real programs s).log before (sid_of e) c
-begins programs s u before e i cast c none same b =
-    let is_cast : i.cast ≡ c.cast = same ∙ sym b.of_cast in
-    let two : Some i.program ≡ Some b.program = sym i.found ∙ ap (λ (x : Cast). program_for programs x.graph (role_of e)) same ∙ b.found in
-    let program : i.program ≡ b.program = cc in
-    let graph : i.graph ≡ c.graph = sym i.of_graph ∙ ap (λ (p : Program). p.graph) program ∙ sym b.graph in
-    record {
-      cast = i.is_cast ∙ ap Some is_cast;
-      graph = ap (λ (x : Cast). graph_with real s.graphs x.graph) (sym is_cast) ∙ i.is_graph ∙ ap Some graph;
-      honest = λ r. honest_roles s u.schedule cast c.honest b.honest r ∙ ap (λ (x : Cast). honest_role s x r) (sym b.of_cast);
-      trace = subst (λ ls. IsTrace c.graph (sid_of e) ls c.shown c.origins) (sym (no_steps (sid_of e) before none).0) (subst (λ ps. IsTrace c.graph (sid_of e) [] ps c.origins) (sym b.shown) ((goes_on c.graph (sid_of e)).begins c.origins b.origins));
-    }
-
--- ---- a frame that was taken
-
-pub takes : (programs : List Program) (s : Schedule) (u : IsUnbroken programs s) (before : List Logged) (l : Logged) (after : List Logged) (bs : List ℕ) (f : Frame) (old new : Trace) → (run real programs s).log ≡ before ++ l ∷ after → l.call ≡ Some (Deliver bs) → read bs ≡ Ok f
-    → events_of_outcome l.outcome ≡ receipt f ∷ [] → l.outcome ≡ Answered (Happened (receipt f)) → IsEntry programs s (receipt f) → Takes programs old new (receipt f) f
-    → IsTraceOf s (run real programs s).log before f.sid old → IsTraceOf s (run real programs s).log (before ++ l ∷ []) f.sid new
-takes programs s u before l after bs f old new parts call reads one outcome i t h =
-    let log = (run real programs s).log in
-    let casts : Some i.cast ≡ Some old.cast = sym i.is_cast ∙ h.cast in
-    let cast : i.cast ≡ old.cast = cc in
-    let graphs : Some i.graph ≡ Some old.graph = sym i.is_graph ∙ ap (λ (x : Cast). graph_with real s.graphs x.graph) cast ∙ h.graph in
-    let graph : i.graph ≡ old.graph = cc in
-    let steps : steps_of_session f.sid log ≡ steps_of_session f.sid before ++ l ∷ steps_of_session f.sid after =
-    ap (steps_of_session f.sid) parts ∙ filter-append (is_of_session f.sid) before (l ∷ after)
-    ∙ ap (λ (b : Bool). steps_of_session f.sid before ++ cond b (l ∷ steps_of_session f.sid after) (steps_of_session f.sid after)) (of_session f.sid l (receipt f) one ∙ or_false (bytes_eq f.sid f.sid) ∙ bytes_refl f.sid) in
-    let view : IsView old.graph f.receiver (view_now old f) =
-    traces_show_views real real_hash programs s f.sid old.cast old.graph (steps_of_session f.sid before) old.shown old.origins l (steps_of_session f.sid after) bs f u.compiled u.schedule u.premises h.cast h.graph steps h.trace call reads outcome refl i.small in
-    let found : program_for programs old.cast.graph f.receiver ≡ Some i.program = ap (λ (x : Cast). program_for programs x.graph f.receiver) (sym cast) ∙ i.found in
-    let got = t i.program found (i.of_graph ∙ graph) i.is_role view in
-    let trace : IsTrace old.graph f.sid (steps_of_session f.sid before ++ l ∷ []) (old.shown ++ (receipt f, got.0) ∷ []) new.origins =
-    (goes_on old.graph f.sid).takes (steps_of_session f.sid before) old.shown old.origins new.origins l bs f got.0 h.trace call reads outcome refl i.small got.1 got.2.origins in
-    added s log before l f.sid old new (receipt f) got.0 one refl got.2 h trace
+-- a trace of one event is that of a session of which no step before has an event
+pub begins : (s : Schedule) (log before : List Logged) (l : Logged) (cast : Cast) (g : Graph) (honest : List ℕ) (e : Event) (walk : List ℕ) → IsSchedule real s → cast_of_session (sid_of e) log ≡ Some cast → graph_with real s.graphs cast.graph ≡ Some g
+    → AreHonestIn s.honest cast honest → has_text (sid_of e) (sids_of before) ≡ false → events_of_outcome l.outcome ≡ e ∷ [] → IsShown g (sid_of e) before l walk → IsTraceOf s log (before ++ l ∷ []) (sid_of e) (begun g honest e walk)
+begins s log before l cast g honest e walk sched is_cast is_graph are none one shown =
+    added s log before l (sid_of e) (record { graph = g; honest = honest; shown = [] }) e walk one refl shown (record {
+      cast = cast;
+      is_cast = is_cast;
+      graph = is_graph;
+      honest = honest_roles s sched cast honest are;
+      trace = subst (λ ls. IsTrace g (sid_of e) ls []) (sym (no_steps (sid_of e) before none).0) (no_steps_yet g (sid_of e));
+    })

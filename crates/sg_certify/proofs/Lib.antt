@@ -10,9 +10,6 @@ pub mod Filled
 pub mod Unknown
 pub mod Parted
 pub mod Traced
-pub mod Deltas
-pub mod Rows
-pub mod Ends
 pub mod Entries
 pub mod Going
 pub mod Stepping

@@ -84,7 +84,7 @@ not_taken g sid before l n bs f call reads outcome same =
     absurd (let z : true ≡ false = sym both ∙ n in cc)
 
 -- what a step shows depends on the session's events before it alone
-same_shown : (g : Graph) (sid : List ℕ) (before others : List Logged) (l k : Logged) (walk : List ℕ) → l ≡ k → events_of sid others ≡ events_of sid before → IsShown g sid others k walk → IsShown g sid before l walk
+pub same_shown : (g : Graph) (sid : List ℕ) (before others : List Logged) (l k : Logged) (walk : List ℕ) → l ≡ k → events_of sid others ≡ events_of sid before → IsShown g sid others k walk → IsShown g sid before l walk
 same_shown g sid before others l k walk is e h bs f call reads outcome same =
     subst (λ es. IsExample g f.receiver (view_in es f) walk) e (h bs f (ap (λ (x : Logged). x.call) (sym is) ∙ call) reads (ap (λ (x : Logged). x.outcome) (sym is) ∙ outcome) same)
 

@@ -1,5 +1,5 @@
 -- What holds of the walks and traces of the sessions of a run.
-use Rattle.std.specs.Prelude.{◌≡◌, ℕ, List, [], ◌∷◌, ◌++◌, map, Some, Ok, ◌<◌, false, get_or, Option, None}
+use Rattle.std.specs.Prelude.{◌≡◌, ℕ, List, [], ◌∷◌, ◌++◌, map, Some, Ok}
 use Rattle.sg_protocol.specs.Calls.{Event, Deliver, Happened}
 use Rattle.sg_protocol.specs.Evidence.{IsView}
 use Rattle.sg_protocol.specs.Frame.{Cast, Frame}
@@ -16,10 +16,10 @@ use Rattle.sg_protocol.specs.Verdict.{receipt}
 use Rattle.sg_protocol.specs.Walk.{OnePath}
 use Rattle.sg_protocol.specs.World.{Logged, Answered}
 use Rattle.sg_certify.specs.Events.{explaining_walk}
-use Rattle.sg_certify.specs.Examples.{AreOrigins, view_since}
+use Rattle.sg_certify.specs.Adding.{IsAdded}
 use Rattle.sg_certify.specs.Sessions.{events_beside, steps_of_session}
-use Rattle.sg_certify.specs.Traces.{Traces, IsTrace, is_receipt, Notes}
-use Rattle.sg_certify.specs.Runs.{AreTraces}
+use Rattle.sg_certify.specs.Traces.{Traces, IsTrace}
+use Rattle.sg_certify.specs.Runs.{AreTraces, IsNext, IsShownStep, IsUnbroken}
 
 -- If the assumptions hold, the walk of a session's events is one path of them, whichever walks that show what was taken stand beside its steps
 abbrev pub SessionsAreExplained : Hash → Type 0
@@ -36,31 +36,18 @@ SessionsShowViews sha = (programs : List Program) (s : Schedule) (sid : List ℕ
     steps_of_session sid w.log ≡ before ++ l ∷ after → l.call ≡ Some (Deliver bs) → read bs ≡ Ok f → l.outcome ≡ Answered (Happened (receipt f)) → f.sid ≡ sid →
     IsView g f.receiver (view_in (events_of sid before) f)
 
--- A trace begins without steps, and goes on with a step: with a start or what was sent, beside any walk, and with a frame that was taken beside an example of what it shows
-pub record GoesOn (g : Graph) (sid : List ℕ) : Type 0 where
-  pub begins : (origins : List (Option ℕ)) → AreOrigins [] origins → IsTrace g sid [] [] origins
-  pub acts : (steps : List Logged) (shown : List (Event × List ℕ)) (old new : List (Option ℕ)) (l : Logged) (e : Event) (walk : List ℕ) → IsTrace g sid steps shown old →
-      events_of_outcome l.outcome ≡ e ∷ [] → events_of sid (l ∷ []) ≡ e ∷ [] → is_receipt e ≡ false → Notes old new e → IsTrace g sid (steps ++ l ∷ []) (shown ++ (e, walk) ∷ []) new
-  pub takes : (steps : List Logged) (shown : List (Event × List ℕ)) (old new : List (Option ℕ)) (l : Logged) (bs : List ℕ) (f : Frame) (walk : List ℕ) → IsTrace g sid steps shown old →
-      l.call ≡ Some (Deliver bs) → read bs ≡ Ok f → l.outcome ≡ Answered (Happened (receipt f)) → f.sid ≡ sid → f.receiver < 16 → IsExample g f.receiver (view_since (get_or old f.receiver None) f) walk →
-      Notes old new (receipt f) → IsTrace g sid (steps ++ l ∷ []) (shown ++ (receipt f, walk) ∷ []) new
-
--- If the assumptions hold, each frame that was taken shows a view of its receiver, by the last labels in a trace of the session's steps before it
-abbrev pub TracesShowViews : Hash → Type 0
-TracesShowViews sha = (programs : List Program) (s : Schedule) (sid : List ℕ) (cast : Cast) (g : Graph) (steps : List Logged) (shown : List (Event × List ℕ)) (origins : List (Option ℕ)) (l : Logged) (after : List Logged) (bs : List ℕ) (f : Frame) →
-    AreCompiled sha s.graphs programs → IsSchedule sha s →
-    let w = run sha programs s in
-    Premises sha s w → cast_of_session sid w.log ≡ Some cast → graph_with sha s.graphs cast.graph ≡ Some g →
-    steps_of_session sid w.log ≡ steps ++ l ∷ after → IsTrace g sid steps shown origins → l.call ≡ Some (Deliver bs) → read bs ≡ Ok f → l.outcome ≡ Answered (Happened (receipt f)) → f.sid ≡ sid → f.receiver < 16 →
-    IsView g f.receiver (view_since (get_or origins f.receiver None) f)
+-- In a run in which the assumptions hold, traces of its steps so far are with one more event beside a walk that shows what it took those of the steps with its step
+abbrev pub TracesGoOn : Type 0
+TracesGoOn = (programs : List Program) (s : Schedule) (before : List Logged) (l : Logged) (g : Graph) (honest : List ℕ) (e : Event) (walk : List ℕ) (old new : Traces) → IsUnbroken programs s → IsNext programs s before l →
+    IsShownStep programs s before l g honest e walk → AreTraces programs s before old → IsAdded g honest e walk old new → AreTraces programs s (before ++ l ∷ []) new
 
 -- If the assumptions hold, the walk of the events of a trace of all its steps is one path of the session's events
 abbrev pub TracesAreExplained : Hash → Type 0
-TracesAreExplained sha = (programs : List Program) (s : Schedule) (sid : List ℕ) (cast : Cast) (g : Graph) (shown : List (Event × List ℕ)) (origins : List (Option ℕ)) → AreCompiled sha s.graphs programs → IsSchedule sha s →
+TracesAreExplained sha = (programs : List Program) (s : Schedule) (sid : List ℕ) (cast : Cast) (g : Graph) (shown : List (Event × List ℕ)) → AreCompiled sha s.graphs programs → IsSchedule sha s →
     let w = run sha programs s in
-    Premises sha s w → cast_of_session sid w.log ≡ Some cast → graph_with sha s.graphs cast.graph ≡ Some g → IsTrace g sid (steps_of_session sid w.log) shown origins →
+    Premises sha s w → cast_of_session sid w.log ≡ Some cast → graph_with sha s.graphs cast.graph ≡ Some g → IsTrace g sid (steps_of_session sid w.log) shown →
     OnePath g (honest_role s cast) (events_of sid w.log) (explaining_walk g (honest_role s cast) [] shown)
 
 -- A step without an event leaves traces as they are
 abbrev pub OthersPass : Type 0
-OthersPass = (s : Schedule) (before : List Logged) (l : Logged) (c : Traces) → events_of_outcome l.outcome ≡ [] → AreTraces s before c → AreTraces s (before ++ l ∷ []) c
+OthersPass = (programs : List Program) (s : Schedule) (before : List Logged) (l : Logged) (c : Traces) → events_of_outcome l.outcome ≡ [] → AreTraces programs s before c → AreTraces programs s (before ++ l ∷ []) c

@@ -3,11 +3,9 @@ pub mod Forged
 pub mod Events
 pub mod Filling
 pub mod Sessions
-pub mod Examples
 pub mod Traces
 pub mod Runs
 pub mod Adding
-pub mod Tables
 pub mod Model
 pub mod Invariant
 pub mod Laws

@@ -18,8 +18,8 @@ notes_kept m = map note_kept m.notes.keys
 
 -- the trace that is kept
 abbrev pub trace_of : TraceInside → Trace
-trace_of c = record { cast = c.cast; graph = c.graph.now; honest = c.honest; shown = map pair_of c.shown.items; origins = c.origins }
+trace_of c = record { graph = c.graph.now; honest = c.honest; shown = map pair_of c.shown.items }
 
 -- the traces that are kept
 abbrev pub traces_of : TracesInside → Traces
-traces_of c = record { programs = c.programs.now; traces = c.table.entries }
+traces_of c = c.table.entries

@@ -16,7 +16,7 @@ pub trait Honest {
 }
 
 /// The roles of the cast whose principals are honest. It takes no memory.
-pub(crate) fn honest_roles<H: Honest>(honest: &H, cast: &Cast) -> RoleSet
+pub fn honest_roles<H: Honest>(honest: &H, cast: &Cast) -> RoleSet
     ensures { AreHonestIn (H.names honest.now) cast.now result }
 {
     let mut roles = RoleSet::empty();

@@ -1,8 +1,7 @@
 //! What holds of the walks and the traces of a run's sessions. Each function is a law: it does nothing, and its contract is the statement.
 ghost use Rattle.std.specs.Prelude.{ℕ, List};
-ghost use Rattle.sg_protocol.specs.Graph.{Graph};
 ghost use Rattle.sg_protocol.specs.Texts.{IsHash};
-ghost use Rattle.sg_certify.specs.Laws.{GoesOn, OthersPass, SessionsAreExplained, SessionsShowViews, TracesAreExplained, TracesShowViews};
+ghost use Rattle.sg_certify.specs.Laws.{OthersPass, SessionsAreExplained, SessionsShowViews, TracesAreExplained, TracesGoOn};
 
 /// The walk that is made of a session's events explains them. Of a run in which the assumptions hold, let beside each step that has an event
 /// of the session stand a walk from the start, which shows the receiver the view of the frame, if the step took one. Then what
@@ -13,12 +12,10 @@ pub fn sessions_are_explained()
     ensures shown { (sha : List ℕ → List ℕ) → IsHash sha → SessionsShowViews sha }
 {}
 
-/// The same, gone through step by step: a trace of a session's steps begins without any, and goes on with a start or a sending beside
-/// any walk, and with a frame that was taken beside an example of what it shows by the last labels so far. If the assumptions hold, each
-/// such frame shows a view, so there is an example; and the walk of the events of a trace of all the session's steps is one path.
+/// The same, gone through step by step: traces of the steps so far go on with an event beside a walk that shows what it took, and the walk of
+/// the events of a trace of all the session's steps is one path.
 pub fn traces_are_explained()
-    ensures goes_on { (g : Graph) (sid : List ℕ) → GoesOn g sid }
-    ensures shown { (sha : List ℕ → List ℕ) → IsHash sha → TracesShowViews sha }
+    ensures goes_on { TracesGoOn }
     ensures explained { (sha : List ℕ → List ℕ) → IsHash sha → TracesAreExplained sha }
 {}
 
