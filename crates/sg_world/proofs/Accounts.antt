@@ -1,25 +1,23 @@
 -- What is kept of a replay is what its account says.
-use Rattle.std.proofs.Common.{◌≡◌, ℕ, List, [], map, Option, Some, All, refl, sym, ◌∙◌, ap, subst}
-use Rattle.std.specs.List.{AllByRecursion}
+use Rattle.std.proofs.Common.{◌≡◌, ℕ, List, [], map, All, refl, sym, ◌∙◌, ap, subst}
+use Rattle.std.specs.List.{AllByRecursion, AllZip}
 use Rattle.std.proofs.lemmas.List.Elements.{All-from_recursion, recursion_from_All}
 use Rattle.sg_text.specs.Sessions.{KnownSessions, naming}
 use Rattle.sg_protocol.specs.IsSchedule.{AreCompiled, IsSchedule}
 use Rattle.sg_protocol.specs.Run.{run}
 use Rattle.sg_protocol.specs.Texts.{real}
-use Rattle.sg_report.specs.Report.{StepLine, known_sessions}
-use Rattle.sg_report.specs.Reported.{CanBeReported, reported_log}
+use Rattle.sg_report.specs.Report.{lines_from, known_sessions}
 use Rattle.sg_world.specs.Account.{CanBeNamed, account, lines_of}
 use Rattle.sg_world.specs.Holds.{Holds, schedule_of}
 use Rattle.sg_world.specs.RecordModel.{Recorded, TakenStep}
 use Rattle.sg_world.specs.KeptLines.{CanBeWritten, line_kept, known_in}
 use Rattle.sg_world.specs.Replay.{Replay}
 use Rattle.sg_world.specs.Setting.{Setting}
-use Rattle.sg_world.proofs.KeptLines.{events_alike, lines_alike}
+use Rattle.sg_world.proofs.KeptLines.{events_alike, lines_alike, lines_written}
 use Rattle.sg_world.proofs.Pasts.{Named}
-use Rattle.sg_world.proofs.RunEntries.{entries_of_steps}
+use Rattle.sg_world.proofs.RunEntries.{EntryOf, entries_of_steps}
 use Rattle.sg_world.proofs.NamedLines.{lines_can_be_reported}
 use Rattle.sg_world.proofs.Worlds.{replay}
-use Rattle.sg_world.proofs.WrittenLines.{can_be_written}
 
 module _ (rep : Replay) (d : Setting) (nodes : List Named) (r : Recorded) (is : replay d nodes r ≡ rep) (h : Holds d nodes r) (es : List TakenStep) (same : es ≡ r.entries) where
   pub compiled_is : AreCompiled real rep.schedule.graphs rep.programs
@@ -39,17 +37,20 @@ module _ (rep : Replay) (d : Setting) (nodes : List Named) (r : Recorded) (is : 
     named_here : All (CanBeNamed (schedule_of d nodes r)) (schedule_of d nodes r).steps
     named_here = subst (λ (z : Replay). All (CanBeNamed z.schedule) z.schedule.steps) (sym is) named
 
-    -- the lines that are kept are those of the account
-    pub lines_kept : map (line_kept d) es ≡ map {B = Option StepLine} Some (account rep).lines
-    lines_kept =
-        let w = run real d.programs (schedule_of d nodes r) in
-        ap (map (line_kept d)) same
-        ∙ lines_alike (replay d nodes r) d refl refl r.entries w.log (reported_log w.log) h.run.reported h.run.graphs (entries_of_steps d.programs (schedule_of d nodes r) h.taken) (recursion_from_All (CanBeNamed (schedule_of d nodes r)) (schedule_of d nodes r).steps named_here)
-        ∙ ap (λ (z : Replay). map {B = Option StepLine} Some (lines_of z)) is
+    of_steps : AllZip (EntryOf (schedule_of d nodes r)) (schedule_of d nodes r).steps (run real d.programs (schedule_of d nodes r)).log
+    of_steps = entries_of_steps d.programs (schedule_of d nodes r) h.taken
 
-    reported : AllByRecursion (λ (l : StepLine). CanBeReported l.graph l.reported) (account rep).lines
-    reported = subst (λ (z : Replay). AllByRecursion (λ (l : StepLine). CanBeReported l.graph l.reported) (lines_of z)) is (lines_can_be_reported (replay d nodes r) h.compiled h.schedule h.taken named_here)
+    -- the lines that are kept are written as those of the account
+    pub lines_kept : (m : KnownSessions) → lines_from m 1 (map (line_kept d) es) ≡ lines_from m 1 (account rep).lines
+    lines_kept m =
+        ap (λ (z : List TakenStep). lines_from m 1 (map (line_kept d) z)) same
+        ∙ lines_alike (replay d nodes r) d refl refl m 1 r.entries [] (run real d.programs (schedule_of d nodes r)).log h.run.reported h.run.learnt of_steps (recursion_from_All (CanBeNamed (schedule_of d nodes r)) (schedule_of d nodes r).steps named_here)
+        ∙ ap (λ (z : Replay). lines_from m 1 (lines_of z)) is
 
     -- and each can be written
+    written_here : AllByRecursion (CanBeWritten d) r.entries
+    written_here =
+        lines_written (replay d nodes r) d refl refl r.entries [] (run real d.programs (schedule_of d nodes r)).log h.run.reported h.run.learnt of_steps (lines_can_be_reported (replay d nodes r) h.compiled h.schedule h.taken named_here)
+
     pub can_write : All (CanBeWritten d) es
-    can_write = All-from_recursion (CanBeWritten d) es (can_be_written d es (account rep).lines lines_kept reported)
+    can_write = All-from_recursion (CanBeWritten d) es (subst (AllByRecursion (CanBeWritten d)) (sym same) written_here)

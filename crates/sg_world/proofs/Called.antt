@@ -13,40 +13,49 @@ use Rattle.sg_protocol.proofs.Progressing.{confounder_length}
 use Rattle.sg_protocol.proofs.Spelled.{bytes-append, to_bytes, u64_bytes}
 use Rattle.sg_protocol.specs.Acting.{answer}
 use Rattle.sg_protocol.specs.Calls as Protocol
-use Rattle.sg_protocol.specs.Calls.{Call, Answer, Start, Act}
+use Rattle.sg_protocol.specs.Calls.{Call, Start, Act, Deliver}
 use Rattle.sg_protocol.specs.Frame.{Cast, Frame}
-use Rattle.sg_protocol.specs.Graph.{Graph}
 use Rattle.sg_protocol.specs.NodeStates.{NodeState}
 use Rattle.sg_protocol.specs.Notes.{Notes, no_notes, notes as noted_of}
 use Rattle.sg_protocol.specs.Past.{Past, node_of}
 use Rattle.sg_protocol.specs.Ranges.{IsCallInRange, AreValues}
+use Rattle.sg_protocol.specs.Reading.{read}
 use Rattle.sg_protocol.specs.Run.{frame_in}
 use Rattle.sg_protocol.specs.Schedule.{NamedSession, Schedule, StartStep, ActStep, sid_at, confounder}
 use Rattle.sg_protocol.specs.Spelling.{spelling, u64}
 use Rattle.sg_protocol.specs.Texts.{real, session_id}
 use Rattle.sg_protocol.specs.Named.{graph_of_call}
 use Rattle.sg_protocol.specs.World.{World, call_of}
-use Rattle.sg_walk.specs.Model.{values_of}
+use Rattle.sg_walk.specs.Model.{event_of, values_of}
 use Rattle.sg_role.specs.Sending.{with_notes}
-use Rattle.sg_node.specs.Answers.{GoesOn}
-use Rattle.sg_report.specs.Reported.{Reported, Sends, reported_answer}
-use Rattle.sg_report.proofs.Answered.{SendsNothing}
+use Rattle.sg_node.specs.Answers.{GoesOn, answer_of_delivery, answer_of_start, graph_named}
+use Rattle.sg_node.specs.Receipts.{Receipt, IsReceiptAt}
+use Rattle.sg_node.specs.declared.refusal.StartRefusal.{StartRefusal}
+use Rattle.sg_node.specs.declared.refusal.DeliveryRefusal.{DeliveryRefusal}
+use Rattle.sg_node.specs.declared.answer.Happened.{Happened as Begun}
+use Rattle.sg_report.specs.Outcome.{graph_in, outcome_of}
+use Rattle.sg_report.specs.Reported.{reported_answer}
+use Rattle.sg_report.specs.declared.outcome.Outcome.{Outcome}
+use Rattle.sg_report.specs.declared.outcome.Outcome.TheVariants as OfStep
 use Rattle.sg_world.specs.StepResults.{IsResult, IsResultOfCall}
-use Rattle.sg_world.specs.RecordModel.{StepResult, no_frame}
+use Rattle.sg_world.specs.RecordModel.{IfReceived, StepResult, no_frame}
 
 -- the notes of a call that begins with none
 noted_first : (blank : StepResult) (notes more : Notes) → blank ≡ no_frame → notes ≡ with_notes blank.notes more → notes ≡ with_notes no_notes more
 noted_first blank notes more none h = h ∙ ap (λ (z : StepResult). with_notes z.notes more) none
 
 -- the outcome of a call that sends nothing
-pub results_quiet : (number : ℕ) (old new : NodeState) (past : Past) (call : Call) (reported : Option Reported) (graph : Option Graph) (notes : Notes) (blank c : StepResult) → blank ≡ no_frame → c ≡ record blank { reported = reported; graph = graph; notes = notes } → IsCallInRange call
-    → SendsNothing number (answer real (node_of past) call) reported → graph ≡ graph_of_call real (node_of past) call → notes ≡ with_notes blank.notes (noted_of real (node_of past) call) → GoesOn old new call past → IsResultOfCall number old new past call c
-results_quiet number old new past call reported graph notes blank c none e range h graphed noted goes =
+pub results_quiet : (number : ℕ) (old new : NodeState) (past : Past) (call : Call) (o : Outcome) (joined : Option Cast) (notes : Notes) (blank c : StepResult) → blank ≡ no_frame → c ≡ record blank { outcome = o; cast = joined; notes = notes } → IsCallInRange call
+    → outcome_of o ≡ reported_answer number (answer real (node_of past) call) → None ≡ frame_in (answer real (node_of past) call) → graph_in o ≡ graph_named (answer real (node_of past) call) (graph_of_call real (node_of past) call)
+    → ((bs : List ℕ) (f : Frame) → call ≡ Deliver bs → read bs ≡ Ok f → IfReceived o (λ r. IsReceiptAt (node_of past) f r × (joined ≡ f.join)))
+    → notes ≡ with_notes blank.notes (noted_of real (node_of past) call) → GoesOn old new call past → IsResultOfCall number old new past call c
+results_quiet number old new past call o joined notes blank c none e range told sends graphed shown noted goes =
     subst (IsResultOfCall number old new past call) (sym e) (record {
       range = range;
-      reported = h.0;
+      reported = told;
       graph = graphed;
-      frame = ap (λ (z : StepResult). z.frame) none ∙ h.1;
+      shown = shown;
+      frame = ap (λ (z : StepResult). z.frame) none ∙ sends;
       notes = noted_first blank notes (noted_of real (node_of past) call) none noted;
       goes_on = goes;
     })
@@ -80,16 +89,27 @@ results_act s w k number who n label values ds sid confounders old new past c sa
 
 -- ---- answers
 
+-- a start and a delivery send nothing
+pub start_is_quiet : (r : Result Begun StartRefusal) → None ≡ frame_in (answer_of_start r)
+start_is_quiet (Ok h) = refl
+start_is_quiet (Err why) = refl
+
+pub delivery_is_quiet : (r : Result Receipt DeliveryRefusal) → None ≡ frame_in (answer_of_delivery r)
+delivery_is_quiet (Ok x) = refl
+delivery_is_quiet (Err why) = refl
+
 -- the outcome of a step that was sent
-pub results_sent : (number : ℕ) (old new : NodeState) (past : Past) (sid : List ℕ) (label : ℕ) (values : Map Value) (confounders : List (List ℕ)) (e : Protocol.Event) (to bytes : List ℕ) (graph : Option Graph) (notes : Notes) (blank c : StepResult)
-    → blank ≡ no_frame → c ≡ record { reported = Some (Sends e to number); graph = graph; frame = Some bytes; notes = notes } → (f : Frame) → answer real (node_of past) (Act sid label values confounders) ≡ Protocol.Sends e to f → bytes ≡ spelling f
-    → AreValues values confounders → graph ≡ graph_of_call real (node_of past) (Act sid label values confounders) → notes ≡ with_notes blank.notes (noted_of real (node_of past) (Act sid label values confounders)) → GoesOn old new (Act sid label values confounders) past
+pub results_sent : (number : ℕ) (old new : NodeState) (past : Past) (sid : List ℕ) (label : ℕ) (values : Map Value) (confounders : List (List ℕ)) (h : Begun) (to bytes : List ℕ) (notes : Notes) (blank c : StepResult)
+    → blank ≡ no_frame → c ≡ record { outcome = OfStep.Sent h to number; cast = None; frame = Some bytes; notes = notes } → (f : Frame) → answer real (node_of past) (Act sid label values confounders) ≡ Protocol.Sends (event_of h.event) to f → bytes ≡ spelling f
+    → AreValues values confounders → Some h.graph.now ≡ graph_named (answer real (node_of past) (Act sid label values confounders)) (graph_of_call real (node_of past) (Act sid label values confounders))
+    → notes ≡ with_notes blank.notes (noted_of real (node_of past) (Act sid label values confounders)) → GoesOn old new (Act sid label values confounders) past
     → IsResultOfCall number old new past (Act sid label values confounders) c
-results_sent number old new past sid label values confounders e to bytes graph notes blank c none is f given spelled range graphed noted goes =
+results_sent number old new past sid label values confounders h to bytes notes blank c none is f given spelled range graphed noted goes =
     subst (IsResultOfCall number old new past (Act sid label values confounders)) (sym is) (record {
       range = range;
-      reported = ap (λ (a : Answer). Some (reported_answer number a)) (sym given);
+      reported = ap (reported_answer number) (sym given);
       graph = graphed;
+      shown = λ bs g call reads. absurd (cc);
       frame = ap (λ (z : List ℕ). Some z) spelled ∙ ap frame_in (sym given);
       notes = noted_first blank notes (noted_of real (node_of past) (Act sid label values confounders)) none noted;
       goes_on = goes;

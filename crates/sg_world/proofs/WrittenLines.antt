@@ -1,17 +1,21 @@
 -- Lines that are written one after another.
-use Rattle.std.proofs.Common.{◌≡◌, ℕ, zero, suc, ◌+◌, ◌<◌, List, [], ◌∷◌, ◌++◌, map, length, take, get_or, Option, Some, None, option_map, refl, sym, ◌∙◌, ap, subst, arith, append_assoc, append-nil}
-use Rattle.std.specs.Prelude.{IfSome, IsSomeAnd, OnOk, Result, Ok, Err, find, nat_lt, unwrap_or}
-use Rattle.std.specs.List.{AllByRecursion}
-use Rattle.std.specs.Option.{option_map_or, option_to_list}
+use Rattle.std.proofs.Common.{◌≡◌, ℕ, zero, suc, ◌+◌, ◌<◌, List, [], ◌∷◌, ◌++◌, map, length, take, get_or, Option, Some, None, refl, sym, ◌∙◌, ap, subst, inl, inr, arith, append_assoc, append-nil}
+use Rattle.std.proofs.lemmas.List.{map_more}
+use Rattle.std.specs.Prelude.{OnOk, Result, Ok, Err, unwrap_or}
+use Rattle.std.specs.Option.{option_map_or}
+use Rattle.std.specs.Fmt.{decimal}
 use Rattle.sg_text.specs.Sessions.{KnownSessions}
 use Rattle.sg_protocol.specs.Graph.{Graph}
 use Rattle.sg_protocol.specs.Schedule.{who_of}
-use Rattle.sg_report.specs.Lines.{graph_or_none, line_text}
+use Rattle.sg_report.proofs.NamedAnswers.{reported-anywhere, text-anywhere}
+use Rattle.sg_report.specs.Lines.{by_whom, graph_or_none, line_text, reported_text}
+use Rattle.sg_report.specs.Outcome.{graph_in, outcome_of}
 use Rattle.sg_report.specs.Report.{StepLine, line, lines_from, name_in}
-use Rattle.sg_report.specs.Reported.{CanBeReported, Reported, session_reported}
-use Rattle.sg_world.specs.Account.{graph_reported, variable_refused}
+use Rattle.sg_report.specs.Reported.{CanBeReported, session_reported}
+use Rattle.sg_report.specs.declared.outcome.Outcome.{Outcome}
+use Rattle.sg_world.specs.Account.{graph_reported}
 use Rattle.sg_world.specs.RecordModel.{TakenStep}
-use Rattle.sg_world.specs.KeptLines.{CanBeWritten, left_by, line_kept}
+use Rattle.sg_world.specs.KeptLines.{IsRenamed, left_by, line_kept}
 use Rattle.sg_world.specs.Setting.{Setting}
 
 -- one more line
@@ -22,71 +26,51 @@ lines_push m k (x ∷ xs) l =
     ap (λ t. line m k x ++ t) (lines_push m (k + 1) xs l ∙ ap (λ n. lines_from m (k + 1) xs ++ line m n l) index)
     ∙ sym (append_assoc (line m k x) (lines_from m (k + 1) xs) (line m (k + suc (length xs)) l))
 
--- the line at an index
-record LineAt (d : Setting) (e : TakenStep) (ls : List StepLine) (i : ℕ) : Type 0 where
-  line : StepLine
-  is : line_kept d e ≡ Some line
-  first : take (i + 1) ls ≡ take i ls ++ line ∷ []
-  many : length (take i ls) ≡ i
-
-line_at : (d : Setting) (es : List TakenStep) (ls : List StepLine) (i : ℕ) (e : TakenStep) → map (line_kept d) es ≡ map {B = Option StepLine} Some ls → i < length es → e ≡ get_or es i e → LineAt d e ls i
-line_at d [] ls i e h l at = absurd (omega arith)
-line_at d (x ∷ es) [] i e h l at = absurd (cc)
-line_at d (x ∷ es) (y ∷ ls) zero e h l at =
-    let here : line_kept d x ≡ Some y = cc in
-    record { line = y; is = ap (line_kept d) at ∙ here; first = refl; many = refl }
-line_at d (x ∷ es) (y ∷ ls) (suc i) e h l at =
-    let rest : map (line_kept d) es ≡ map {B = Option StepLine} Some ls = cc in
-    let r : LineAt d e ls i = line_at d es ls i e rest (omega arith) at in
-    record { line = r.line; is = r.is; first = (let q : suc i + 1 ≡ suc (i + 1) = omega arith in ap (λ n. take n (y ∷ ls)) q) ∙ ap (λ (z : List StepLine). y ∷ z) r.first; many = ap suc r.many }
+-- as many lines as steps
+as_many : (d : Setting) (es : List TakenStep) (i : ℕ) → i < length es → length (map (line_kept d) (take i es)) ≡ i
+as_many d [] i l = absurd (omega arith)
+as_many d (x ∷ es) zero l = refl
+as_many d (x ∷ es) (suc i) l = ap suc (as_many d es i (omega arith))
 
 -- one more line is written
-pub line_more : (m : KnownSessions) (d : Setting) (es : List TakenStep) (ls : List StepLine) (i : ℕ) (e : TakenStep) (old mid new : List ℕ) → map (line_kept d) es ≡ map {B = Option StepLine} Some ls → i < length es → e ≡ get_or es i e
-    → mid ≡ old ++ lines_from m 1 (take i ls) → IsSomeAnd (line_kept d e) (λ l. new ≡ mid ++ line m (i + 1) l) → new ≡ old ++ lines_from m 1 (take (i + 1) ls)
-line_more m d es ls i e old mid new h l at before more =
-    let r : LineAt d e ls i = line_at d es ls i e h l at in
-    let written : new ≡ mid ++ line m (i + 1) r.line = subst (λ (o : Option StepLine). IsSomeAnd o (λ l. new ≡ mid ++ line m (i + 1) l)) r.is more in
-    let many = r.many in
-    let index : i + 1 ≡ 1 + length (take i ls) = omega (arith, many) in
-    written ∙ (λ j. before j ++ line m (index j) r.line) ∙ append_assoc old (lines_from m 1 (take i ls)) (line m (1 + length (take i ls)) r.line)
-    ∙ ap (λ t. old ++ t) (sym (lines_push m 1 (take i ls) r.line) ∙ sym (ap (lines_from m 1) r.first))
-
--- all lines
-pub all_taken : (d : Setting) (es : List TakenStep) (ls : List StepLine) → map (line_kept d) es ≡ map {B = Option StepLine} Some ls → take (length es) ls ≡ ls
-all_taken d [] [] h = refl
-all_taken d [] (y ∷ ls) h = absurd (cc)
-all_taken d (x ∷ es) [] h = absurd (cc)
-all_taken d (x ∷ es) (y ∷ ls) h = let rest : map (line_kept d) es ≡ map {B = Option StepLine} Some ls = cc in ap (λ (z : List StepLine). y ∷ z) (all_taken d es ls rest)
-
--- each line can be written if those of an account have their names
-pub can_be_written : (d : Setting) (es : List TakenStep) (ls : List StepLine) → map (line_kept d) es ≡ map {B = Option StepLine} Some ls → AllByRecursion (λ (l : StepLine). CanBeReported l.graph l.reported) ls → AllByRecursion (CanBeWritten d) es
-can_be_written d [] ls h a = tt
-can_be_written d (x ∷ es) [] h a = absurd (cc)
-can_be_written d (x ∷ es) (y ∷ ls) h a =
-    let here : line_kept d x ≡ Some y = cc in
-    let rest : map (line_kept d) es ≡ map {B = Option StepLine} Some ls = cc in
-    (subst (λ (o : Option StepLine). IfSome o (λ l. CanBeReported l.graph l.reported)) (sym here) a.0, can_be_written d es ls rest a.1)
+pub line_more : (m : KnownSessions) (d : Setting) (es : List TakenStep) (i : ℕ) (e : TakenStep) (old mid new : List ℕ) → i < length es → e ≡ get_or es i e
+    → mid ≡ old ++ lines_from m 1 (map (line_kept d) (take i es)) → new ≡ mid ++ line m (i + 1) (line_kept d e) → new ≡ old ++ lines_from m 1 (map (line_kept d) (take (i + 1) es))
+line_more m d es i e old mid new l at before written =
+    let ls = map (line_kept d) (take i es) in
+    let many = as_many d es i l in
+    let index : i + 1 ≡ 1 + length ls = omega (arith, many) in
+    let upto : map (line_kept d) (take (i + 1) es) ≡ ls ++ line_kept d e ∷ [] = map_more (line_kept d) es i e l ∙ ap (λ (x : TakenStep). ls ++ line_kept d x ∷ []) (sym at) in
+    written ∙ (λ j. before j ++ line m (index j) (line_kept d e)) ∙ append_assoc old (lines_from m 1 ls) (line m (1 + length ls) (line_kept d e))
+    ∙ ap (λ t. old ++ t) (sym (lines_push m 1 ls (line_kept d e)) ∙ sym (ap (lines_from m 1) upto))
 
 -- ---- one line
 
--- a refused variable is named by the graph that is found for it
-pub refused_graph : (gs : List Graph) (g : Option Graph) (o : Option Reported) (res : Option ℕ) (x : ℕ) (found : Option Graph) → res ≡ Some x → IfSome o (λ reported. res ≡ variable_refused reported)
-    → found ≡ find (λ h. nat_lt x (length h.variables)) (option_to_list g ++ gs) → IfSome o (λ reported. found ≡ graph_reported gs g reported)
-refused_graph gs g None res x found is h e = tt
-refused_graph gs g (Some reported) res x found is h e =
-    e ∙ ap (λ (v : Option ℕ). option_map_or (λ y. find (λ h. nat_lt y (length h.variables)) (option_to_list g ++ gs)) v g) (sym is ∙ h)
+module _ (gs : List Graph) (o : Outcome) where
+  abbrev by_line : Option Graph
+  by_line = graph_reported gs (graph_in o) (outcome_of o)
+
+  -- an outcome that isn't renamed has its names in its own graph, if its line has them, and the text of its line
+  pub own_names : IsRenamed gs o None → CanBeReported by_line (outcome_of o) → CanBeReported (graph_in o) (outcome_of o)
+  own_names (inl same) can = subst (λ g. CanBeReported g (outcome_of o)) same can
+  own_names (inr none) can = reported-anywhere (graph_in o) (outcome_of o) (subst (λ g. CanBeReported g (outcome_of o)) none can)
+
+  pub own_text : IsRenamed gs o None → CanBeReported by_line (outcome_of o) → (session : List ℕ) → reported_text session (graph_or_none (graph_in o)) (outcome_of o) ≡ reported_text session (graph_or_none by_line) (outcome_of o)
+  own_text (inl same) can session = ap (λ g. reported_text session (graph_or_none g) (outcome_of o)) (sym same)
+  own_text (inr none) can session = text-anywhere session (graph_or_none (graph_in o)) (graph_or_none by_line) (outcome_of o) (subst (λ g. CanBeReported g (outcome_of o)) none can)
+
+  -- so has the one that it is renamed to
+  pub other_names : (other : Outcome) → IsRenamed gs o (Some other) → CanBeReported by_line (outcome_of o) → CanBeReported (graph_in other) (outcome_of other)
+  other_names other is can = subst (λ t. CanBeReported (graph_in other) t) (sym is.0) (subst (λ g. CanBeReported g (outcome_of o)) (sym is.1) can)
+
+  pub other_text : (other : Outcome) → IsRenamed gs o (Some other) → (session : List ℕ) → reported_text session (graph_or_none (graph_in other)) (outcome_of o) ≡ reported_text session (graph_or_none by_line) (outcome_of o)
+  other_text other is session = ap (λ g. reported_text session (graph_or_none g) (outcome_of o)) is.1
 
 -- what is written of a step is its line
-pub entry_written : {A E : Type 0} (res : Result A E) (m : KnownSessions) (d : Setting) (k : ℕ) (e : TakenStep) (who : Option (List ℕ)) (sid : Option (List ℕ)) (name session : List ℕ) (graph : Option Graph) (old new : List ℕ)
-    → who ≡ who_of e.step → name ≡ unwrap_or who [] → IfSome e.reported (λ reported. sid ≡ session_reported (left_by d.sessions e.step) reported) → session ≡ option_map_or (name_in m) sid []
-    → IfSome e.reported (λ reported. graph ≡ graph_reported d.graphs e.graph reported) → OnOk res (IsSomeAnd e.reported (λ reported. new ≡ old ++ line_text session (graph_or_none graph) k name reported))
-    → OnOk res (IsSomeAnd (line_kept d e) (λ l. new ≡ old ++ line m k l))
-entry_written {A} {E} res m d k e who sid name session graph old new is_who is_name is_sid is_session is_graph h = by e.reported is_sid is_graph res h
-  where
-    by : (o : Option Reported) → IfSome o (λ reported. sid ≡ session_reported (left_by d.sessions e.step) reported) → IfSome o (λ reported. graph ≡ graph_reported d.graphs e.graph reported) → (res : Result A E)
-        → OnOk res (IsSomeAnd o (λ reported. new ≡ old ++ line_text session (graph_or_none graph) k name reported))
-        → OnOk res (IsSomeAnd (option_map {U = StepLine} (λ reported. record { who = who_of e.step; session = session_reported (left_by d.sessions e.step) reported; graph = graph_reported d.graphs e.graph reported; reported = reported }) o) (λ l. new ≡ old ++ line m k l))
-    by o s g (Err x) h = tt
-    by None s g (Ok x) h = absurd h
-    by (Some reported) s g (Ok x) h =
-        h ∙ (λ i. old ++ line_text ((is_session ∙ ap (λ z. option_map_or (name_in m) z []) s) i) (graph_or_none (g i)) k ((is_name ∙ ap (λ z. unwrap_or z []) is_who) i) reported)
+pub entry_written : {A E : Type 0} (res : Result A E) (m : KnownSessions) (d : Setting) (k : ℕ) (e : TakenStep) (who sid : Option (List ℕ)) (name session : List ℕ) (graph : Option Graph) (old new : List ℕ)
+    → who ≡ who_of e.step → name ≡ unwrap_or who [] → sid ≡ session_reported (left_by d.sessions e.step) (outcome_of e.outcome) → session ≡ option_map_or (name_in m) sid []
+    → ((session : List ℕ) → reported_text session (graph_or_none graph) (outcome_of e.outcome) ≡ reported_text session (graph_or_none (line_kept d e).graph) (outcome_of e.outcome))
+    → OnOk res (new ≡ old ++ line_text session (graph_or_none graph) k name (outcome_of e.outcome)) → OnOk res (new ≡ old ++ line m k (line_kept d e))
+entry_written (Err x) m d k e who sid name session graph old new is_who is_name is_sid is_session same h = tt
+entry_written (Ok x) m d k e who sid name session graph old new is_who is_name is_sid is_session same h =
+    h ∙ ap (λ t. old ++ (decimal k ++ 32 ∷ by_whom name (outcome_of e.outcome) ++ t ++ 10 ∷ [])) (same session)
+    ∙ (λ i. old ++ line_text ((is_session ∙ ap (λ z. option_map_or (name_in m) z []) is_sid) i) (graph_or_none (line_kept d e).graph) k ((is_name ∙ ap (λ z. unwrap_or z []) is_who) i) (outcome_of e.outcome))

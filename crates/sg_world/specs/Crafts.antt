@@ -11,7 +11,7 @@ use Rattle.sg_protocol.specs.Spelling.{spelling}
 use Rattle.sg_protocol.specs.Texts.{real, session_id}
 use Rattle.sg_protocol.specs.World.{World, frames}
 use Rattle.sg_craft.specs.Means.{CanBeMade}
-use Rattle.sg_report.specs.Reported.{Crafted}
+use Rattle.sg_report.specs.declared.outcome.Outcome.TheVariants.{Crafted}
 use Rattle.sg_world.specs.StepResults.{IsResultAt}
 use Rattle.sg_world.specs.RecordModel.{StepResult}
 use Rattle.sg_world.specs.Setting.{Setting}
@@ -38,8 +38,8 @@ Declares s d = (s.graphs ≡ d.graphs) × (s.keys ≡ d.keys) × (s.sessions ≡
 
 -- what a craft makes, if the frame has this number
 pub record IsResultOfCraft (number : ℕ) (s : Schedule) (w : World) (x : Craft) (c : StepResult) : Type 0 where
-  pub reported : c.reported ≡ Some (Crafted number)
-  pub graph : c.graph ≡ None
+  pub outcome : c.outcome ≡ Crafted number
+  pub cast : c.cast ≡ None
   pub frame : c.frame ≡ option_map spelling (crafted real s w x)
   pub notes : c.notes ≡ no_notes
 

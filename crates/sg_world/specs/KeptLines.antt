@@ -1,10 +1,13 @@
 -- What the lines and the names of a report are made of, by what is kept.
-use Rattle.std.specs.Prelude.{ℕ, List, filter_map, Option, None, option_map, option_and_then, slice_get, IfSome}
+use Rattle.std.specs.Prelude.{◌≡◌, ◌⊎◌, ℕ, List, filter_map, Option, None, Some, option_map, slice_get}
 use Rattle.sg_protocol.specs.Calls.{sid_of}
 use Rattle.sg_protocol.specs.Schedule.{NamedSession, Step, AbandonStep, who_of}
 use Rattle.sg_protocol.specs.Texts.{real, session_id}
 use Rattle.sg_text.specs.Sessions.{KnownSessions}
+use Rattle.sg_protocol.specs.Graph.{Graph}
+use Rattle.sg_report.specs.Outcome.{graph_in, outcome_of}
 use Rattle.sg_report.specs.Report.{StepLine}
+use Rattle.sg_report.specs.declared.outcome.Outcome.{Outcome}
 use Rattle.sg_report.specs.Reported.{CanBeReported, event_reported, session_reported}
 use Rattle.sg_world.specs.Account.{declared_in, graph_reported}
 use Rattle.sg_world.specs.RecordModel.{TakenStep}
@@ -12,7 +15,7 @@ use Rattle.sg_world.specs.Setting.{Setting}
 
 -- the sid of the event that came of a step, if one did
 abbrev pub sid_kept : TakenStep → Option (List ℕ)
-sid_kept e = option_map sid_of (option_and_then event_reported e.reported)
+sid_kept e = option_map sid_of (event_reported (outcome_of e.outcome))
 
 -- the sessions that are declared, and those of the events of these steps
 abbrev pub known_in : List NamedSession → List TakenStep → KnownSessions
@@ -24,9 +27,19 @@ left_by sessions (AbandonStep who n) = option_map (λ d. session_id real d.cast)
 left_by sessions other = None
 
 -- the line of a step that was taken
-abbrev pub line_kept : Setting → TakenStep → Option StepLine
-line_kept d e = option_map (λ reported. record { who = who_of e.step; session = session_reported (left_by d.sessions e.step) reported; graph = graph_reported d.graphs e.graph reported; reported = reported }) e.reported
+abbrev pub line_kept : Setting → TakenStep → StepLine
+line_kept d e = record {
+  who = who_of e.step;
+  session = session_reported (left_by d.sessions e.step) (outcome_of e.outcome);
+  graph = graph_reported d.graphs (graph_in e.outcome) (outcome_of e.outcome);
+  reported = outcome_of e.outcome;
+}
 
 -- the line can be written
 abbrev pub CanBeWritten : Setting → TakenStep → Type 0
-CanBeWritten d e = IfSome (line_kept d e) (λ l. CanBeReported l.graph l.reported)
+CanBeWritten d e = CanBeReported (line_kept d e).graph (line_kept d e).reported
+
+-- the same outcome by the graph by which its line names its numbers, or none if that is its own, or if no graph has the variable
+abbrev pub IsRenamed : List Graph → Outcome → Option Outcome → Type 0
+IsRenamed graphs o None = (graph_reported graphs (graph_in o) (outcome_of o) ≡ graph_in o) ⊎ (graph_reported graphs (graph_in o) (outcome_of o) ≡ None)
+IsRenamed graphs o (Some other) = (outcome_of other ≡ outcome_of o) × (graph_in other ≡ graph_reported graphs (graph_in o) (outcome_of o))

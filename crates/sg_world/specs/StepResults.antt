@@ -1,16 +1,17 @@
 -- The outcome of a step at a principal's node.
-use Rattle.std.specs.Prelude.{◌≡◌, ℕ, ◌+◌, ◌<◌, ⊤, List, length, take, Option, Some, None, slice_get}
+use Rattle.std.specs.Prelude.{◌≡◌, ℕ, ◌+◌, ◌<◌, ⊤, List, length, take, Option, Some, None, Ok, slice_get}
 use Rattle.std.specs.List.{AllByRecursion}
 use Rattle.indexmap.specs.IndexMap.{set_value_at}
 use Rattle.sg_model.specs.Names.{Name}
 use Rattle.sg_model.specs.Values.{Value}
 use Rattle.sg_protocol.specs.Acting.{answer}
-use Rattle.sg_protocol.specs.Calls.{Call}
-use Rattle.sg_protocol.specs.Frame.{IsValue}
+use Rattle.sg_protocol.specs.Calls.{Call, Deliver}
+use Rattle.sg_protocol.specs.Frame.{Frame, IsValue}
 use Rattle.sg_protocol.specs.NodeStates.{NodeState, RepresentsPast}
 use Rattle.sg_protocol.specs.Notes.{notes as noted_of}
 use Rattle.sg_protocol.specs.Past.{Past, node_of}
 use Rattle.sg_protocol.specs.Ranges.{IsCallInRange}
+use Rattle.sg_protocol.specs.Reading.{read}
 use Rattle.sg_protocol.specs.Run.{frame_in}
 use Rattle.sg_protocol.specs.Schedule.{NamedSession, Schedule, Step, StartStep, ActStep, AbandonStep, DeliverStep, CraftStep}
 use Rattle.sg_protocol.specs.Texts.{real}
@@ -18,15 +19,18 @@ use Rattle.sg_protocol.specs.Named.{graph_of_call}
 use Rattle.sg_protocol.specs.World.{World, frames, call_of, flipped}
 use Rattle.sg_sched.specs.declared.step.Change.{Change}
 use Rattle.sg_sched.specs.declared.step.Change.TheVariants.{Whole, Flip, Cut}
-use Rattle.sg_node.specs.Answers.{GoesOn}
+use Rattle.sg_node.specs.Answers.{GoesOn, graph_named}
+use Rattle.sg_node.specs.Receipts.{IsReceiptAt}
+use Rattle.sg_report.specs.Outcome.{graph_in, outcome_of}
 use Rattle.sg_report.specs.Reported.{reported_answer}
-use Rattle.sg_world.specs.RecordModel.{StepResult, no_frame}
+use Rattle.sg_world.specs.RecordModel.{IfReceived, StepResult, no_frame}
 
--- the outcome of a call is what the node of the past answers, if its frame has this number, by the graph of the call; and the new state goes on for the past
+-- the outcome of a call is what the node of the past answers, if its frame has this number, with the graph of the call beside its numbers; a receipt has the view that the frame showed, and its cast; and the new state goes on for the past
 pub record IsResultOfCall (number : ℕ) (old new : NodeState) (past : Past) (call : Call) (c : StepResult) : Type 0 where
   pub range : IsCallInRange call
-  pub reported : c.reported ≡ Some (reported_answer number (answer real (node_of past) call))
-  pub graph : c.graph ≡ graph_of_call real (node_of past) call
+  pub reported : outcome_of c.outcome ≡ reported_answer number (answer real (node_of past) call)
+  pub graph : graph_in c.outcome ≡ graph_named (answer real (node_of past) call) (graph_of_call real (node_of past) call)
+  pub shown : (bs : List ℕ) (f : Frame) → call ≡ Deliver bs → read bs ≡ Ok f → IfReceived c.outcome (λ r. IsReceiptAt (node_of past) f r × (c.cast ≡ f.join))
   pub frame : c.frame ≡ frame_in (answer real (node_of past) call)
   pub notes : c.notes ≡ noted_of real (node_of past) call
   pub goes_on : GoesOn old new call past

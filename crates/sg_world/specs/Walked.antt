@@ -88,4 +88,4 @@ path_at traces sid = option_map (λ (c : Trace). path_of_trace (sid, c)) (trace_
 
 -- the graph of each trace has the steps of its walk
 abbrev pub CanWalkAll : Traces → Type 0
-CanWalkAll traces = AllByRecursion (λ (e : List ℕ × Trace). HasSteps e.1.graph (steps_of_trace e.1)) traces.traces
+CanWalkAll traces = AllByRecursion (λ (e : List ℕ × Trace). HasSteps e.1.graph (steps_of_trace e.1)) traces

@@ -2,7 +2,7 @@
 //!
 //! What comes of it is long, so it is made once, as if there were no frame to deliver, and each function writes over it.
 //! What few steps do is `cold`: it stands apart, so that the code of the others, the acts and the receipts, is short.
-ghost use Rattle.std.specs.Prelude.{◌≡◌, ◌≢◌, ◌↔◌, ℕ, ◌+◌, ◌<◌, ◌^◌, length, map, Ok, option_map, IfOk, IsErr, IsTrue, OnErr, OnOk};
+ghost use Rattle.std.specs.Prelude.{◌≡◌, ℕ, ◌+◌, ◌<◌, ◌^◌, length, map, option_map, IfOk, OnErr, OnOk};
 ghost use Rattle.std.specs.List.{AllByRecursion};
 ghost use Rattle.sg_model.specs.Bytes.{AreBytes};
 ghost use Rattle.sg_protocol.specs.Calls.{Start, Act, Abandon, Deliver};
@@ -10,9 +10,7 @@ ghost use Rattle.sg_protocol.specs.Frame.{IsValue};
 ghost use Rattle.sg_protocol.specs.NodeStates.{RepresentsPast};
 ghost use Rattle.sg_protocol.specs.Past.{Past};
 ghost use Rattle.sg_protocol.specs.Ranges.{IsCast};
-ghost use Rattle.sg_protocol.specs.Reading.{read};
 ghost use Rattle.sg_protocol.specs.Schedule.{confounder};
-ghost use Rattle.sg_protocol.specs.Spelling.{SpellsFrame};
 ghost use Rattle.sg_protocol.specs.World.{World, frames, bytes_of};
 ghost use Rattle.sg_sched.specs.Format.StepsHeld.{step_of, what_of};
 ghost use Rattle.sg_walk.specs.Model.{values_of};
@@ -24,12 +22,10 @@ use crate::setting::Setting;
 use sg_base::{Label, OutOfMemory, Seq, Sid, Value, Var, facts_of_bytes};
 use sg_craft::{confounder, first_bytes, flipped, frame_at};
 use sg_crypt::Cast;
-use sg_frame::{DecodeFault, Frame, decode};
-use sg_node::{ActFault, Node, Refusal, StartFault};
+use sg_node::Node;
 use sg_report::Outcome;
-use sg_role::SendFault;
 use sg_sched::{Change, Step, What};
-use std::alloc::{AllocError, Global};
+use std::alloc::Global;
 
 /// Makes the call of a step of this number at the principal's node, and writes what comes of it over `step_result`. If memory runs out, the node is as
 /// before.
@@ -96,25 +92,9 @@ fn start<'p>(
     ensures back { OnErr result (node.new ≡ node.old) }
 {
     facts_of_cast(&cast);
-    step_result.graph = node.start_graph(&cast);
-    match node.start(cast, &mut step_result.notes) {
-        Ok(event) => step_result.set_outcome(Outcome::Started(event)),
-        Err(fault) => {
-            let lacks = is_start_memory(&fault);
-            if lacks {
-                return Err(AllocError);
-            }
-            step_result.set_outcome(Outcome::NotStarted(fault));
-        }
-    }
+    let answer = node.begin(cast, &mut step_result.notes)?;
+    step_result.set_outcome(Outcome::of_start(answer));
     Ok(())
-}
-
-// Memory ran out.
-fn is_start_memory(fault: &StartFault) -> bool
-    ensures { IsTrue result ↔ (fault.now ≡ StartFault.OutOfMemory) }
-{
-    matches!(fault, StartFault::OutOfMemory)
 }
 
 // Sends a step, whose frame is to have this number.
@@ -135,20 +115,13 @@ fn act<'p>(
         → OnOk result (IsResultOfCall frame node.old node.new past (Act sid label (values_of values.now) confounders.now) step_result.new) }
     ensures back { OnErr result (node.new ≡ node.old) }
 {
-    step_result.graph = node.graph_of(&sid);
-    match node.act(sid, label, values, confounders, &mut step_result.notes) {
-        Ok((event, sealed)) => {
+    match node.send(sid, label, values, confounders, &mut step_result.notes)? {
+        Ok((sent, sealed)) => {
             let (to, bytes) = sealed.release();
-            step_result.set_outcome(Outcome::Sent { event, to, frame });
+            step_result.set_outcome(Outcome::Sent { sent, to, frame });
             step_result.set_frame(Seq::from_vec(tight(bytes)));
         }
-        Err(fault) => {
-            let lacks = is_act_memory(&fault);
-            if lacks {
-                return Err(AllocError);
-            }
-            step_result.set_outcome(Outcome::NotActed(fault));
-        }
+        Err(refusal) => step_result.set_outcome(Outcome::NotActed(refusal)),
     }
     Ok(())
 }
@@ -161,25 +134,12 @@ fn tight(mut bytes: Vec<u8>) -> Vec<u8>
     bytes
 }
 
-// Memory ran out. A node never says so inside another fault.
-fn is_act_memory(fault: &ActFault) -> bool
-    requires { fault.now ≢ ActFault.Send SendFault.OutOfMemory }
-    ensures { IsTrue result ↔ (fault.now ≡ ActFault.OutOfMemory) }
-{
-    match fault {
-        ActFault::OutOfMemory => true,
-        ActFault::Send(SendFault::OutOfMemory) => unreachable!(),
-        _ => false,
-    }
-}
-
 // Leaves a session.
 #[cold]
 fn abandon<'p>(node: &mut Node<'p>, sid: Sid, step_result: &mut StepResult<'p>)
     requires { step_result.old ≡ no_frame }
     ensures { (number : ℕ) (past : Past) → RepresentsPast node.old past → IsResultOfCall number node.old node.new past (Abandon sid) step_result.new }
 {
-    step_result.graph = node.graph_of(&sid);
     match node.abandon(sid) {
         Ok(()) => step_result.set_outcome(Outcome::Abandoned),
         Err(_) => step_result.set_outcome(Outcome::NotAbandoned),
@@ -200,7 +160,7 @@ fn deliver_what<'p>(
     ensures back { OnErr result (node.new ≡ node.old) }
 {
     match what {
-        What::Bytes(bytes) => deliver(alloc, node, bytes.as_slice(), step_result),
+        What::Bytes(bytes) => deliver(node, bytes.as_slice(), step_result),
         What::Frame { number, change } => match frame_at(recorded, *number) {
             None => Ok(()),
             Some(frame) => deliver_frame(alloc, node, frame, *change, step_result),
@@ -222,92 +182,34 @@ fn deliver_frame<'p>(
     ensures back { OnErr result (node.new ≡ node.old) }
 {
     match change {
-        Change::Whole => deliver(alloc, node, frame, step_result),
-        Change::Cut(count) => deliver(alloc, node, first_bytes(frame, count), step_result),
+        Change::Whole => deliver(node, frame, step_result),
+        Change::Cut(count) => deliver(node, first_bytes(frame, count), step_result),
         Change::Flip(at) => {
             let changed = flipped(alloc, frame, at)?;
-            deliver(alloc, node, changed.as_slice(), step_result)
+            deliver(node, changed.as_slice(), step_result)
         }
     }
 }
 
 // Delivers bytes.
 fn deliver<'p>(
-    alloc: Global,
     node: &mut Node<'p>,
     bytes: &[u8],
     step_result: &mut StepResult<'p>,
 ) -> Result<(), OutOfMemory>
-    requires blank { step_result.old ≡ no_frame }
-    ensures is_result { (number : ℕ) (past : Past) → RepresentsPast node.old past → OnOk result (IsResultOfCall number node.old node.new past (Deliver bytes.now) step_result.new) }
-    ensures back { OnErr result (node.new ≡ node.old) }
-{
-    match decode(alloc, bytes) {
-        Ok(frame) => deliver_read(node, &frame, bytes, step_result),
-        Err(DecodeFault::Malformed { .. }) => deliver_malformed(node, bytes, step_result),
-        Err(DecodeFault::OutOfMemory) => Err(AllocError),
-    }
-}
-
-// Delivers bytes that spell this frame.
-fn deliver_read<'p>(
-    node: &mut Node<'p>,
-    frame: &Frame,
-    bytes: &[u8],
-    step_result: &mut StepResult<'p>,
-) -> Result<(), OutOfMemory>
-    requires spelled { SpellsFrame bytes.now frame.now }
-    requires read { read bytes.now ≡ Ok frame.now }
     requires blank { step_result.old ≡ no_frame }
     ensures is_result { (number : ℕ) (past : Past) → RepresentsPast node.old past → OnOk result (IsResultOfCall number node.old node.new past (Deliver bytes.now) step_result.new) }
     ensures back { OnErr result (node.new ≡ node.old) }
 {
     facts_of_bytes(bytes);
-    step_result.graph = node.frame_graph(frame);
-    match node.deliver_frame(frame, bytes, &mut step_result.notes) {
-        Ok(event) => step_result.set_outcome(Outcome::Received(event)),
-        Err(why) => {
-            let lacks = is_delivery_memory(&why);
-            if lacks {
-                return Err(AllocError);
-            }
-            step_result.set_outcome(Outcome::NotDelivered(why));
+    match node.receive(bytes, &mut step_result.notes)? {
+        Ok(mut receipt) => {
+            step_result.set_cast(receipt.take_cast());
+            step_result.set_outcome(Outcome::Received(receipt));
         }
+        Err(refusal) => step_result.set_outcome(Outcome::NotDelivered(refusal)),
     }
     Ok(())
-}
-
-// Delivers bytes that are no frame.
-#[cold]
-fn deliver_malformed<'p>(
-    node: &mut Node<'p>,
-    bytes: &[u8],
-    step_result: &mut StepResult<'p>,
-) -> Result<(), OutOfMemory>
-    requires malformed { IsErr (read bytes.now) }
-    requires blank { step_result.old ≡ no_frame }
-    ensures is_result { (number : ℕ) (past : Past) → RepresentsPast node.old past → OnOk result (IsResultOfCall number node.old node.new past (Deliver bytes.now) step_result.new) }
-    ensures back { OnErr result (node.new ≡ node.old) }
-{
-    facts_of_bytes(bytes);
-    match node.deliver(bytes, &mut step_result.notes) {
-        Ok(event) => step_result.set_outcome(Outcome::Received(event)),
-        Err(why) => {
-            let lacks = is_delivery_memory(&why);
-            if lacks {
-                return Err(AllocError);
-            }
-            step_result.set_outcome(Outcome::NotDelivered(why));
-        }
-    }
-    Ok(())
-}
-
-// Memory ran out.
-fn is_delivery_memory(why: &Refusal) -> bool
-    ensures { IsTrue result ↔ (why.now ≡ Refusal.OutOfMemory) }
-{
-    matches!(why, Refusal::OutOfMemory)
 }
 
 // The confounders of an act at a step, one for each value.

@@ -7,18 +7,18 @@
 //!
 //! `Setting` is the programs and equal copies of what is declared, with what is made of it once: the identifiers of the sessions, the texts
 //! under the digests of the graphs, and the keys by their pairs. The nodes stand in the order of the honest principals, each with a keyring
-//! of the pairs that it is one of, and the one whose step it is is one look-up away. `Record` has each step with the outcome and the graph
-//! by which its numbers have names, what was noted of tags and hashes at each, and each frame once, found by its number. `specs/Holds.antt`
-//! says what holds of these parts between steps: each node represents its principal's past in the run, and what is recorded is what the
-//! run's log says.
+//! of the pairs that it is one of, and the one whose step it is is one look-up away. `Record` has each step with the outcome, in which the
+//! graph stands beside the numbers that it names, and the honest roles of the session that it started or joined, what was noted of tags and
+//! hashes at each, and each frame once, found by its number. `specs/Holds.antt` says what holds of these parts between steps: each node
+//! represents its principal's past in the run, and what is recorded is what the run's log says.
 //!
-//! A step is taken in this order. Its principal has a node, and the record isn't full. The step is copied, and room is made for it. The
-//! graph of its call is looked up, since the call may end the session. The call is made at the node, or the frame of a craft. The step is
-//! recorded. Nothing after the call needs memory, so a step that finds none leaves the world as it was.
+//! A step is taken in this order. Its principal has a node, and the record isn't full. The step is copied, and room is made for it. The call
+//! is made at the node, which gives what it learnt, or the frame of a craft. The step is recorded. Nothing after the call needs memory, so a
+//! step that finds none leaves the world as it was.
 //!
 //! Where the proof stands: `proofs/Goes.antt` has one more step of a run in the nodes and the record, by what comes of it, which
 //! `specs/StepResults.antt` says of a call and `specs/Crafts.antt` of a craft; `proofs/Next.antt` and `proofs/Crafting.antt` have all that holds
-//! with one more step, `proofs/Begins.antt` that of no step; `proofs/EntryGraphs.antt`, that the graphs of steps stay as they are.
+//! with one more step, `proofs/Begins.antt` that of no step; `proofs/EntryGraphs.antt`, that what steps learnt stays as it is.
 //!
 //! A graph is found by its digest among the programs, by the program of its first role: the graphs of a schedule have two roles or more.
 //!

@@ -1,22 +1,20 @@
 //! The lines of the steps of a replay.
-ghost use Rattle.std.specs.Prelude.{◌≡◌, ◌<◌, ◌^◌, ◌++◌, [], All, IfSome, IsSomeAnd, List, OnOk, Option, Some, find, length, map, nat_lt, unwrap_or};
-ghost use Rattle.std.specs.Option.{option_copied, option_map_or, option_to_list};
+ghost use Rattle.std.specs.Prelude.{◌≡◌, ◌<◌, ◌^◌, ◌++◌, [], All, OnOk, find, length, map, nat_lt, unwrap_or};
+ghost use Rattle.std.specs.Option.{option_copied, option_map_or};
 ghost use Rattle.sg_text.specs.Sessions.{KnownSessions, naming};
 ghost use Rattle.sg_report.specs.Outcome.{outcome_of};
-ghost use Rattle.sg_report.specs.Report.{StepLine, line, lines_from, name_in};
+ghost use Rattle.sg_report.specs.Report.{line, lines_from, name_in};
 ghost use Rattle.sg_report.specs.Reported.{session_reported};
 ghost use Rattle.sg_sched.specs.Format.StepsHeld.{step_of};
-ghost use Rattle.sg_world.specs.Account.{graph_reported, variable_refused};
-ghost use Rattle.sg_world.specs.KeptLines.{CanBeWritten, left_by, line_kept};
+ghost use Rattle.sg_world.specs.KeptLines.{CanBeWritten, IsRenamed, left_by, line_kept};
 
 use crate::record::TakenStep;
 use crate::setting::Setting;
 use crate::take::who;
 use sg_base::{ByteOut, Name, OutOfMemory, Sid, Var};
 use sg_graph::Graph;
-use sg_node::ActFault;
+use sg_node::ActRefusal;
 use sg_report::{Outcome, put_line, sid_reported};
-use sg_role::SendFault;
 use sg_sched::Step;
 use sg_text::SessionNames;
 
@@ -29,7 +27,7 @@ pub(crate) fn put_lines<'p>(
 ) -> Result<(), OutOfMemory>
     requires few { length entries.now < 2 ^ 32 }
     requires reported { All (CanBeWritten setting.now) entries.now }
-    ensures { (m : KnownSessions) (ls : List StepLine) → names.now ≡ naming 120 m → map (line_kept setting.now) entries.now ≡ map {B = Option StepLine} Some ls → OnOk result (out.new ≡ out.old ++ lines_from m 1 ls) }
+    ensures { (m : KnownSessions) → names.now ≡ naming 120 m → OnOk result (out.new ≡ out.old ++ lines_from m 1 (map (line_kept setting.now) entries.now)) }
 {
     let mut number: u32 = 0;
     for entry in entries {
@@ -48,19 +46,22 @@ fn put_entry<'p>(
     entry: &TakenStep<'p>,
 ) -> Result<(), OutOfMemory>
     requires { CanBeWritten setting.now entry.now }
-    ensures { (m : KnownSessions) → names.now ≡ naming 120 m → OnOk result (IsSomeAnd (line_kept setting.now entry.now) (λ l. out.new ≡ out.old ++ line m number l)) }
+    ensures { (m : KnownSessions) → names.now ≡ naming 120 m → OnOk result (out.new ≡ out.old ++ line m number (line_kept setting.now entry.now)) }
 {
-    let who = who(&entry.step);
+    let caller = who(&entry.step);
     let sid = session_for(setting, &entry.step, &entry.outcome);
     let session = name_in(names, &sid);
-    put_line(
-        out,
-        number as u64,
-        bytes_of(&who),
-        bytes_of(&session),
-        graph_for(entry.graph, setting.graphs(), &entry.outcome),
-        &entry.outcome,
-    )
+    let step = number as u64;
+    match renamed(&entry.outcome, setting.graphs()) {
+        Some(outcome) => put_line(out, step, bytes_of(&caller), bytes_of(&session), &outcome),
+        None => put_line(
+            out,
+            step,
+            bytes_of(&caller),
+            bytes_of(&session),
+            &entry.outcome,
+        ),
+    }
 }
 
 // The bytes of a name, none if there is none.
@@ -84,8 +85,8 @@ fn name_in(names: &SessionNames, session: &Option<Sid>) -> Option<Name>
 }
 
 // The session that the line names, if it names one.
-fn session_for<'p>(setting: &Setting<'p>, step: &Step, outcome: &Outcome) -> Option<Sid>
-    ensures { IfSome (outcome_of outcome.now) (λ reported. result ≡ session_reported (left_by setting.now.sessions (step_of step.now)) reported) }
+fn session_for<'p>(setting: &Setting<'p>, step: &Step, outcome: &Outcome<'p>) -> Option<Sid>
+    ensures { result ≡ session_reported (left_by setting.now.sessions (step_of step.now)) (outcome_of outcome.now) }
 {
     match outcome {
         Outcome::Abandoned => left(setting, step),
@@ -106,42 +107,21 @@ fn left<'p>(setting: &Setting<'p>, step: &Step) -> Option<Sid>
     }
 }
 
-// The graph by which the line names its numbers: this one, or one of the graphs for a variable that it doesn't have.
-fn graph_for<'a>(
-    of_call: Option<&'a Graph>,
-    graphs: &'a [Graph],
-    outcome: &Outcome,
-) -> Option<&'a Graph>
-    ensures { IfSome (outcome_of outcome.now) (λ reported. option_copied result ≡ graph_reported graphs.now (option_copied of_call.entry) reported) }
-{
-    match refused(outcome) {
-        Some(var) => first_with(of_call, graphs, var),
-        None => of_call,
-    }
-}
-
-// The variable for which an act was refused.
-fn refused(outcome: &Outcome) -> Option<Var>
-    ensures { IfSome (outcome_of outcome.now) (λ reported. result ≡ variable_refused reported) }
+// If an act was refused for a variable that its session's graph doesn't have: the outcome by the first of the graphs that has it, if one has.
+fn renamed<'a>(outcome: &Outcome<'_>, graphs: &'a [Graph]) -> Option<Outcome<'a>>
+    ensures { IsRenamed graphs.now outcome.now result }
 {
     match outcome {
-        Outcome::NotActed(ActFault::Send(SendFault::BadValues { var })) => Some(*var),
+        Outcome::NotActed(ActRefusal::BadValues { var, graph }) if !has(graph, *var) => {
+            let graph = first_with(graphs, *var)?;
+            Some(Outcome::NotActed(ActRefusal::BadValues { var: *var, graph }))
+        }
         _ => None,
     }
 }
 
-// The first graph that has the variable: this one, or one of the graphs.
-fn first_with<'a>(first: Option<&'a Graph>, graphs: &'a [Graph], var: Var) -> Option<&'a Graph>
-    ensures { option_copied result ≡ find (λ h. nat_lt var (length h.variables)) (option_to_list (option_copied first.entry) ++ graphs.now) }
-{
-    match first {
-        Some(graph) if has(graph, var) => Some(graph),
-        _ => first_of(graphs, var),
-    }
-}
-
 // The first of the graphs that has the variable.
-fn first_of(graphs: &[Graph], var: Var) -> Option<&Graph>
+fn first_with(graphs: &[Graph], var: Var) -> Option<&Graph>
     ensures { option_copied result ≡ find (λ h. nat_lt var (length h.variables)) graphs.now }
 {
     for graph in graphs {

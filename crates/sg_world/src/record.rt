@@ -1,36 +1,32 @@
 //! The record of a replay.
 ghost use Rattle.std.specs.Prelude.{◌≡◌, ◌+◌, ◌<◌, ◌^◌, ◌++◌, ◌∷◌, [], length, sum_by, vec_len, vec_capacity, option_map, IfOk, OnOk};
-ghost use Rattle.std.specs.Option.{option_map_or, option_to_list};
+ghost use Rattle.std.specs.Option.{option_copied, option_map_or, option_to_list};
 ghost use Rattle.sg_model.specs.Last.{last};
 ghost use Rattle.sg_sched.specs.Format.StepsHeld.{step_of};
-ghost use Rattle.sg_report.specs.Outcome.{outcome_of};
 ghost use Rattle.sg_world.specs.RecordModel.{added_size, with_result};
 
-use sg_base::{OutOfMemory, Seq};
-use sg_crypt::{Hashed, Note, Notes};
-use sg_graph::Graph;
+use sg_base::{OutOfMemory, RoleSet, Seq};
+use sg_crypt::{Hashed, Note, Notes, SharedCast};
 use sg_report::Outcome;
 use sg_sched::Step;
 use std::alloc::Global;
 use std::marker::Model;
 
-/// The outcome of a step, the graph by which its numbers have names, the frame that it records, and what was noted.
+/// The outcome of a step, the cast of a frame that joined, the frame that the step records, and what was noted.
 #[derive(Drop)]
 pub(crate) struct StepResult<'p> {
-    pub outcome: Outcome,
-    pub graph: Option<&'p Graph>,
+    pub outcome: Outcome<'p>,
+    pub cast: Option<SharedCast>,
     pub frame: Option<Seq<u8>>,
     pub notes: Notes,
 }
 
 impl<'p> Model for StepResult<'p> {
-    ghost use Rattle.std.specs.Option.{option_copied};
-    ghost use Rattle.sg_report.specs.Outcome.{outcome_of};
     ghost use Rattle.sg_world.specs.RecordModel.{StepResult};
 
     ghost Value = { StepResult };
 
-    ghost view = { λ c. record { reported = outcome_of c.outcome; graph = option_copied c.graph; frame = c.frame; notes = c.notes } };
+    ghost view = { λ c. record { outcome = c.outcome; cast = c.cast; frame = c.frame; notes = c.notes } };
 }
 
 impl<'p> StepResult<'p> {
@@ -43,17 +39,24 @@ impl<'p> StepResult<'p> {
     {
         StepResult {
             outcome: Outcome::NoFrame,
-            graph: None,
+            cast: None,
             frame: None,
             notes: Notes::new(alloc),
         }
     }
 
     /// Says the outcome of the step.
-    pub fn set_outcome(&mut self, outcome: Outcome)
-        ensures { self.new ≡ record self.old { reported = outcome_of outcome } }
+    pub fn set_outcome(&mut self, outcome: Outcome<'p>)
+        ensures { self.new ≡ record self.old { outcome = outcome.entry } }
     {
         self.outcome = outcome;
+    }
+
+    /// Gives the cast of a frame that joined.
+    pub fn set_cast(&mut self, cast: Option<SharedCast>)
+        ensures { self.new ≡ record self.old { cast = cast } }
+    {
+        self.cast = cast;
     }
 
     /// Gives the frame that the step records.
@@ -64,23 +67,21 @@ impl<'p> StepResult<'p> {
     }
 }
 
-/// A step that was taken, the outcome, and the graph by which its numbers have names.
+/// A step that was taken, the outcome, and the honest roles of the cast of the session that it started or joined, none for other steps.
 #[derive(Drop)]
 pub(crate) struct TakenStep<'p> {
     pub step: Step,
-    pub outcome: Outcome,
-    pub graph: Option<&'p Graph>,
+    pub outcome: Outcome<'p>,
+    pub honest: RoleSet,
 }
 
 impl<'p> Model for TakenStep<'p> {
-    ghost use Rattle.std.specs.Option.{option_copied};
     ghost use Rattle.sg_sched.specs.Format.StepsHeld.{step_of};
-    ghost use Rattle.sg_report.specs.Outcome.{outcome_of};
     ghost use Rattle.sg_world.specs.RecordModel.{TakenStep};
 
     ghost Value = { TakenStep };
 
-    ghost view = { λ e. record { step = step_of e.step; reported = outcome_of e.outcome; graph = option_copied e.graph } };
+    ghost view = { λ e. record { step = step_of e.step; outcome = e.outcome; honest = e.honest } };
 }
 
 /// The steps that were taken, what was noted at each, the recorded frames, f1 first, and the size of all in bytes.
@@ -153,8 +154,8 @@ impl<'p> Record<'p> {
     }
 
     /// The outcome of the last step.
-    pub fn last(&self) -> Option<&Outcome>
-        ensures { option_map (λ o. outcome_of o.now) result ≡ option_map (λ e. e.reported) (last self.now.done.entries) }
+    pub fn last(&self) -> Option<&Outcome<'p>>
+        ensures { option_copied result ≡ option_map (λ e. e.outcome) (last self.now.done.entries) }
     {
         match self.entries.last() {
             None => None,
@@ -173,16 +174,16 @@ impl<'p> Record<'p> {
         Ok(())
     }
 
-    /// Records a step with the outcome. It takes no memory.
-    pub fn put(&mut self, step: Step, step_result: StepResult<'p>)
+    /// Records a step with the outcome and these honest roles. It takes no memory.
+    pub fn put(&mut self, step: Step, honest: RoleSet, step_result: StepResult<'p>)
         requires room { 0 < self.old.room }
         requires size { self.old.done.size + added_size step_result < 2 ^ 64 }
-        ensures { self.new.done ≡ with_result self.old.done (step_of step) step_result.entry }
+        ensures { self.new.done ≡ with_result self.old.done (step_of step) honest step_result.entry }
     {
         self.size += added(&step_result);
         let StepResult {
             outcome,
-            graph,
+            cast: _,
             frame,
             notes,
         } = step_result;
@@ -193,7 +194,7 @@ impl<'p> Record<'p> {
             TakenStep {
                 step,
                 outcome,
-                graph,
+                honest,
             },
         );
     }

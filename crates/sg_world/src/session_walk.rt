@@ -12,9 +12,8 @@ ghost use Rattle.sg_world.specs.Replay.{run_of};
 ghost use Rattle.sg_world.specs.Walked.{IsWalkFault, PremisesHold, WalksAreMade, sid_and_steps, sid_and_walk};
 
 use crate::World;
-use crate::premises::Principals;
 use crate::record::TakenStep;
-use crate::walks::traces;
+use crate::walks::add_entry;
 use sg_base::{OutOfMemory, Sid};
 use sg_certify::Traces;
 use sg_report::sid_reported;
@@ -75,18 +74,16 @@ impl<'p> World<'p> {
 
     // The trace of each session with an event.
     pub(crate) fn traces(&self) -> Result<Traces<'_>, OutOfMemory>
-        ensures programs { IfOk result (λ c. c.programs ≡ self.now.programs) }
-        ensures traces { IsUnbroken self.now.programs self.now.schedule → IfOk result (AreTraces self.now.schedule (run_of self.now).log) }
+        requires { PremisesHold self.now }
+        ensures unbroken { IsUnbroken self.now.programs self.now.schedule }
+        ensures traces { IfOk result (AreTraces self.now.programs self.now.schedule (run_of self.now).log) }
     {
-        let honest = Principals { nodes: &self.nodes };
-        traces(
-            self.alloc,
-            self.setting.programs(),
-            &honest,
-            &self.setting,
-            self.history.entries(),
-            self.history.frames(),
-        )
+        let entries = self.history.entries();
+        let mut traces = Traces::new(self.alloc);
+        for entry in entries {
+            add_entry(self.alloc, &mut traces, entry)?;
+        }
+        Ok(traces)
     }
 
     // An event has the identifier.
@@ -122,7 +119,7 @@ impl<'p> World<'p> {
 
 // The walk of each trace, beside its session's identifier.
 fn make_walks<'r>(alloc: Global, traces: &Traces<'r>) -> Result<Vec<(Sid, StoredWalk)>, OutOfMemory>
-    ensures { IfOk result (λ walks. map sid_and_steps walks.items ≡ map sid_and_walk traces.now.traces) }
+    ensures { IfOk result (λ walks. map sid_and_steps walks.items ≡ map sid_and_walk traces.now) }
 {
     let mut walks = Vec::with_capacity(alloc, traces.len())?;
     for index in 0..traces.len() {
@@ -138,7 +135,7 @@ fn add_walk<'r>(
     traces: &Traces<'r>,
     index: usize,
 ) -> Result<(), OutOfMemory>
-    ensures { OnOk result (map sid_and_steps walks.new.items ≡ map sid_and_steps walks.old.items ++ map sid_and_walk (option_to_list (slice_get traces.now.traces index))) }
+    ensures { OnOk result (map sid_and_steps walks.new.items ≡ map sid_and_steps walks.old.items ++ map sid_and_walk (option_to_list (slice_get traces.now index))) }
 {
     match traces.at(index) {
         Some(entry) => {

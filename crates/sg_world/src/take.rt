@@ -7,7 +7,7 @@ ghost use Rattle.sg_sched.specs.Format.StepsHeld.{step_of};
 ghost use Rattle.sg_world.specs.StepResults.{IsNamed};
 ghost use Rattle.sg_world.specs.Crafts.{IsResultAtIndex, IsCraftable};
 ghost use Rattle.sg_world.specs.Holds.{schedule_of, Holds};
-ghost use Rattle.sg_world.specs.RecordModel.{no_frame};
+ghost use Rattle.sg_world.specs.RecordModel.{IsHonestIn, no_frame};
 ghost use Rattle.sg_sched.specs.Steps.{CanBeTaken};
 ghost use Rattle.sg_world.specs.Indices.{IsFaultOf, IsIndexOf, names_of};
 
@@ -15,10 +15,13 @@ use crate::StepFault;
 use crate::copies::copy_step;
 use crate::craft::craft;
 use crate::nodes::{call_at, index_of};
+use crate::premises::Principals;
 use crate::record::{Record, StepResult};
 use crate::setting::Setting;
 use indexmap::IndexMap;
-use sg_base::{Name, OutOfMemory, Seq};
+use sg_base::{Name, OutOfMemory, RoleSet, Seq};
+use sg_certify::honest_roles;
+use sg_crypt::SharedCast;
 use sg_node::Node;
 use sg_sched::Step;
 use std::alloc::Global;
@@ -91,8 +94,29 @@ pub(crate) fn take_step<'p>(
         step,
         &mut step_result,
     )?;
-    history.put(kept, step_result);
+    let honest = honest_in(setting, nodes, step, &step_result.cast);
+    history.put(kept, honest, step_result);
     Ok(())
+}
+
+// The honest roles of the cast of the session that a step starts, or that its frame joined with this cast. It takes no memory.
+fn honest_in<'p>(
+    setting: &Setting<'p>,
+    nodes: &IndexMap<Name, Node<'p>>,
+    step: &Step,
+    cast: &Option<SharedCast>,
+) -> RoleSet
+    requires { IsNamed (length setting.now.sessions) (step_of step.now) }
+    ensures { IsHonestIn setting.now.sessions (names_of nodes.now.entries) (step_of step.now) cast.now result }
+{
+    let honest = Principals { nodes };
+    if let Step::Start { session, .. } = step {
+        return honest_roles(&honest, &setting.cast(*session));
+    }
+    match cast {
+        Some(cast) => honest_roles(&honest, cast.get()),
+        None => RoleSet::empty(),
+    }
 }
 
 // Writes the outcome of a step of this number over `step_result`: at the node at its index, or of the craft.

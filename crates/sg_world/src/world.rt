@@ -98,17 +98,17 @@ impl<'p> World<'p> {
     }
 
     /// The outcome of the step at an index, counted from 0. It takes no memory.
-    pub fn outcome(&self, index: usize) -> &Outcome
+    pub fn outcome(&self, index: usize) -> &Outcome<'p>
         requires { index < length self.now.schedule.steps }
-        ensures { outcome_of result.now ≡ slice_get (reported_log (run_of self.now).log) index }
+        ensures { Some (outcome_of result.now) ≡ slice_get (reported_log (run_of self.now).log) index }
     {
         let entry = &self.history.entries()[index];
         &entry.outcome
     }
 
     /// The outcome of the last step, or `None` if none was taken. It takes no memory.
-    pub fn last(&self) -> Option<&Outcome>
-        ensures { option_map (λ o. outcome_of o.now) result ≡ option_map Some (last (reported_log (run_of self.now).log)) }
+    pub fn last(&self) -> Option<&Outcome<'p>>
+        ensures { option_map (λ o. outcome_of o.now) result ≡ last (reported_log (run_of self.now).log) }
     {
         self.history.last()
     }

@@ -1,20 +1,44 @@
-use Rattle.std.proofs.Common.{◌≡◌, ◌∙◌, ◌++◌, IfSome, IsSomeAnd, List, subst}
+use Rattle.std.proofs.Common.{◌≡◌, ◌∙◌, ◌++◌, List, None, Some, subst, sym}
 use Rattle.std.specs.Prelude.{OnOk}
-use Rattle.std.specs.Option.{option_copied}
 use Rattle.sg_protocol.specs.Graph.{Graph}
-use Rattle.sg_report.specs.Outcome.{outcome_of}
+use Rattle.sg_report.specs.Lines.{graph_or_none, line_text}
+use Rattle.sg_report.specs.Outcome.{graph_in, outcome_of}
 use Rattle.sg_report.specs.Report.{line}
+use Rattle.sg_report.specs.Reported.{Reported}
 use Rattle.sg_sched.specs.Format.StepsHeld.{step_of}
-use Rattle.sg_world.specs.Account.{graph_reported}
+use Rattle.sg_world.specs.KeptLines.{CanBeWritten, IsRenamed, line_kept}
 use Rattle.sg_world.specs.RecordModel.{TakenStep}
-use Rattle.sg_world.specs.KeptLines.{line_kept}
-use Rattle.sg_world.proofs.WrittenLines.{entry_written}
+use Rattle.sg_world.proofs.WrittenLines.{entry_written, other_names, other_text, own_names, own_text}
 use Rattle.sg_world.proofs.lines.put_entry.Goals as goal
 
-pub returns : goal.returns
-returns c = λ m e.
-    let kept : TakenStep = record { step = step_of c.entry.inside.step; reported = outcome_of c.entry.inside.outcome; graph = option_copied c.entry.inside.graph } in
-    subst (λ (t : TakenStep). OnOk c.put_line.result (IsSomeAnd (line_kept c.args.setting.now t) (λ l. c.put_line.new.out ≡ c.args.out.now ++ line m c.args.number l))) c.entry.view_is
-    (entry_written c.put_line.result m c.args.setting.now c.args.number kept c.who-who.result c.session_for-sid.result c.bytes_of.result.now c.bytes_of-2.result.now (option_copied c.graph_for.result) c.args.out.now c.put_line.new.out
-    c.who-who.ensures c.bytes_of.ensures c.session_for-sid.ensures (c.bytes_of-2.ensures ∙ c.name_in-session.ensures m e)
-    (subst (λ (gs : List Graph). IfSome (outcome_of c.entry.inside.outcome) (λ reported. option_copied c.graph_for.result ≡ graph_reported gs (option_copied c.entry.inside.graph) reported)) c.graphs.ensures c.graph_for.ensures) c.put_line.ensures.ok)
+-- renamed: the other outcome has the line's names and its text
+pub put_line-requires : goal.put_line-requires
+put_line-requires c =
+    let can = subst (CanBeWritten c.args.setting.now) (sym c.entry.view_is) c.requires in
+    let is = subst (λ (gs : List Graph). IsRenamed gs c.entry.inside.outcome (Some c.in-Some.outcome)) c.graphs.ensures c.in-Some.ensures in
+    other_names c.args.setting.now.graphs c.entry.inside.outcome c.in-Some.outcome is can
+
+pub put_line-requires-in-None : goal.put_line-requires-in-None
+put_line-requires-in-None c =
+    let can = subst (CanBeWritten c.args.setting.now) (sym c.entry.view_is) c.requires in
+    let is = subst (λ (gs : List Graph). IsRenamed gs c.entry.inside.outcome None) c.graphs.ensures c.in-None.ensures in
+    own_names c.args.setting.now.graphs c.entry.inside.outcome is can
+
+pub returns-in-Some : goal.returns-in-Some
+returns-in-Some c = λ m e.
+    let kept : TakenStep = record { step = step_of c.entry.inside.step; outcome = c.entry.inside.outcome; honest = c.entry.inside.honest } in
+    let is = subst (λ (gs : List Graph). IsRenamed gs c.entry.inside.outcome (Some c.in-Some.outcome)) c.graphs.ensures c.in-Some.ensures in
+    let written = subst (λ (t : Reported). OnOk c.put_line.result (c.put_line.new.out ≡ c.args.out.now ++ line_text c.bytes_of-2.result.now (graph_or_none (graph_in c.in-Some.outcome)) c.args.number c.bytes_of.result.now t)) is.0 c.put_line.ensures.ok in
+    subst (λ (t : TakenStep). OnOk c.put_line.result (c.put_line.new.out ≡ c.args.out.now ++ line m c.args.number (line_kept c.args.setting.now t))) c.entry.view_is
+    (entry_written c.put_line.result m c.args.setting.now c.args.number kept c.who-caller.result c.session_for-sid.result c.bytes_of.result.now c.bytes_of-2.result.now (graph_in c.in-Some.outcome) c.args.out.now c.put_line.new.out
+    c.who-caller.ensures c.bytes_of.ensures c.session_for-sid.ensures (c.bytes_of-2.ensures ∙ c.name_in-session.ensures m e) (other_text c.args.setting.now.graphs c.entry.inside.outcome c.in-Some.outcome is) written)
+
+-- the outcome itself has them
+pub returns-in-None : goal.returns-in-None
+returns-in-None c = λ m e.
+    let kept : TakenStep = record { step = step_of c.entry.inside.step; outcome = c.entry.inside.outcome; honest = c.entry.inside.honest } in
+    let can = subst (CanBeWritten c.args.setting.now) (sym c.entry.view_is) c.requires in
+    let is = subst (λ (gs : List Graph). IsRenamed gs c.entry.inside.outcome None) c.graphs.ensures c.in-None.ensures in
+    subst (λ (t : TakenStep). OnOk c.put_line-in-None.result (c.put_line-in-None.new.out ≡ c.args.out.now ++ line m c.args.number (line_kept c.args.setting.now t))) c.entry.view_is
+    (entry_written c.put_line-in-None.result m c.args.setting.now c.args.number kept c.who-caller.result c.session_for-sid.result c.bytes_of-in-None.result.now c.bytes_of-in-None-2.result.now (graph_in c.entry.inside.outcome) c.args.out.now c.put_line-in-None.new.out
+    c.who-caller.ensures c.bytes_of-in-None.ensures c.session_for-sid.ensures (c.bytes_of-in-None-2.ensures ∙ c.name_in-session.ensures m e) (own_text c.args.setting.now.graphs c.entry.inside.outcome is can) c.put_line-in-None.ensures.ok)

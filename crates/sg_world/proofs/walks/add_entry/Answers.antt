@@ -1,27 +1,50 @@
-use Rattle.std.proofs.Common.{◌≡◌, [], ◌∷◌, Some, None, sym, ◌∙◌, ap, refl}
-use Rattle.std.specs.Prelude.{option_map, option_and_then, suc, length}
-use Rattle.std.specs.Option.{option_to_list}
-use Rattle.sg_certify.proofs.Going.{goes_past}
-use Rattle.sg_certify.proofs.Stepping.{abandoned}
-use Rattle.sg_protocol.specs.Run.{events_of_outcome}
-use Rattle.sg_protocol.specs.Schedule.{sid_at}
-use Rattle.sg_protocol.specs.Texts.{real}
-use Rattle.sg_protocol.specs.World.{call_of}
-use Rattle.sg_report.specs.Reported.{event_reported}
-use Rattle.sg_sched.specs.Format.StepsHeld.{step_of}
-use Rattle.sg_walk.specs.declared.event.Event.{Event as CodeEvent}
+use Rattle.std.proofs.Common.{All, length, ◌<◌, Some, [], sym, ◌∙◌, ap, subst}
+use Rattle.sg_protocol.specs.Calls.{Event}
+use Rattle.sg_protocol.specs.Graph.{Graph}
 use Rattle.sg_walk.specs.Model.{event_of}
-use Rattle.sg_world.specs.RecordModel.{TakenStep}
-use Rattle.sg_world.proofs.Passing.{events_reported}
+use Rattle.sg_certify.specs.Adding.{IsAdded}
+use Rattle.sg_certify.proofs.Taking.{on_ok}
+use Rattle.sg_report.specs.Outcome.{graph_of_event, outcome_of}
+use Rattle.sg_report.specs.Reported.{event_reported}
+use Rattle.sg_report.specs.declared.outcome.Outcome.{Outcome}
+use Rattle.sg_world.specs.EntriesOfRun.{IsEntryAdded, IsOutcomeAdded}
 use Rattle.sg_world.proofs.walks.add_entry.Goals as goal
 
-pub returns-in_default-clause-goes_on : goal.returns-in_default-clause-goes_on
-returns-in_default-clause-goes_on g c s before l honest sessions step u n are =
-    goes_past s before l c.args.traces.now
-    (events_reported l step.number c.args.entry.now.reported None step.reported (ap (option_map (λ e. event_of e.now)) (sym c.in_default.is) ∙ c.event_in.ensures ∙ ap (λ (e : TakenStep). option_and_then event_reported e.reported) c.entry.view_is)) are
+pub add-requires-clause-graph : goal.add-requires-clause-graph
+add-requires-clause-graph c = λ i t at.
+    c.requires (event_of c.in-Started.begun.event) c.in-Started.begun.graph.now i t (ap (λ (o : Outcome). event_reported (outcome_of o)) c.in-Started.is) (ap graph_of_event c.in-Started.is) at
 
-pub returns-in-Abandon-clause-goes_on : goal.returns-in-Abandon-clause-goes_on
-returns-in-Abandon-clause-goes_on g c s before l honest sessions step =
-    abandoned c.args.traces.now.programs s before l (event_of c.in-Some.event.now) (sid_at real s c.in-Abandon.session) c.args.traces.now c.args.traces.now refl
-    (step.call ∙ ap (λ (e : TakenStep). call_of real s step.world (suc (length before)) e.step) (sym c.entry.view_is) ∙ ap (λ x. call_of real s step.world (suc (length before)) (step_of x)) c.in-Abandon.is)
-    (events_reported l step.number c.args.entry.now.reported (Some (event_of c.in-Some.event.now)) step.reported (ap (option_map (λ e. event_of e.now)) (sym c.in-Some.is) ∙ c.event_in.ensures ∙ ap (λ (e : TakenStep). option_and_then event_reported e.reported) c.entry.view_is))
+pub add-requires-in-Sent-clause-graph : goal.add-requires-in-Sent-clause-graph
+add-requires-in-Sent-clause-graph c = λ i t at.
+    c.requires (event_of c.in-Sent.sent.event) c.in-Sent.sent.graph.now i t (ap (λ (o : Outcome). event_reported (outcome_of o)) c.in-Sent.is) (ap graph_of_event c.in-Sent.is) at
+
+pub add-requires-in-Received-clause-graph : goal.add-requires-in-Received-clause-graph
+add-requires-in-Received-clause-graph c = λ i t at.
+    c.requires (event_of c.event.result.now) c.graph.result.now i t (ap (λ (o : Outcome). event_reported (outcome_of o)) c.in-Received.is ∙ ap (λ (e : Event). Some e) (sym c.event.ensures))
+    (ap graph_of_event c.in-Received.is ∙ ap (λ (g : Graph). Some g) (sym c.graph.ensures)) at
+
+pub add-requires-in-Received-clause-edges : goal.add-requires-in-Received-clause-edges
+add-requires-in-Received-clause-edges c = subst (λ (g : Graph). All (λ e. e < length g.edges) c.walk.result.now) (sym c.graph.ensures) c.walk.ensures.edges
+
+pub returns-in-Started : goal.returns-in-Started
+returns-in-Started c = on_ok (IsAdded c.in-Started.begun.graph.now c.args.entry.now.honest (event_of c.in-Started.begun.event) [] c.args.traces.now c.add.new.self) (IsEntryAdded c.args.entry.now c.args.traces.now c.add.new.self) c.add.result
+    (subst (λ (o : Outcome). IsOutcomeAdded o c.args.entry.now.honest c.args.traces.now c.add.new.self) (sym c.in-Started.is)) c.add.ensures.added
+
+pub returns-in-Sent : goal.returns-in-Sent
+returns-in-Sent c = on_ok (IsAdded c.in-Sent.sent.graph.now c.args.entry.now.honest (event_of c.in-Sent.sent.event) [] c.args.traces.now c.add-in-Sent.new.self) (IsEntryAdded c.args.entry.now c.args.traces.now c.add-in-Sent.new.self) c.add-in-Sent.result
+    (subst (λ (o : Outcome). IsOutcomeAdded o c.args.entry.now.honest c.args.traces.now c.add-in-Sent.new.self) (sym c.in-Sent.is)) c.add-in-Sent.ensures.added
+
+-- a receipt beside its own walk
+pub returns-in-Received : goal.returns-in-Received
+returns-in-Received c =
+    let walk = c.walk.result.now in
+    let old = c.args.traces.now in
+    let now = c.add-in-Received.new.self in
+    on_ok (IsAdded c.graph.result.now c.args.entry.now.honest (event_of c.event.result.now) walk old now) (IsEntryAdded c.args.entry.now old now) c.add-in-Received.result
+    (λ added. subst (λ (o : Outcome). IsOutcomeAdded o c.args.entry.now.honest old now) (sym c.in-Received.is) (
+      walk,
+      c.walk.ensures,
+      subst (λ (e : Event). IsAdded c.in-Received.receipt.program.graph c.args.entry.now.honest e walk old now) c.event.ensures
+          (subst (λ (g : Graph). IsAdded g c.args.entry.now.honest (event_of c.event.result.now) walk old now) c.graph.ensures added),
+    ))
+    c.add-in-Received.ensures.added
