@@ -8,12 +8,13 @@ use Rattle.sg_play.specs.Representation.{HasAsked, RepresentsPlay}
 use Rattle.sg_play.specs.Steps.{frames_of}
 use Rattle.sg_protocol.specs.Acting.{answer}
 use Rattle.sg_protocol.specs.Calls.{Call}
-use Rattle.sg_protocol.specs.Graph.{Graph}
 use Rattle.sg_protocol.specs.NodeStates.{RepresentsPast}
 use Rattle.sg_protocol.specs.Past.{Past, node_of, past_after}
 use Rattle.sg_protocol.specs.Ranges.{IsCallInRange}
 use Rattle.sg_protocol.specs.Texts.{real}
-use Rattle.sg_report.specs.Reported.{Reported, reported_answer, sid_left}
+use Rattle.sg_report.specs.Outcome.{outcome_of}
+use Rattle.sg_report.specs.Reported.{reported_answer, sid_left}
+use Rattle.sg_report.specs.declared.outcome.Outcome.{Outcome}
 use Rattle.sg_keep.specs.Joins.{joins_made}
 use Rattle.sg_keep.specs.KeptRuns.{AllRepresent, AreOfJoins, HasKept, KeptThroughout}
 use Rattle.sg_keep.specs.declared.fault.KeepFault.{KeepFault}
@@ -28,14 +29,14 @@ pub record HoldsJoins (k : Keeper) (may_leave : List ℕ → Type 0) : Type 0 wh
   pub images : AllRepresent may_leave k.player.node.joins
 
 -- the node has been asked one more call, and this is the outcome; the ledger has the joins from before
-pub record HasAskedNode (k : Keeper) (may_leave : List ℕ → Type 0) (reported : Option Reported) : Type 0 where
+pub record HasAskedNode (k : Keeper) (may_leave : List ℕ → Type 0) (outcome : Outcome) : Type 0 where
   pub past : Past
   pub call : Call
   pub number : ℕ
   pub range : IsCallInRange call
   pub answered_before : IsAnsweredPast past
   pub represents : RepresentsPast k.player.node (past_after real past call)
-  pub is_reported : reported ≡ Some (reported_answer number (answer real (node_of past) call))
+  pub is_reported : outcome_of outcome ≡ reported_answer number (answer real (node_of past) call)
   pub ledger : k.ledger ≡ record { joins = (node_of past).joins; failed = false }
   pub images : AllRepresent may_leave (node_of past).joins
 
@@ -50,8 +51,8 @@ pub record RepresentsKept (k : Keeper) (p : Play) : Type 0 where
   pub sent : AreOfJoins (joins_made p.past.calls) (frames_of p.steps)
 
 -- the player has asked a call that leaves no session, and this is the outcome, which is not reported yet
-pub record IsAsked (k : Keeper) (p : Play) (c : Call) (reported : Option Reported) (graph : Option Graph) : Type 0 where
-  pub asked : HasAsked k.player p c reported graph []
+pub record IsAsked (k : Keeper) (p : Play) (c : Call) (outcome : Outcome) : Type 0 where
+  pub asked : HasAsked k.player p c outcome []
   pub stays : None ≡ sid_left c
   pub answered_before : IsAnsweredPast p.past
   pub in_step : length p.steps ≡ length p.past.calls

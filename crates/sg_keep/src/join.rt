@@ -1,5 +1,5 @@
 //! The outcome of a call, as a join.
-ghost use Rattle.std.specs.Prelude.{◌≡◌, option_and_then};
+ghost use Rattle.std.specs.Prelude.{◌≡◌};
 ghost use Rattle.sg_report.specs.Outcome.{outcome_of};
 ghost use Rattle.sg_walk.specs.Model.{event_of};
 ghost use Rattle.sg_keep.specs.Joins.{join_of, join_reported};
@@ -9,20 +9,13 @@ use sg_report::Outcome;
 use sg_walk::Event;
 
 /// The pair that was joined, if one was.
-pub(crate) fn join_in(outcome: &Outcome) -> Option<(Sid, Role)>
-    ensures { result ≡ option_and_then join_reported (outcome_of outcome.now) }
+pub(crate) fn join_in(outcome: &Outcome<'_>) -> Option<(Sid, Role)>
+    ensures { result ≡ join_reported (outcome_of outcome.now) }
 {
     match outcome {
-        Outcome::Started(event) => join_of(event),
-        Outcome::Sent { .. } => None,
-        Outcome::Received(event) => join_of(event),
-        Outcome::Abandoned => None,
-        Outcome::Crafted { .. } => None,
-        Outcome::NotStarted(_) => None,
-        Outcome::NotActed(_) => None,
-        Outcome::NotAbandoned => None,
-        Outcome::NotDelivered(_) => None,
-        Outcome::NoFrame => None,
+        Outcome::Started(begun) => join_of(&begun.event),
+        Outcome::Received(receipt) => join_of(receipt.event()),
+        _ => None,
     }
 }
 

@@ -1,6 +1,5 @@
 //! One principal who plays a script and keeps its joins.
-ghost use Rattle.std.specs.Prelude.{◌≡◌, ◌≤◌, ◌⊎◌, false, List, ℕ, Err, Some, option_and_then, IfErr, IfSome, OnErr, OnOk};
-ghost use Rattle.std.specs.Option.{option_copied};
+ghost use Rattle.std.specs.Prelude.{◌≡◌, ◌≤◌, ◌⊎◌, false, List, ℕ, Err, Some, IfErr, IfSome, OnErr, OnOk};
 ghost use Rattle.sg_base.specs.Outside.{HasRisen};
 ghost use Rattle.sg_ledger.specs.Disk.{LeavesOnly};
 ghost use Rattle.sg_ledger.specs.Format.{Represents};
@@ -14,7 +13,6 @@ ghost use Rattle.sg_keep.specs.KeptRuns.{AllRepresent, RepresentsEither};
 use crate::KeepFault;
 use crate::join::join_in;
 use sg_base::{Fresh, Link, Sink};
-use sg_graph::Graph;
 use sg_ledger::{AddJoinFault, Disk, Ledger};
 use sg_play::{PlayFault, Player};
 use sg_report::{Outcome, sid_reported};
@@ -34,14 +32,13 @@ impl<'p> Keeper<'p> {
     /// it gives.
     pub(crate) fn report<L: Link, R: Fresh, O: Sink, D: Disk>(
         &mut self,
-        outcome: &Outcome,
-        graph: Option<&Graph>,
+        outcome: &Outcome<'p>,
         link: &mut L,
         fresh: &mut R,
         out: &mut O,
         disk: &mut D,
     ) -> Result<(), KeepFault>
-        requires asked { HasAskedNode self.old (D.may_leave disk.old) (outcome_of outcome.now) }
+        requires asked { HasAskedNode self.old (D.may_leave disk.old) outcome.now }
         ensures link_bound { L.bound link.new ≡ L.bound link.old }
         ensures disk_bound { D.bound disk.new ≡ D.bound disk.old }
         ensures faults { CountsFaults (record { link = L.faults link.old; out = O.faults out.old; disk = D.faults disk.old })
@@ -50,7 +47,7 @@ impl<'p> Keeper<'p> {
         ensures holds { OnOk result (HoldsJoins self.new (D.may_leave disk.new)) }
         ensures joins { OnOk result (self.new.ledger.joins ≡ self.old.player.node.joins) }
         ensures any_moment { LeavesOnly D.moment D.left_since disk.old disk.new (RepresentsEither self.old.ledger.joins self.old.player.node.joins) }
-        ensures progress { (p : Play) (c : Call) (start : Outside) → IsAsked self.old p c (outcome_of outcome.now) (option_copied graph.entry) → R.random fresh.old ≡ Some p.random
+        ensures progress { (p : Play) (c : Call) (start : Outside) → IsAsked self.old p c outcome.now → R.random fresh.old ≡ Some p.random
             → Whole start (record { written = O.written out.old; sent = L.sent link.old }) p.steps
             → Progressed start (record { written = O.written out.new; sent = L.sent link.new }) (D.may_leave disk.new) self.new (R.random fresh.new) (with_turn p c) result }
     {
@@ -58,7 +55,7 @@ impl<'p> Keeper<'p> {
             Ok(()) => {}
             Err(fault) => return Err(fault),
         }
-        match self.player.give(None, graph, outcome, None, link, out) {
+        match self.player.give(None, outcome, None, link, out) {
             Ok(()) => {}
             Err(fault) => return Err(KeepFault::Played(fault)),
         }
@@ -70,8 +67,8 @@ impl<'p> Keeper<'p> {
 
     // Adds the join of the outcome of a call to the ledger, if it is one. The ledger has all joins of the node from before the call, so it
     // doesn't have this one, and it isn't full.
-    fn keep_join<D: Disk>(&mut self, outcome: &Outcome, disk: &mut D) -> Result<(), KeepFault>
-        requires asked { HasAskedNode self.old (D.may_leave disk.old) (outcome_of outcome.now) }
+    fn keep_join<D: Disk>(&mut self, outcome: &Outcome<'p>, disk: &mut D) -> Result<(), KeepFault>
+        requires asked { HasAskedNode self.old (D.may_leave disk.old) outcome.now }
         ensures disk_bound { D.bound disk.new ≡ D.bound disk.old }
         ensures falls { D.faults disk.old ≤ D.faults disk.new }
         ensures failed { result ≡ Err KeepFault.DiskFailed → HasRisen (D.faults disk.old) (D.faults disk.new) }
@@ -90,22 +87,22 @@ impl<'p> Keeper<'p> {
 /// is new to it. It fails if the disk fails, after which an image may have the join or not, or if memory ran out.
 pub fn add_join<D: Disk>(
     ledger: &mut Ledger,
-    outcome: &Outcome,
+    outcome: &Outcome<'_>,
     disk: &mut D,
 ) -> Result<(), KeepFault>
     requires working { ledger.old.failed ≡ false }
     requires images { AllRepresent (D.may_leave disk.old) ledger.old.joins }
-    requires new { IfSome (option_and_then join_reported (outcome_of outcome.now)) (IsNew ledger.old.joins) }
+    requires new { IfSome (join_reported (outcome_of outcome.now)) (IsNew ledger.old.joins) }
     ensures disk_bound { D.bound disk.new ≡ D.bound disk.old }
     ensures falls { D.faults disk.old ≤ D.faults disk.new }
     ensures failed { result ≡ Err KeepFault.DiskFailed → HasRisen (D.faults disk.old) (D.faults disk.new) }
     ensures causes { IfErr result (λ e. (e ≡ KeepFault.DiskFailed) ⊎ (e ≡ KeepFault.Played PlayFault.OutOfMemory)) }
-    ensures added { OnOk result (ledger.new ≡ record { joins = with_join ledger.old.joins (option_and_then join_reported (outcome_of outcome.now)); failed = false }) }
+    ensures added { OnOk result (ledger.new ≡ record { joins = with_join ledger.old.joins (join_reported (outcome_of outcome.now)); failed = false }) }
     ensures images { OnOk result (AllRepresent (D.may_leave disk.new) ledger.new.joins) }
     ensures between { OnErr result ((image : List ℕ) → D.may_leave disk.new image
-        → Represents image ledger.old.joins ⊎ Represents image (with_join ledger.old.joins (option_and_then join_reported (outcome_of outcome.now)))) }
+        → Represents image ledger.old.joins ⊎ Represents image (with_join ledger.old.joins (join_reported (outcome_of outcome.now)))) }
     ensures any_moment { LeavesOnly D.moment D.left_since disk.old disk.new
-        (RepresentsEither ledger.old.joins (with_join ledger.old.joins (option_and_then join_reported (outcome_of outcome.now)))) }
+        (RepresentsEither ledger.old.joins (with_join ledger.old.joins (join_reported (outcome_of outcome.now)))) }
 {
     let Some(join) = join_in(outcome) else {
         return Ok(());

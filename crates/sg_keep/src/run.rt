@@ -80,7 +80,7 @@ impl<'p> Keeper<'p> {
     {
         let nonce = fresh.next();
         match self.player.ask_start(start_of, nonce) {
-            Ok((outcome, graph)) => self.report(&outcome, graph, link, fresh, out, disk),
+            Ok(outcome) => self.report(&outcome, link, fresh, out, disk),
             Err(fault) => Err(KeepFault::Played(fault)),
         }
     }
@@ -153,7 +153,7 @@ impl<'p> Keeper<'p> {
             → Progressed start (record { written = O.written out.new; sent = L.sent link.new }) (D.may_leave disk.new) self.new (R.random fresh.new) (with_turn p (Deliver bytes.now)) result }
     {
         match self.player.ask_deliver(bytes) {
-            Ok((outcome, graph)) => self.report(&outcome, graph, link, fresh, out, disk),
+            Ok(outcome) => self.report(&outcome, link, fresh, out, disk),
             Err(fault) => Err(KeepFault::Played(fault)),
         }
     }

@@ -5,7 +5,6 @@ use Rattle.sg_keys.specs.Names.{addr_of}
 use Rattle.sg_model.specs.Names.{Name}
 use Rattle.sg_protocol.specs.Acting.{answer}
 use Rattle.sg_protocol.specs.Calls.{Answer, Call, Sends}
-use Rattle.sg_protocol.specs.Graph.{Graph}
 use Rattle.sg_protocol.specs.Keyring.{Keyring}
 use Rattle.sg_protocol.specs.NodeStates.{NodeState}
 use Rattle.sg_protocol.specs.Past.{Past, node_of}
@@ -13,8 +12,10 @@ use Rattle.sg_protocol.specs.Ranges.{IsCallInRange}
 use Rattle.sg_protocol.specs.Spelling.{spelling}
 use Rattle.sg_protocol.specs.Texts.{real}
 use Rattle.sg_protocol.specs.Named.{graph_of_call}
-use Rattle.sg_node.specs.Answers.{GoesOn}
-use Rattle.sg_report.specs.Reported.{Reported, reported_answer}
+use Rattle.sg_node.specs.Answers.{GoesOn, graph_named}
+use Rattle.sg_report.specs.Outcome.{graph_in, outcome_of}
+use Rattle.sg_report.specs.Reported.{reported_answer}
+use Rattle.sg_report.specs.declared.outcome.Outcome.{Outcome}
 use Rattle.sg_play.specs.Posting.{frames_made}
 
 -- the frame that an answer sends: its receiver, and its bytes
@@ -22,11 +23,11 @@ abbrev pub sealed_in : Answer → Option (Name × List ℕ)
 sealed_in (Sends e to f) = Some (to, spelling f)
 sealed_in other = None
 
--- the outcome of a call is what the node of the past answers, if its frame has this number, by the graph of the call; and the new state goes on for the past
-pub record IsAsked (number : ℕ) (old new : NodeState) (past : Past) (call : Call) (reported : Option Reported) (graph : Option Graph) (sealed : Option (Name × List ℕ)) : Type 0 where
+-- the outcome of a call is what the node of the past answers, if its frame has this number, with the graph of the call beside its numbers; and the new state goes on for the past
+pub record IsAsked (number : ℕ) (old new : NodeState) (past : Past) (call : Call) (outcome : Outcome) (sealed : Option (Name × List ℕ)) : Type 0 where
   pub range : IsCallInRange call
-  pub is_reported : reported ≡ Some (reported_answer number (answer real (node_of past) call))
-  pub is_graph : graph ≡ graph_of_call real (node_of past) call
+  pub is_reported : outcome_of outcome ≡ reported_answer number (answer real (node_of past) call)
+  pub is_graph : graph_in outcome ≡ graph_named (answer real (node_of past) call) (graph_of_call real (node_of past) call)
   pub is_sealed : sealed ≡ sealed_in (answer real (node_of past) call)
   pub goes_on : GoesOn old new call past
 
@@ -35,7 +36,7 @@ abbrev pub addressed : Keyring → Option (Name × List ℕ) → Option (Addr ×
 addressed keys sealed = option_and_then (λ s. option_map (λ at. (at, s)) (addr_of keys s.0)) sealed
 
 -- so with the frame that is made, at its address: it has the next number after these, and is counted
-pub record IsAskedWithFrames (keys : Keyring) (frames counted : ℕ) (old new : NodeState) (past : Past) (call : Call) (reported : Option Reported) (graph : Option Graph) (frame : Option (Addr × (Name × List ℕ))) : Type 0 where
-  pub is_asked : IsAsked (frames + 1) old new past call reported graph (sealed_in (answer real (node_of past) call))
+pub record IsAskedWithFrames (keys : Keyring) (frames counted : ℕ) (old new : NodeState) (past : Past) (call : Call) (outcome : Outcome) (frame : Option (Addr × (Name × List ℕ))) : Type 0 where
+  pub is_asked : IsAsked (frames + 1) old new past call outcome (sealed_in (answer real (node_of past) call))
   pub is_frame : frame ≡ addressed keys (sealed_in (answer real (node_of past) call))
   pub is_counted : counted ≡ frames + length (frames_made frame)

@@ -3,14 +3,15 @@ use Rattle.std.specs.Prelude.{◌≡◌, ℕ, ◌+◌, List, length, drop, find,
 use Rattle.sg_base.specs.declared.address.Addr.{Addr}
 use Rattle.sg_text.specs.Sessions.{naming}
 use Rattle.sg_model.specs.Names.{Name}
-use Rattle.sg_node.specs.Answers.{IsAnsweredPast}
+use Rattle.sg_node.specs.Answers.{IsAnsweredPast, graph_named}
 use Rattle.sg_protocol.specs.Calls.{Call}
-use Rattle.sg_protocol.specs.Graph.{Graph}
 use Rattle.sg_protocol.specs.NodeStates.{NodeState, RepresentsPast}
 use Rattle.sg_protocol.specs.Past.{Past, node_of, past_after}
 use Rattle.sg_protocol.specs.Texts.{real}
 use Rattle.sg_protocol.specs.Named.{graph_of_call}
-use Rattle.sg_report.specs.Reported.{Reported, reported_answer}
+use Rattle.sg_report.specs.Outcome.{graph_in, outcome_of}
+use Rattle.sg_report.specs.Reported.{reported_answer}
+use Rattle.sg_report.specs.declared.outcome.Outcome.{Outcome}
 use Rattle.sg_script.specs.Script.{Choice}
 use Rattle.sg_play.specs.Choosing.{is_ready}
 use Rattle.sg_play.specs.declared.fault.PlayFault.{PlayFault}
@@ -32,7 +33,7 @@ pub record RepresentsPlay (pl : Player) (p : Play) : Type 0 where
   pub frames : pl.frames ≡ length (frames_of p.steps)
 
 -- the player has asked its node this call, and this is the outcome, which is not reported yet. These frames are counted
-pub record HasAsked (pl : Player) (p : Play) (c : Call) (reported : Option Reported) (graph : Option Graph) (made : List (Addr × List ℕ)) : Type 0 where
+pub record HasAsked (pl : Player) (p : Play) (c : Call) (outcome : Outcome) (made : List (Addr × List ℕ)) : Type 0 where
   pub node : RepresentsPast pl.node (past_after real p.past c)
   pub answered_past : IsAnsweredPast (past_after real p.past c)
   pub keys : p.past.keys ≡ pl.keys.now
@@ -41,8 +42,8 @@ pub record HasAsked (pl : Player) (p : Play) (c : Call) (reported : Option Repor
   pub names : pl.names ≡ naming 115 (known_in p.past.calls)
   pub steps : pl.steps ≡ length p.past.calls
   pub frames : pl.frames ≡ length (frames_of p.steps) + length made
-  pub is_reported : reported ≡ Some (reported_answer (length (frames_of p.steps) + 1) (answer_in p c))
-  pub is_graph : graph ≡ graph_of_call real (node_of p.past) c
+  pub is_reported : outcome_of outcome ≡ reported_answer (length (frames_of p.steps) + 1) (answer_in p c)
+  pub is_graph : graph_in outcome ≡ graph_named (answer_in p c) (graph_of_call real (node_of p.past) c)
   pub is_made : made ≡ frames_in p.past.keys (answer_in p c)
 
 -- whether a call succeeded
@@ -66,10 +67,10 @@ ProgressedActing start now pl random x (Ok sent) = Progressed start now pl rando
 ProgressedActing start now pl random x (Err fault) = Progressed start now pl random x.0 (Err fault)
 
 -- the player has asked for the act by the first choice that can be taken, and this is the outcome
-pub record HasActed (pl : Player) (random : Option (List (List ℕ))) (sid : List ℕ) (graph : Name) (node : ℕ) (p : Play) (reported : Option Reported) (by : Option Graph) (made : List (Addr × List ℕ)) : Type 0 where
+pub record HasActed (pl : Player) (random : Option (List (List ℕ))) (sid : List ℕ) (graph : Name) (node : ℕ) (p : Play) (outcome : Outcome) (made : List (Addr × List ℕ)) : Type 0 where
   pub choice : Choice
   pub is_first : find (is_ready graph node) p.choices ≡ Some choice
-  pub asked : HasAsked pl (chosen graph node choice p) (act_by sid choice p.random) reported by made
+  pub asked : HasAsked pl (chosen graph node choice p) (act_by sid choice p.random) outcome made
   pub random_left : random ≡ Some (drop (length choice.values) p.random)
 
 -- if the old state of a node represented a valid past, the new one represents such a past too, and has the same joins

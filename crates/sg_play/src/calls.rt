@@ -6,7 +6,6 @@ ghost use Rattle.sg_protocol.specs.Calls.{Abandon, Act};
 ghost use Rattle.sg_protocol.specs.Past.{node_of};
 ghost use Rattle.sg_protocol.specs.Named.{live_with};
 ghost use Rattle.sg_protocol.specs.Turn.{turn_of};
-ghost use Rattle.sg_report.specs.Outcome.{outcome_of};
 ghost use Rattle.sg_walk.specs.Model.{values_of};
 ghost use Rattle.sg_play.specs.Asking.{addressed, sealed_in};
 ghost use Rattle.sg_play.specs.Played.{Play, answer_in};
@@ -21,19 +20,19 @@ use sg_graph::Graph;
 use sg_report::Outcome;
 
 impl<'p> Player<'p> {
-    /// Asks the node for an act in a session, with a confounder to hide each value: the outcome, the graph by which its numbers have names,
-    /// and the frame that was made, with the address of its receiver. The step's line is still to be written, by `report`.
+    /// Asks the node for an act in a session, with a confounder to hide each value: the outcome, and the frame that was made, with the
+    /// address of its receiver. The step's line is still to be written, by `report`.
     pub fn ask_act(
         &mut self,
         sid: Sid,
         label: Label,
         values: &[(Var, Value)],
         confounders: &[[u8; 16]],
-    ) -> Result<(Outcome, Option<&'p Graph>, Option<(Addr, Sealed)>), PlayFault>
+    ) -> Result<(Outcome<'p>, Option<(Addr, Sealed)>), PlayFault>
         requires { length confounders.now ≡ length values.now }
         ensures asked { IfOk result (λ r. (p : Play) → RepresentsPlay self.old p
-            → HasAsked self.new p (Act sid label (values_of values.now) confounders.now) (outcome_of r.0) (option_copied r.1) (frames_made r.2)) }
-        ensures frame { IfOk result (λ r. (p : Play) → RepresentsPlay self.old p → r.2 ≡ addressed p.past.keys (sealed_in (answer_in p (Act sid label (values_of values.now) confounders.now)))) }
+            → HasAsked self.new p (Act sid label (values_of values.now) confounders.now) r.0 (frames_made r.1)) }
+        ensures frame { IfOk result (λ r. (p : Play) → RepresentsPlay self.old p → r.1 ≡ addressed p.past.keys (sealed_in (answer_in p (Act sid label (values_of values.now) confounders.now)))) }
         ensures joins { OnOk result (KeepsJoins self.old.node self.new.node) }
         ensures memory { IfErr result (λ e. e ≡ PlayFault.OutOfMemory) }
     {
@@ -49,11 +48,10 @@ impl<'p> Player<'p> {
         )
     }
 
-    /// Asks the node to abandon a session: the outcome, and the graph by which its numbers have names. The step's line is still to be
-    /// written, by `report`.
-    pub fn ask_abandon(&mut self, sid: Sid) -> (Outcome, Option<&'p Graph>)
+    /// Asks the node to abandon a session: the outcome. The step's line is still to be written, by `report`.
+    pub fn ask_abandon(&mut self, sid: Sid) -> Outcome<'p>
         ensures asked { (p : Play) → RepresentsPlay self.old p
-            → HasAsked self.new p (Abandon sid) (outcome_of result.0) (option_copied result.1) [] }
+            → HasAsked self.new p (Abandon sid) result [] }
         ensures joins { KeepsJoins self.old.node self.new.node }
     {
         ask_abandon(&mut self.node, sid)

@@ -1,13 +1,13 @@
 //! One principal who plays a script.
-ghost use Rattle.std.specs.Prelude.{◌≡◌, ◌≤◌, ◌+◌, ℕ, List, [], Some, None, Err, IfOk, IfErr, IfSome, OnOk, unwrap_or};
-ghost use Rattle.std.specs.Option.{option_copied, option_map_or};
+ghost use Rattle.std.specs.Prelude.{◌≡◌, ◌≤◌, ◌+◌, ℕ, List, [], Some, None, Err, IfOk, IfErr, OnOk, unwrap_or};
+ghost use Rattle.std.specs.Option.{option_map_or};
 ghost use Rattle.sg_base.specs.Outside.{HasRisen};
 ghost use Rattle.sg_base.specs.declared.address.Addr.{Addr};
 ghost use Rattle.sg_text.specs.Sessions.{KnownSessions, naming, session_name};
 ghost use Rattle.sg_protocol.specs.Calls.{Call, Start, Deliver};
 ghost use Rattle.sg_report.specs.Lines.{graph_or_none, line_text};
-ghost use Rattle.sg_report.specs.Outcome.{outcome_of};
-ghost use Rattle.sg_report.specs.Reported.{Reported, session_reported, sid_left};
+ghost use Rattle.sg_report.specs.Outcome.{graph_in, outcome_of};
+ghost use Rattle.sg_report.specs.Reported.{session_reported, sid_left};
 ghost use Rattle.sg_play.specs.Meeting.{known_more};
 ghost use Rattle.sg_play.specs.Posting.{frames_made};
 
@@ -19,7 +19,6 @@ use crate::reported::reported_line;
 use crate::run::cast_of;
 use sg_base::{Addr, Link, Name, Sealed, Seq, Sid, Sink};
 use sg_crypt::Cast;
-use sg_graph::Graph;
 use sg_keys::Keyring;
 use sg_node::Node;
 use sg_program::Programs;
@@ -78,27 +77,26 @@ impl<'p> Player<'p> {
         }
     }
 
-    /// Asks the node for a start of a script, with this nonce: the outcome, and the graph by which its numbers have names. It is to be
-    /// given to the outside.
+    /// Asks the node for a start of a script, with this nonce: the outcome. It is to be given to the outside.
     pub fn ask_start(
         &mut self,
         start_of: &ScriptStart,
         nonce: [u8; 16],
-    ) -> Result<(Outcome, Option<&'p Graph>), PlayFault>
+    ) -> Result<Outcome<'p>, PlayFault>
         ensures rest { OnOk result (self.new ≡ record self.old { node = self.new.node }) }
         ensures is_asked { (number : ℕ) (past : Past) → RepresentsPast self.old.node past
-            → IfOk result (λ r. IsAsked number self.old.node self.new.node past (Start (cast_of_start self.old.programs.now start_of.now nonce)) (outcome_of r.0) (option_copied r.1) None) }
+            → IfOk result (λ o. IsAsked number self.old.node self.new.node past (Start (cast_of_start self.old.programs.now start_of.now nonce)) o None) }
         ensures memory { IfErr result (λ e. e ≡ PlayFault.OutOfMemory) }
     {
         let cast = cast_of(self.programs, start_of, nonce)?;
         ask_start(self.alloc, &mut self.node, cast)
     }
 
-    /// Asks the node to take a delivery: the outcome, and the graph by which its numbers have names. It is to be given to the outside.
-    pub fn ask_deliver(&mut self, bytes: &[u8]) -> Result<(Outcome, Option<&'p Graph>), PlayFault>
+    /// Asks the node to take a delivery: the outcome. It is to be given to the outside.
+    pub fn ask_deliver(&mut self, bytes: &[u8]) -> Result<Outcome<'p>, PlayFault>
         ensures rest { OnOk result (self.new ≡ record self.old { node = self.new.node }) }
         ensures is_asked { (number : ℕ) (past : Past) → RepresentsPast self.old.node past
-            → IfOk result (λ r. IsAsked number self.old.node self.new.node past (Deliver bytes.now) (outcome_of r.0) (option_copied r.1) None) }
+            → IfOk result (λ o. IsAsked number self.old.node self.new.node past (Deliver bytes.now) o None) }
         ensures memory { IfErr result (λ e. e ≡ PlayFault.OutOfMemory) }
     {
         ask_deliver(self.alloc, &mut self.node, bytes)
@@ -121,8 +119,8 @@ impl<'p> Player<'p> {
             → ProgressedOnItsWay start (record { written = O.written out.new; sent = L.sent link.new }) self.new (called p (Start cast)) (done result) }
         ensures turn { IfOk result (λ sid. (p : Play) → RepresentsPlay self.old p → sid ≡ sid_answered (answer_in p (Start cast))) }
     {
-        let (outcome, graph) = ask_start(self.alloc, &mut self.node, cast)?;
-        self.give(None, graph, &outcome, None, link, out)?;
+        let outcome = ask_start(self.alloc, &mut self.node, cast)?;
+        self.give(None, &outcome, None, link, out)?;
         Ok(sid_reported(&outcome))
     }
 
@@ -143,8 +141,8 @@ impl<'p> Player<'p> {
             → ProgressedOnItsWay start (record { written = O.written out.new; sent = L.sent link.new }) self.new (called p (Deliver bytes.now)) (done result) }
         ensures turn { IfOk result (λ sid. (p : Play) → RepresentsPlay self.old p → sid ≡ sid_answered (answer_in p (Deliver bytes.now))) }
     {
-        let (outcome, graph) = ask_deliver(self.alloc, &mut self.node, bytes)?;
-        self.give(None, graph, &outcome, None, link, out)?;
+        let outcome = ask_deliver(self.alloc, &mut self.node, bytes)?;
+        self.give(None, &outcome, None, link, out)?;
         Ok(sid_reported(&outcome))
     }
 
@@ -165,8 +163,8 @@ impl<'p> Player<'p> {
             → ProgressedOnItsWay start (record { written = O.written out.new; sent = L.sent link.new }) self.new (abandons sid p) result }
         ensures joins { OnOk result (KeepsJoins self.old.node self.new.node) }
     {
-        let (outcome, graph) = self.ask_abandon(sid);
-        self.give(Some(sid), graph, &outcome, None, link, out)
+        let outcome = self.ask_abandon(sid);
+        self.give(Some(sid), &outcome, None, link, out)
     }
 
     /// Gives the outside the outcome of a call: the frame, if one was made, and when the link has taken it the line. It fails if
@@ -174,8 +172,7 @@ impl<'p> Player<'p> {
     pub fn give<L: Link, O: Sink>(
         &mut self,
         left: Option<Sid>,
-        graph: Option<&Graph>,
-        outcome: &Outcome,
+        outcome: &Outcome<'p>,
         frame: Option<(Addr, Sealed)>,
         link: &mut L,
         out: &mut O,
@@ -186,12 +183,12 @@ impl<'p> Player<'p> {
         ensures link_failed { result ≡ Err PlayFault.LinkFailed → HasRisen (L.faults link.old) (L.faults link.new) }
         ensures write_failed { result ≡ Err PlayFault.WriteFailed → HasRisen (O.faults out.old) (O.faults out.new) }
         ensures deliveries { L.deliveries link.new ≡ L.deliveries link.old }
-        ensures progress { (p : Play) (c : Call) (start : Outside) → HasAsked self.old p c (outcome_of outcome.now) (option_copied graph.entry) (frames_made frame) → left ≡ sid_left c
+        ensures progress { (p : Play) (c : Call) (start : Outside) → HasAsked self.old p c outcome.now (frames_made frame) → left ≡ sid_left c
             → Whole start (record { written = O.written out.old; sent = L.sent link.old }) p.steps
             → ProgressedOnItsWay start (record { written = O.written out.new; sent = L.sent link.new }) self.new (called p c) result }
         ensures node { OnOk result (self.new.node ≡ self.old.node) }
     {
-        match self.report(left, graph, outcome) {
+        match self.report(left, outcome) {
             Ok(line) => post(OutputStep { line, frame }, link, out),
             Err(fault) => {
                 let_go(frame);
@@ -201,28 +198,23 @@ impl<'p> Player<'p> {
     }
 
     /// The line of the next step: of the outcome of a call, in the session that the call left, if it left one. It is to be written.
-    pub fn report(
-        &mut self,
-        left: Option<Sid>,
-        graph: Option<&Graph>,
-        outcome: &Outcome,
-    ) -> Result<Vec<u8>, PlayFault>
+    pub fn report(&mut self, left: Option<Sid>, outcome: &Outcome<'p>) -> Result<Vec<u8>, PlayFault>
         ensures rest { OnOk result (self.new ≡ record self.old { names = self.new.names; steps = self.old.steps + 1 }) }
-        ensures reported { IfOk result (λ line. (p : Play) (c : Call) (made : List (Addr × List ℕ)) → HasAsked self.old p c (outcome_of outcome.now) (option_copied graph.entry) made → left ≡ sid_left c
+        ensures reported { IfOk result (λ line. (p : Play) (c : Call) (made : List (Addr × List ℕ)) → HasAsked self.old p c outcome.now made → left ≡ sid_left c
             → (line.items ≡ (step_in p c).line) × RepresentsPlay self.new (called p c)) }
         ensures memory { IfErr result (λ e. e ≡ PlayFault.OutOfMemory) }
     {
         self.meet(outcome)?;
         let number = next_step(self.steps)?;
-        let line = self.line(number, session_of(left, outcome), graph, outcome)?;
+        let line = self.line(number, session_of(left, outcome), outcome)?;
         self.steps = number;
         Ok(line)
     }
 
     // Meets the session in which an outcome happened, if it did in one.
-    fn meet(&mut self, outcome: &Outcome) -> Result<(), PlayFault>
+    fn meet(&mut self, outcome: &Outcome<'_>) -> Result<(), PlayFault>
         ensures rest { OnOk result (self.new ≡ record self.old { names = self.new.names }) }
-        ensures names { OnOk result ((m : KnownSessions) (t : Reported) → outcome_of outcome.now ≡ Some t → self.old.names ≡ naming 115 m → self.new.names ≡ naming 115 (known_more m t)) }
+        ensures names { OnOk result ((m : KnownSessions) → self.old.names ≡ naming 115 m → self.new.names ≡ naming 115 (known_more m (outcome_of outcome.now))) }
         ensures memory { IfErr result (λ e. e ≡ PlayFault.OutOfMemory) }
     {
         match sid_reported(outcome) {
@@ -239,16 +231,15 @@ impl<'p> Player<'p> {
         &self,
         number: u64,
         sid: Option<Sid>,
-        graph: Option<&Graph>,
-        outcome: &Outcome,
+        outcome: &Outcome<'_>,
     ) -> Result<Vec<u8>, PlayFault>
-        ensures text { IfOk result (λ v. (m : KnownSessions) (t : Reported) → outcome_of outcome.now ≡ Some t → self.now.names ≡ naming 115 m
-            → v.items ≡ line_text (option_map_or (session_name 115 m) sid []) (graph_or_none (option_copied graph.entry)) number self.now.keys.now.me t) }
+        ensures text { IfOk result (λ v. (m : KnownSessions) → self.now.names ≡ naming 115 m
+            → v.items ≡ line_text (option_map_or (session_name 115 m) sid []) (graph_or_none (graph_in outcome.now)) number self.now.keys.now.me (outcome_of outcome.now)) }
         ensures memory { IfErr result (λ e. e ≡ PlayFault.OutOfMemory) }
     {
         let who = self.keys.me();
         let name = self.name(sid);
-        reported_line(self.alloc, number, who, bytes_of(&name), graph, outcome)
+        reported_line(self.alloc, number, who, bytes_of(&name), outcome)
     }
 
     // The name of a session, if there is one.
@@ -284,8 +275,8 @@ fn next_step(number: u64) -> Result<u64, PlayFault>
 }
 
 // The session that a line names: that of the outcome's event, or the one that was left.
-fn session_of(left: Option<Sid>, outcome: &Outcome) -> Option<Sid>
-    ensures { IfSome (outcome_of outcome.now) (λ t. result ≡ session_reported left t) }
+fn session_of(left: Option<Sid>, outcome: &Outcome<'_>) -> Option<Sid>
+    ensures { result ≡ session_reported left (outcome_of outcome.now) }
 {
     match outcome {
         Outcome::Abandoned => left,

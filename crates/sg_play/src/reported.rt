@@ -1,76 +1,54 @@
 //! The line of a step.
-ghost use Rattle.std.specs.Prelude.{◌≡◌, ◌<◌, nat_lt, true, length, Some, IfOk, IfErr, IfSome, IsSomeAnd};
+ghost use Rattle.std.specs.Prelude.{◌≡◌, nat_lt, true, IfOk, IfErr};
 ghost use Rattle.std.specs.List.{list_all};
-ghost use Rattle.std.specs.Option.{option_copied};
 ghost use Rattle.sg_model.specs.Lists.{keys_of};
 ghost use Rattle.sg_protocol.specs.Named.{HasEvent, HasNumbers};
 ghost use Rattle.sg_report.specs.Lines.{graph_or_none, line_text};
-ghost use Rattle.sg_report.specs.Outcome.{outcome_of};
-ghost use Rattle.sg_report.specs.Reported.{CanBeReported, Reported};
+ghost use Rattle.sg_report.specs.Outcome.{graph_in, outcome_of};
+ghost use Rattle.sg_report.specs.Reported.{CanBeReported};
 ghost use Rattle.sg_walk.specs.Model.{event_of, values_of};
 
 use crate::PlayFault;
 use sg_base::{Label, Name, Role, Value, Var};
 use sg_graph::Graph;
-use sg_node::{ActFault, Refusal};
+use sg_node::{ActRefusal, DeliveryRefusal};
 use sg_report::{Outcome, report_line};
-use sg_role::SendFault;
 use sg_walk::Event;
 use std::alloc::Global;
 
-/// The line of a step, in a session of this name. Roles, labels and variables have their names by the graph. A session's own graph has
-/// them all, except if two different graphs have one digest: then there is no line, as if memory ran out.
+/// The line of a step, in a session of this name. Roles, labels and variables have their names by the graph that the outcome has
+/// beside them. A session's own graph has them all, except if two different graphs have one digest: then there is no line, as if memory
+/// ran out.
 pub(crate) fn reported_line(
     alloc: Global,
     step: u64,
     who: Name,
     session: &[u8],
-    graph: Option<&Graph>,
-    outcome: &Outcome,
+    outcome: &Outcome<'_>,
 ) -> Result<Vec<u8>, PlayFault>
-    ensures text { IfOk result (λ v. (t : Reported) → outcome_of outcome.now ≡ Some t → v.items ≡ line_text session.now (graph_or_none (option_copied graph.entry)) step who t) }
+    ensures text { IfOk result (λ v. v.items ≡ line_text session.now (graph_or_none (graph_in outcome.now)) step who (outcome_of outcome.now)) }
     ensures memory { IfErr result (λ e. e ≡ PlayFault.OutOfMemory) }
 {
-    if !can_be_reported(graph, outcome) {
+    if !can_be_reported(outcome) {
         return Err(PlayFault::OutOfMemory);
     }
-    match report_line(alloc, step, who, session, graph, outcome) {
+    match report_line(alloc, step, who, session, outcome) {
         Ok(line) => Ok(line),
         Err(_) => Err(PlayFault::OutOfMemory),
     }
 }
 
-// The graph has what an outcome names by its number.
-fn can_be_reported(graph: Option<&Graph>, outcome: &Outcome) -> bool
-    ensures { result ≡ true → IfSome (outcome_of outcome.now) (CanBeReported (option_copied graph.entry)) }
+// The graph beside what an outcome names by its number has it.
+fn can_be_reported(outcome: &Outcome<'_>) -> bool
+    ensures { result ≡ true → CanBeReported (graph_in outcome.now) (outcome_of outcome.now) }
 {
     match outcome {
-        Outcome::Started(event) => has_event_if(graph, event),
-        Outcome::Sent { event, .. } => has_event_if(graph, event),
-        Outcome::Received(event) => has_event_if(graph, event),
-        Outcome::NotActed(ActFault::Send(SendFault::BadValues { var })) => has_var_if(graph, *var),
-        Outcome::NotDelivered(Refusal::BadOpening { var }) => has_var_if(graph, *var),
+        Outcome::Started(begun) => has_event(begun.graph, &begun.event),
+        Outcome::Sent { sent, .. } => has_event(sent.graph, &sent.event),
+        Outcome::Received(receipt) => has_event(receipt.graph(), receipt.event()),
+        Outcome::NotActed(ActRefusal::BadValues { var, graph }) => var.0 < graph.vars(),
+        Outcome::NotDelivered(DeliveryRefusal::BadOpening { var, graph }) => var.0 < graph.vars(),
         _ => true,
-    }
-}
-
-// A graph is given that has what an event names.
-fn has_event_if(graph: Option<&Graph>, event: &Event) -> bool
-    ensures { result ≡ true → IsSomeAnd (option_copied graph.entry) (λ g. HasEvent g (event_of event.now)) }
-{
-    match graph {
-        Some(graph) => has_event(graph, event),
-        None => false,
-    }
-}
-
-// A graph is given that has a variable.
-fn has_var_if(graph: Option<&Graph>, var: Var) -> bool
-    ensures { result ≡ true → IsSomeAnd (option_copied graph.entry) (λ g. var < length g.variables) }
-{
-    match graph {
-        Some(graph) => var.0 < graph.vars(),
-        None => false,
     }
 }
 

@@ -1,6 +1,5 @@
 //! A turn of a session: the act by a choice of the script, or the leaving.
 ghost use Rattle.std.specs.Prelude.{◌≡◌, ◌≤◌, ℕ, Err, Some, None, IfOk, IfErr, OnOk, MatchOption, find};
-ghost use Rattle.std.specs.Option.{option_copied};
 ghost use Rattle.sg_base.specs.Outside.{HasRisen};
 ghost use Rattle.sg_protocol.specs.Calls.{Answer};
 ghost use Rattle.sg_report.specs.Outcome.{outcome_of};
@@ -16,7 +15,6 @@ use crate::ask::ask_act;
 use crate::confounders::draw;
 use crate::{PlayFault, Player};
 use sg_base::{Addr, Fresh, Link, Name, NodeId, Sealed, Sid, Sink};
-use sg_graph::Graph;
 use sg_report::Outcome;
 
 impl<'p> Player<'p> {
@@ -96,16 +94,16 @@ impl<'p> Player<'p> {
         ensures joins { OnOk result (KeepsJoins self.old.node self.new.node) }
     {
         match self.try_act(sid, graph, node, fresh)? {
-            Some((outcome, reported_by, frame)) => {
-                self.give(None, reported_by, &outcome, frame, link, out)?;
+            Some((outcome, frame)) => {
+                self.give(None, &outcome, frame, link, out)?;
                 Ok(was_sent(&outcome))
             }
             None => Ok(false),
         }
     }
 
-    // Asks for the act by the first choice for a node of a graph that has uses left, if there is one: the outcome, the graph by which
-    // its numbers have names, and the frame that was made, with the address of its receiver. The act takes one use off the choice,
+    // Asks for the act by the first choice for a node of a graph that has uses left, if there is one: the outcome, and the frame that was
+    // made, with the address of its receiver. The act takes one use off the choice,
     // whether it is refused or not.
     fn try_act<R: Fresh>(
         &mut self,
@@ -113,10 +111,10 @@ impl<'p> Player<'p> {
         graph: &Name,
         node: NodeId,
         fresh: &mut R,
-    ) -> Result<Option<(Outcome, Option<&'p Graph>, Option<(Addr, Sealed)>)>, PlayFault>
+    ) -> Result<Option<(Outcome<'p>, Option<(Addr, Sealed)>)>, PlayFault>
         ensures acted { IfOk result (λ r. (p : Play) → RepresentsPlay self.old p → R.random fresh.old ≡ Some p.random → MatchOption r
             ((find (is_ready graph.now node) p.choices ≡ None) × (self.new ≡ self.old) × (R.random fresh.new ≡ R.random fresh.old))
-            (λ a. HasActed self.new (R.random fresh.new) sid graph.now node p (outcome_of a.0) (option_copied a.1) (frames_made a.2))) }
+            (λ a. HasActed self.new (R.random fresh.new) sid graph.now node p a.0 (frames_made a.1))) }
         ensures joins { OnOk result (KeepsJoins self.old.node self.new.node) }
         ensures memory { IfErr result (λ e. e ≡ PlayFault.OutOfMemory) }
     {
@@ -143,8 +141,8 @@ impl<'p> Player<'p> {
 }
 
 // A step was sent.
-fn was_sent(outcome: &Outcome) -> bool
-    ensures { (k : ℕ) (a : Answer) → outcome_of outcome.now ≡ Some (reported_answer k a) → result ≡ is_sent a }
+fn was_sent(outcome: &Outcome<'_>) -> bool
+    ensures { (k : ℕ) (a : Answer) → outcome_of outcome.now ≡ reported_answer k a → result ≡ is_sent a }
 {
     matches!(outcome, Outcome::Sent { .. })
 }

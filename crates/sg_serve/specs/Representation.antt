@@ -19,7 +19,9 @@ use Rattle.sg_protocol.specs.NodeStates.{RepresentsPast}
 use Rattle.sg_protocol.specs.Past.{Past, node_of, past_after}
 use Rattle.sg_protocol.specs.Ranges.{IsCallInRange}
 use Rattle.sg_protocol.specs.Texts.{real}
-use Rattle.sg_report.specs.Reported.{Reported, reported_answer}
+use Rattle.sg_report.specs.Outcome.{outcome_of}
+use Rattle.sg_report.specs.declared.outcome.Outcome.{Outcome}
+use Rattle.sg_report.specs.Reported.{reported_answer}
 use Rattle.sg_serve.specs.declared.fault.ServeFault.{ServeFault}
 use Rattle.sg_serve.specs.declared.server.Server.{Server}
 use Rattle.sg_serve.specs.Lines.{Run, asks_quit, given, gives, receipt, until_quit, with_line, with_lines}
@@ -43,14 +45,14 @@ pub record HoldsJoins (sv : Server) (may_leave : List ℕ → Type 0) : Type 0 w
   pub images : AllRepresent (images_if (is_some sv.ledger) may_leave) sv.player.node.joins
 
 -- the node has been asked one more call, and this is the outcome; the ledger, if there is one, has the joins from before
-pub record HasAskedNode (sv : Server) (may_leave : List ℕ → Type 0) (reported : Option Reported) : Type 0 where
+pub record HasAskedNode (sv : Server) (may_leave : List ℕ → Type 0) (outcome : Outcome) : Type 0 where
   pub past : Past
   pub call : Call
   pub number : ℕ
   pub range : IsCallInRange call
   pub answered_before : IsAnsweredPast past
   pub represents : RepresentsPast sv.player.node (past_after real past call)
-  pub is_reported : reported ≡ Some (reported_answer number (answer real (node_of past) call))
+  pub is_reported : outcome_of outcome ≡ reported_answer number (answer real (node_of past) call)
   pub ledger : (l : OpenLedger) → sv.ledger ≡ Some l → l ≡ record { joins = (node_of past).joins; failed = false }
   pub images : AllRepresent (images_if (is_some sv.ledger) may_leave) (node_of past).joins
 
@@ -59,8 +61,8 @@ abbrev pub LedgerHas : Server → List Join → Type 0
 LedgerHas sv joins = (l : OpenLedger) → sv.ledger ≡ Some l → l.joins ≡ joins
 
 -- the player has asked its node this call, and this is the outcome, which is not reported yet
-pub record HasCalled (sv : Server) (s : Serving) (c : Call) (reported : Option Reported) (graph : Option Graph) (frame : Option (Addr × (Name × List ℕ))) : Type 0 where
-  pub asked : HasAsked sv.player s.play c reported graph (frames_made frame)
+pub record HasCalled (sv : Server) (s : Serving) (c : Call) (outcome : Outcome) (frame : Option (Addr × (Name × List ℕ))) : Type 0 where
+  pub asked : HasAsked sv.player s.play c outcome (frames_made frame)
   pub answered_before : IsAnsweredPast s.play.past
   pub is_frame : frame ≡ addressed s.play.past.keys (sealed_in (answer_in s.play c))
   pub programs : s.play.past.programs ≡ sv.programs.now

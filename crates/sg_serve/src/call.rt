@@ -49,7 +49,7 @@ impl<'p> Server<'p> {
         }
         let nonce = fresh.next();
         match self.player.ask_start(start_of, nonce) {
-            Ok((outcome, graph)) => self.join(&outcome, graph, disk),
+            Ok(outcome) => self.join(&outcome, disk),
             Err(_) => Err(ServeFault::OutOfMemory),
         }
     }
@@ -75,7 +75,7 @@ impl<'p> Server<'p> {
             return say_quiet(self.alloc);
         };
         match self.player.ask_deliver(bytes.as_slice()) {
-            Ok((outcome, graph)) => self.join(&outcome, graph, disk),
+            Ok(outcome) => self.join(&outcome, disk),
             Err(_) => Err(ServeFault::OutOfMemory),
         }
     }
@@ -90,8 +90,8 @@ impl<'p> Server<'p> {
         let Some(sid) = self.sid(number) else {
             return say_unknown(self.alloc, number);
         };
-        let (outcome, graph) = self.player.ask_abandon(sid);
-        self.report(&Some(sid), &outcome, graph, None)
+        let outcome = self.player.ask_abandon(sid);
+        self.report(&Some(sid), &outcome, None)
     }
 
     // Acts in the session of a number, by the graph of the session.
@@ -148,7 +148,7 @@ impl<'p> Server<'p> {
             return Err(ServeFault::OutOfMemory);
         };
         match self.player.ask_act(sid, label, values, drawn.as_slice()) {
-            Ok((outcome, graph, frame)) => self.report(&None, &outcome, graph, frame),
+            Ok((outcome, frame)) => self.report(&None, &outcome, frame),
             Err(_) => Err(ServeFault::OutOfMemory),
         }
     }

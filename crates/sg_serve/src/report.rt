@@ -1,5 +1,5 @@
 //! What is done with the outcome of a call: its join is kept, its line written, and its frame remembered.
-ghost use Rattle.std.specs.Prelude.{◌≡◌, ◌≤◌, ◌⊎◌, ℕ, List, None, Some, IfErr, IfOk, IfSome, OnErr, IsNone, OnOk, is_some, option_map};
+ghost use Rattle.std.specs.Prelude.{◌≡◌, ◌≤◌, ◌⊎◌, ℕ, List, None, Some, IfErr, IfOk, OnErr, IsNone, OnOk, is_some, option_map};
 ghost use Rattle.std.specs.Option.{option_copied, option_map_or};
 ghost use Rattle.sg_again.specs.LastFrames.{sent};
 ghost use Rattle.sg_base.specs.Outside.{HasRisen};
@@ -31,11 +31,10 @@ impl<'p> Server<'p> {
     // Keeps the join of the outcome of a call that makes no frame and leaves no session, if it is one, and then reports the outcome.
     pub(crate) fn join<D: Disk>(
         &mut self,
-        outcome: &Outcome,
-        graph: Option<&'p Graph>,
+        outcome: &Outcome<'p>,
         disk: &mut D,
     ) -> Result<Reply, ServeFault>
-        requires asked { HasAskedNode self.old (D.may_leave disk.old) (outcome_of outcome.now) }
+        requires asked { HasAskedNode self.old (D.may_leave disk.old) outcome.now }
         ensures disk_bound { D.bound disk.new ≡ D.bound disk.old }
         ensures falls { D.faults disk.old ≤ D.faults disk.new }
         ensures untouched { IsNone self.old.ledger → disk.new ≡ disk.old }
@@ -43,19 +42,19 @@ impl<'p> Server<'p> {
         ensures causes { IfErr result (λ e. (e ≡ ServeFault.DiskFailed) ⊎ (e ≡ ServeFault.OutOfMemory)) }
         ensures same { OnOk result (is_some self.new.ledger ≡ is_some self.old.ledger) }
         ensures holds { OnOk result (HoldsJoins self.new (D.may_leave disk.new)) }
-        ensures replied { (s : Serving) (c : Call) → HasCalled self.old s c (outcome_of outcome.now) (option_copied graph.entry) None → LedgerHas self.old (node_of s.play.past).joins → None ≡ sid_left c
+        ensures replied { (s : Serving) (c : Call) → HasCalled self.old s c outcome.now None → LedgerHas self.old (node_of s.play.past).joins → None ≡ sid_left c
             → Replied (images_if (is_some self.old.ledger) (D.may_leave disk.new)) s self.new (calls s c) result }
     {
         match self.keep_join(outcome, disk) {
-            Ok(()) => self.report(&None, outcome, graph, None),
+            Ok(()) => self.report(&None, outcome, None),
             Err(fault) => Err(fault),
         }
     }
 
     // Adds the join of the outcome of a call to the ledger, if there is one, and if it is one. The ledger has all joins of the node from before
     // the call, so it doesn't have this one, and it isn't full.
-    fn keep_join<D: Disk>(&mut self, outcome: &Outcome, disk: &mut D) -> Result<(), ServeFault>
-        requires asked { HasAskedNode self.old (D.may_leave disk.old) (outcome_of outcome.now) }
+    fn keep_join<D: Disk>(&mut self, outcome: &Outcome<'p>, disk: &mut D) -> Result<(), ServeFault>
+        requires asked { HasAskedNode self.old (D.may_leave disk.old) outcome.now }
         ensures disk_bound { D.bound disk.new ≡ D.bound disk.old }
         ensures falls { D.faults disk.old ≤ D.faults disk.new }
         ensures untouched { IsNone self.old.ledger → disk.new ≡ disk.old }
@@ -77,23 +76,22 @@ impl<'p> Server<'p> {
         }
     }
 
-    // Reports the outcome of a call, by the graph of the call, and remembers the frame that it made, if it made one.
+    // Reports the outcome of a call, and remembers the frame that it made, if it made one.
     pub(crate) fn report(
         &mut self,
         left: &Option<Sid>,
-        outcome: &Outcome,
-        graph: Option<&'p Graph>,
+        outcome: &Outcome<'p>,
         frame: Option<(Addr, Sealed)>,
     ) -> Result<Reply, ServeFault>
         ensures node { OnOk result (self.new.player.node ≡ self.old.player.node) }
         ensures ledger { OnOk result (self.new.ledger ≡ self.old.ledger) }
-        ensures replied { IfOk result (λ step. (s : Serving) (c : Call) → HasCalled self.old s c (outcome_of outcome.now) (option_copied graph.entry) frame → left.now ≡ sid_left c → HasReplied self.new step (calls s c)) }
+        ensures replied { IfOk result (λ step. (s : Serving) (c : Call) → HasCalled self.old s c outcome.now frame → left.now ≡ sid_left c → HasReplied self.new step (calls s c)) }
         ensures memory { IfErr result (λ e. e ≡ ServeFault.OutOfMemory) }
     {
         let frame = opened(number_of(outcome), frame);
         let copy = copied_if(self.alloc, &frame)?;
-        let line = self.report_line(left, outcome, graph)?;
-        self.add_graph(graph)?;
+        let line = self.report_line(left, outcome)?;
+        self.add_graph(outcome.graph())?;
         let session = session_of(left, outcome);
         self.remember(session, frame)?;
         Ok(Reply::new(line, copy))
@@ -103,22 +101,21 @@ impl<'p> Server<'p> {
     fn report_line(
         &mut self,
         left: &Option<Sid>,
-        outcome: &Outcome,
-        graph: Option<&Graph>,
+        outcome: &Outcome<'p>,
     ) -> Result<Vec<u8>, ServeFault>
         ensures rest { OnOk result (self.new ≡ record self.old { player = self.new.player }) }
         ensures node { OnOk result (self.new.player.node ≡ self.old.player.node) }
-        ensures reported { IfOk result (λ line. (p : Play) (c : Call) (made : List (Addr × List ℕ)) → HasAsked self.old.player p c (outcome_of outcome.now) (option_copied graph.entry) made → left.now ≡ sid_left c
+        ensures reported { IfOk result (λ line. (p : Play) (c : Call) (made : List (Addr × List ℕ)) → HasAsked self.old.player p c outcome.now made → left.now ≡ sid_left c
             → (line.items ≡ (step_in p c).line) × RepresentsPlay self.new.player (called p c)) }
         ensures memory { IfErr result (λ e. e ≡ ServeFault.OutOfMemory) }
     {
-        match self.player.report(*left, graph, outcome) {
+        match self.player.report(*left, outcome) {
             Ok(line) => Ok(line),
             Err(_) => Err(ServeFault::OutOfMemory),
         }
     }
 
-    // Adds the graph of a call, if a session has begun by it.
+    // Adds the graph of an event, if a session has begun by it.
     fn add_graph(&mut self, graph: Option<&'p Graph>) -> Result<(), ServeFault>
         ensures rest { OnOk result (self.new ≡ record self.old { graphs = self.new.graphs }) }
         ensures graphs { OnOk result ((p : Play) → RepresentsPlay self.old.player p → self.new.graphs ≡ graphs_with p (option_copied graph.entry) self.old.graphs) }
@@ -168,8 +165,8 @@ impl<'p> Server<'p> {
 }
 
 // The session that a line names: that of the outcome's event, or the one that was left.
-fn session_of(left: &Option<Sid>, outcome: &Outcome) -> Option<Sid>
-    ensures { IfSome (outcome_of outcome.now) (λ t. result ≡ session_reported left.now t) }
+fn session_of(left: &Option<Sid>, outcome: &Outcome<'_>) -> Option<Sid>
+    ensures { result ≡ session_reported left.now (outcome_of outcome.now) }
 {
     match outcome {
         Outcome::Abandoned => *left,
@@ -178,8 +175,8 @@ fn session_of(left: &Option<Sid>, outcome: &Outcome) -> Option<Sid>
 }
 
 // The number of the frame that an outcome has, or 0 if it has none.
-fn number_of(outcome: &Outcome) -> u32
-    ensures { (e : Event) (to : Name) (number : ℕ) → outcome_of outcome.now ≡ Some (Sends e to number) → result ≡ number }
+fn number_of(outcome: &Outcome<'_>) -> u32
+    ensures { (e : Event) (to : Name) (number : ℕ) → outcome_of outcome.now ≡ Sends e to number → result ≡ number }
 {
     match outcome {
         Outcome::Sent { frame, .. } => *frame,
