@@ -4,7 +4,7 @@ ghost use Rattle.sg_graph.specs.Edges.{leaving_from};
 ghost use Rattle.sg_drive.specs.Draws.{draw};
 ghost use Rattle.sg_drive.specs.Faults.{IsStopped};
 ghost use Rattle.sg_report.specs.Outcome.{outcome_of};
-ghost use Rattle.sg_report.specs.Reported.{Reported, Happened};
+ghost use Rattle.sg_report.specs.Reported.{Happened};
 ghost use Rattle.sg_walk.specs.Model.{event_of};
 ghost use Rattle.sg_drive.specs.Generated.{accepted_time, deliver, gone_on, goes_on_by, meet, put_back, turn};
 ghost use Rattle.sg_drive.specs.Going.{drawing, without};
@@ -148,12 +148,12 @@ impl<'g, 'p> Generator<'g, 'p> {
 }
 
 // The time of the frame that was accepted, if this came of the last step.
-fn accepted_time(outcome: Option<&Outcome>) -> Option<Time>
-    ensures { (reported : Option Reported) → option_map (λ o. outcome_of o.now) outcome.entry ≡ option_map Some reported → result ≡ accepted_time reported }
+fn accepted_time(outcome: Option<&Outcome<'_>>) -> Option<Time>
+    ensures { result ≡ accepted_time (option_map (λ o. outcome_of o.now) outcome.entry) }
 {
     match outcome {
-        Some(Outcome::Started(event)) => received_time(event),
-        Some(Outcome::Received(event)) => received_time(event),
+        Some(Outcome::Started(begun)) => received_time(&begun.event),
+        Some(Outcome::Received(receipt)) => received_time(receipt.event()),
         _ => None,
     }
 }

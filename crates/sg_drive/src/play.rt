@@ -10,7 +10,6 @@ ghost use Rattle.sg_model.specs.Lists.{has_text};
 ghost use Rattle.sg_protocol.specs.Frame.{IsValue};
 ghost use Rattle.sg_protocol.specs.Graph.{writes};
 ghost use Rattle.sg_report.specs.Outcome.{outcome_of};
-ghost use Rattle.sg_report.specs.Reported.{Reported};
 ghost use Rattle.sg_walk.specs.Model.{values_of};
 ghost use Rattle.sg_drive.specs.Faults.{IsStopped};
 ghost use Rattle.sg_drive.specs.Draws.{if_in};
@@ -135,8 +134,8 @@ impl<'g, 'p> Generator<'g, 'p> {
 }
 
 // The number of the frame that was sent, if this came of the last step.
-fn number_sent(outcome: Option<&Outcome>) -> Option<u32>
-    ensures { (reported : Option Reported) → option_map (λ o. outcome_of o.now) outcome.entry ≡ option_map Some reported → result ≡ number_sent reported }
+fn number_sent(outcome: Option<&Outcome<'_>>) -> Option<u32>
+    ensures { result ≡ number_sent (option_map (λ o. outcome_of o.now) outcome.entry) }
 {
     match outcome {
         Some(Outcome::Sent { frame, .. }) => Some(*frame),

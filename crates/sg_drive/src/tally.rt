@@ -4,7 +4,6 @@ ghost use Rattle.sg_graph.specs.Edges.{leaving_from};
 ghost use Rattle.sg_model.specs.Shape.{target};
 ghost use Rattle.sg_protocol.specs.Graph.{Graph, shape};
 ghost use Rattle.sg_report.specs.Outcome.{outcome_of};
-ghost use Rattle.sg_report.specs.Reported.{Reported};
 ghost use Rattle.sg_walk.specs.Model.{event_of};
 ghost use Rattle.sg_drive.specs.Counted.{CanRise, with_event, with_sent, with_reported};
 ghost use Rattle.sg_drive.specs.Summary.{completed_by, counts, counts_of};
@@ -62,19 +61,19 @@ impl Tally {
         Ok(tally)
     }
 
-    // Counts the outcome of a step, of which something is reported.
-    fn add(&mut self, graph: &Graph, outcome: &Outcome) -> Result<(), OutOfMemory>
+    // Counts the outcome of a step.
+    fn add(&mut self, graph: &Graph, outcome: &Outcome<'_>) -> Result<(), OutOfMemory>
         requires few { CanRise self.old }
-        ensures { (reported : Reported) → outcome_of outcome.now ≡ Some reported → OnOk result (self.new ≡ with_reported graph.now reported self.old) }
+        ensures { OnOk result (self.new ≡ with_reported graph.now (outcome_of outcome.now) self.old) }
     {
         match outcome {
-            Outcome::Sent { event, .. } => self.add_sent(graph, event),
-            Outcome::Started(event) => {
-                self.add_event(event);
+            Outcome::Sent { sent, .. } => self.add_sent(graph, &sent.event),
+            Outcome::Started(begun) => {
+                self.add_event(&begun.event);
                 Ok(())
             }
-            Outcome::Received(event) => {
-                self.add_event(event);
+            Outcome::Received(receipt) => {
+                self.add_event(receipt.event());
                 Ok(())
             }
             Outcome::NotDelivered(_) => {
@@ -85,11 +84,7 @@ impl Tally {
                 self.add_abandoned();
                 Ok(())
             }
-            Outcome::Crafted { .. } => Ok(()),
-            Outcome::NotStarted(_) => Ok(()),
-            Outcome::NotActed(_) => Ok(()),
-            Outcome::NotAbandoned => Ok(()),
-            Outcome::NoFrame => Ok(()),
+            _ => Ok(()),
         }
     }
 
