@@ -54,7 +54,7 @@ module _ (d : Setting) (honest : List Name) (size : ℕ) where
     run = record {
       represent = subst (λ (ms : List Name). RepresentPasts (map (new_named d.keys d.programs) honest) (map (past_of_new d.keys d.programs) ms)) (sym (names_new d.keys d.programs honest)) (represent_new d.keys d.programs honest);
       reported = refl;
-      graphs = refl;
+      learnt = tt;
       notes = refl;
       frames = refl;
       size = is ∙ (let e : sum_by (λ g. length (graph_text_of g)) d.graphs ≡ sum_by (λ g. length (graph_text_of g)) d.graphs + 0 = omega arith in e);

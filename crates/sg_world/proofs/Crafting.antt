@@ -1,5 +1,5 @@
 -- One more craft of a replay, by its parts.
-use Rattle.std.proofs.Common.{◌≡◌, ◌+◌, ◌<◌, ◌≤◌, ◌^◌, true, ◌&&◌, List, [], ◌∷◌, length, refl, sym, ◌∙◌, ap, subst, arith, length-append}
+use Rattle.std.proofs.Common.{◌≡◌, ℕ, ◌+◌, ◌<◌, ◌≤◌, ◌^◌, true, ◌&&◌, List, [], ◌∷◌, length, refl, sym, ◌∙◌, ap, subst, arith, length-append}
 use Rattle.std.specs.List.{list_all}
 use Rattle.std.proofs.lemmas.List.{map-append}
 use Rattle.std.proofs.lemmas.List.Folds.{list_all-append}
@@ -22,7 +22,7 @@ use Rattle.sg_world.proofs.Goes.{craft_held}
 use Rattle.sg_protocol.proofs.OtherSteps.{schedule_more}
 use Rattle.sg_world.proofs.Pasts.{Named}
 
-module _ (d : Setting) (nodes : List Named) (r : Recorded) (x : Craft) (c : StepResult)
+module _ (d : Setting) (nodes : List Named) (r : Recorded) (x : Craft) (honest : List ℕ) (c : StepResult)
     (h : Holds d nodes r) (room : length r.entries < most_steps) (step : IsStep real (schedule_of d nodes r) (CraftStep x))
     (performed : IsResultOfCraft (length r.frames + 1) (schedule_of d nodes r) (run real d.programs (schedule_of d nodes r)) x c) where
   abbrev S : Schedule
@@ -31,24 +31,24 @@ module _ (d : Setting) (nodes : List Named) (r : Recorded) (x : Craft) (c : Step
   abbrev W : World
   W = run real d.programs (schedule_of d nodes r)
 
-  held : HoldsRun d.programs (with_step (schedule_of d nodes r) (CraftStep x)) (world_after real (schedule_of d nodes r) (run real d.programs (schedule_of d nodes r)) (length (schedule_of d nodes r).steps + 1) (CraftStep x)) nodes (with_result r (CraftStep x) c)
-  held = craft_held d.programs S W nodes r (length S.steps + 1) x c (is_before d.programs S (length S.steps + 1) (CraftStep x) refl) h.run performed.reported performed.graph performed.frame performed.notes
+  held : HoldsRun d.programs (with_step (schedule_of d nodes r) (CraftStep x)) (world_after real (schedule_of d nodes r) (run real d.programs (schedule_of d nodes r)) (length (schedule_of d nodes r).steps + 1) (CraftStep x)) nodes (with_result r (CraftStep x) honest c)
+  held = craft_held d.programs S W nodes r (length S.steps + 1) x honest c (is_before d.programs S (length S.steps + 1) (CraftStep x) refl) h.run performed.outcome performed.frame performed.notes
 
-  same : schedule_of d nodes (with_result r (CraftStep x) c) ≡ with_step (schedule_of d nodes r) (CraftStep x)
-  same = ap (λ (z : List Step). record (schedule_of d nodes r) { steps = z }) (map-append (λ (e : TakenStep). e.step) r.entries (record { step = CraftStep x; reported = c.reported; graph = c.graph } ∷ []))
+  same : schedule_of d nodes (with_result r (CraftStep x) honest c) ≡ with_step (schedule_of d nodes r) (CraftStep x)
+  same = ap (λ (z : List Step). record (schedule_of d nodes r) { steps = z }) (map-append (λ (e : TakenStep). e.step) r.entries (record { step = CraftStep x; outcome = c.outcome; honest = honest } ∷ []))
 
   all_taken : list_all (is_taken (with_step (schedule_of d nodes r) (CraftStep x))) (with_step (schedule_of d nodes r) (CraftStep x)).steps ≡ true
   all_taken = list_all-append (is_taken S) S.steps (CraftStep x ∷ []) ∙ ap (λ b. b && true) h.taken
 
-  pub next_craft : Holds d nodes (with_result r (CraftStep x) c) × (schedule_of d nodes (with_result r (CraftStep x) c) ≡ with_step (schedule_of d nodes r) (CraftStep x))
+  pub next_craft : Holds d nodes (with_result r (CraftStep x) honest c) × (schedule_of d nodes (with_result r (CraftStep x) honest c) ≡ with_step (schedule_of d nodes r) (CraftStep x))
   next_craft = (
     record {
       schedule = subst (IsSchedule real) (sym same) (schedule_more real S (CraftStep x) h.schedule step);
       compiled = h.compiled;
       taken = subst (λ (z : Schedule). list_all (is_taken z) z.steps ≡ true) (sym same) all_taken;
-      few = (let e = length-append r.entries (record { step = CraftStep x; reported = c.reported; graph = c.graph } ∷ []) in omega (arith, e, room));
-      run = subst (λ (z : Schedule). HoldsRun d.programs z (run real d.programs z) nodes (with_result r (CraftStep x) c)) (sym same)
-          (subst (λ (w : World). HoldsRun d.programs (with_step S (CraftStep x)) w nodes (with_result r (CraftStep x) c)) (sym (runs_go_by_step real d.programs S (CraftStep x))) held);
+      few = (let e = length-append r.entries (record { step = CraftStep x; outcome = c.outcome; honest = honest } ∷ []) in omega (arith, e, room));
+      run = subst (λ (z : Schedule). HoldsRun d.programs z (run real d.programs z) nodes (with_result r (CraftStep x) honest c)) (sym same)
+          (subst (λ (w : World). HoldsRun d.programs (with_step S (CraftStep x)) w nodes (with_result r (CraftStep x) honest c)) (sym (runs_go_by_step real d.programs S (CraftStep x))) held);
     },
     same,
   )

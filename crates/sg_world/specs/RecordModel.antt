@@ -21,7 +21,7 @@ use Rattle.sg_world.specs.Representation.{RepresentPasts}
 use Rattle.sg_report.specs.Outcome.{graph_in, outcome_of}
 use Rattle.sg_report.specs.Reported.{reported_log}
 use Rattle.sg_report.specs.declared.outcome.Outcome.{Outcome}
-use Rattle.sg_report.specs.declared.outcome.Outcome.TheVariants.{Received, NoFrame}
+use Rattle.sg_report.specs.declared.outcome.Outcome.TheVariants.{Started, Sent, Received, NoFrame}
 
 -- the outcome of a step, the cast of a frame that joined, the frame that the step records, and what was noted
 pub record StepResult : Type 0 where
@@ -72,9 +72,11 @@ with_result r x honest c = record {
   size = r.size + added_size c;
 }
 
--- if the outcome is a receipt, this holds of it
+-- if the outcome is an event, it is a receipt, of which this holds
 abbrev pub IfReceived : Outcome → (Receipt → Type 0) → Type 0
 IfReceived (Received r) Holds = Holds r
+IfReceived (Started h) Holds = ⊥
+IfReceived (Sent h to frame) Holds = ⊥
 IfReceived other Holds = ⊤
 
 -- what an entry has learnt beside what is reported: the graph by which its numbers have names, the view that a frame showed in its session, and the honest roles of the cast that the call started or joined
