@@ -25,3 +25,4 @@ mod Gathered
 mod StepLaws
 pub mod EntryCalls
 pub mod Passing
+mod ShownSteps

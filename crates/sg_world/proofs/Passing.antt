@@ -1,23 +1,26 @@
 -- The entries of a record, gone through in order.
-use Rattle.std.proofs.Common.{◌≡◌, ℕ, zero, suc, ◌+◌, ◌-◌, ◌<◌, List, [], ◌∷◌, ◌++◌, map, length, take, drop, get_or, refl, sym, ◌∙◌, ap, arith, append_assoc, append-nil}
-use Rattle.std.specs.Prelude.{Option, Some, option_and_then, slice_get}
+use Rattle.std.proofs.Common.{◌≡◌, ℕ, zero, suc, ◌+◌, ◌-◌, ◌<◌, true, List, [], ◌∷◌, ◌++◌, map, length, take, drop, get_or, refl, sym, ◌∙◌, ap, subst, arith, append_assoc, append-nil}
+use Rattle.std.specs.Prelude.{Option, Some, None, slice_get}
+use Rattle.std.specs.List.{AllZip, list_all}
 use Rattle.std.specs.Option.{option_to_list}
-use Rattle.sg_model.proofs.Small.{length_map}
 use Rattle.sg_protocol.specs.Calls as Protocol
-use Rattle.sg_protocol.specs.Calls.{Event, events_of_answer}
-use Rattle.sg_protocol.specs.Keyring.{Program}
+use Rattle.sg_protocol.specs.Calls.{events_of_answer}
 use Rattle.sg_protocol.specs.Run.{run, events_of_outcome}
-use Rattle.sg_protocol.specs.Schedule.{Schedule, Step}
-use Rattle.sg_protocol.specs.Steps.{frame_number}
+use Rattle.sg_protocol.specs.Schedule.{Step}
+use Rattle.sg_protocol.specs.Steps.{frame_number, is_taken}
 use Rattle.sg_protocol.specs.Texts.{real}
 use Rattle.sg_protocol.specs.World as Core
-use Rattle.sg_protocol.specs.World.{Logged, frames}
+use Rattle.sg_protocol.specs.World.{Logged}
+use Rattle.sg_certify.specs.Runs.{IsUnbroken}
+use Rattle.sg_report.specs.Outcome.{outcome_of}
 use Rattle.sg_report.specs.Reported.{Reported, reported_after, reported_log, reported_outcome, event_reported}
-use Rattle.sg_world.specs.EntriesOfRun.{AreOfRun, IsOfStep}
-use Rattle.sg_world.specs.RecordModel.{TakenStep}
+use Rattle.sg_world.specs.Invariant.{HoldsWorld}
+use Rattle.sg_world.specs.Model.{replay_of}
+use Rattle.sg_world.specs.RecordModel.{IsLearnt, TakenStep}
+use Rattle.sg_world.specs.Replay.{Replay, run_of}
+use Rattle.sg_world.specs.Walked.{PremisesHold}
+use Rattle.sg_world.specs.declared.world.World.TheInside.{Inside}
 use Rattle.sg_world.proofs.EntryCalls.{entry_call}
-
--- ---- events
 
 -- the event of an outcome is that which is reported
 pub reported_event : (n : ℕ) (o : Core.Outcome) → events_of_outcome o ≡ option_to_list (event_reported (reported_outcome n o))
@@ -34,23 +37,11 @@ reported_event n (Core.Outcome.Answered a) = of_answer a
 reported_event n Core.Outcome.Crafted = refl
 reported_event n Core.Outcome.NoFrame = refl
 
--- the events of an entry, by its reported outcome
-pub events_reported : (l : Logged) (n : ℕ) (reported : Option Reported) (e : Option Event) → reported ≡ Some (reported_outcome n l.outcome) → e ≡ option_and_then event_reported reported → events_of_outcome l.outcome ≡ option_to_list e
-events_reported l n reported e is of = reported_event n l.outcome ∙ ap option_to_list (sym (of ∙ ap (option_and_then event_reported) is))
-
--- ---- frames
-
--- ---- entries
-
 -- what is reported of a log, at an index
 reported_at : (before xs : List Logged) (i : ℕ) (l : Logged) → slice_get xs i ≡ Some l → slice_get (reported_after before xs) i ≡ Some (reported_outcome (frame_number (before ++ take i xs)) l.outcome)
 reported_at before [] i l e = absurd (cc)
 reported_at before (x ∷ xs) zero l e = (let same : x ≡ l = cc in ap (λ (z : Logged). Some (reported_outcome (frame_number before) z.outcome)) same ∙ ap (λ (ls : List Logged). Some (reported_outcome (frame_number ls) l.outcome)) (sym (append-nil before)))
 reported_at before (x ∷ xs) (suc i) l e = reported_at (before ++ x ∷ []) xs i l e ∙ ap (λ (ls : List Logged). Some (reported_outcome (frame_number ls) l.outcome)) (append_assoc before (x ∷ []) (take i xs))
-
-reported_length : (before xs : List Logged) → length (reported_after before xs) ≡ length xs
-reported_length before [] = refl
-reported_length before (x ∷ xs) = ap suc (reported_length (before ++ x ∷ []) xs)
 
 map_at : {A B : Type 0} (f : A → B) (xs : List A) (i : ℕ) (x : A) → slice_get xs i ≡ Some x → slice_get (map f xs) i ≡ Some (f x)
 map_at f [] i x e = absurd (cc)
@@ -81,53 +72,81 @@ take_whole [] i e = ap (λ n. take n []) e
 take_whole (x ∷ xs) zero e = absurd (omega (arith, e))
 take_whole (x ∷ xs) (suc i) e = ap (λ ls. x ∷ ls) (take_whole xs i (omega (arith, e)))
 
+-- two lists in step
+zip_length : (R : TakenStep → Logged → Type 0) (es : List TakenStep) (ls : List Logged) → AllZip R es ls → length es ≡ length ls
+zip_length R [] [] h = refl
+zip_length R [] (l ∷ ls) h = absurd h
+zip_length R (e ∷ es) [] h = absurd h
+zip_length R (e ∷ es) (l ∷ ls) h = ap suc (zip_length R es ls h.1)
+
+zip_at : (R : TakenStep → Logged → Type 0) (es : List TakenStep) (ls : List Logged) (i : ℕ) (e : TakenStep) (l : Logged) → AllZip R es ls → slice_get es i ≡ Some e → slice_get ls i ≡ Some l → R e l
+zip_at R [] [] i e l h at at' = absurd (cc)
+zip_at R [] (m ∷ ls) i e l h at at' = absurd h
+zip_at R (d ∷ es) [] i e l h at at' = absurd h
+zip_at R (d ∷ es) (m ∷ ls) zero e l h at at' = (let one : d ≡ e = cc in let two : m ≡ l = cc in subst (λ z. R z l) one (subst (R d) two h.0))
+zip_at R (d ∷ es) (m ∷ ls) (suc i) e l h at at' = zip_at R es ls i e l h.1 at at'
+
+-- the entries are those of the replay's run, in which both assumptions hold
+pub record AreOfRun (z : Replay) (entries : List TakenStep) : Type 0 where
+  pub unbroken : IsUnbroken z.programs z.schedule
+  pub reported : map (λ (e : TakenStep). outcome_of e.outcome) entries ≡ reported_log (run_of z).log
+  pub learnt : AllZip (IsLearnt z.programs z.schedule) entries (run_of z).log
+  pub taken : list_all (is_taken z.schedule) z.schedule.steps ≡ true
+  pub steps : z.schedule.steps ≡ map (λ (e : TakenStep). e.step) entries
+
+pub of_run : (w : Inside) → HoldsWorld w → (z : Replay) → replay_of w ≡ z → (entries : List TakenStep) → entries ≡ w.history.done.entries → PremisesHold z → AreOfRun z entries
+of_run w h z view entries are premises =
+    subst (AreOfRun z) (sym are)
+    (subst (λ (y : Replay). AreOfRun y w.history.done.entries) view record {
+      unbroken = record { compiled = h.compiled; schedule = h.schedule; premises = subst PremisesHold (sym view) premises };
+      reported = h.run.reported;
+      learnt = h.run.learnt;
+      taken = h.taken;
+      steps = refl;
+    })
+
 -- the entry at an index is of the log's step there
-pub record IsAt (programs : List Program) (s : Schedule) (recorded : List (List ℕ)) (i : ℕ) (e : TakenStep) : Type 0 where
+pub record IsAt (z : Replay) (i : ℕ) (e : TakenStep) : Type 0 where
   pub entry : Logged
   pub after : List Logged
-  pub parts : (run real programs s).log ≡ take i (run real programs s).log ++ entry ∷ after
-  pub next : take (i + 1) (run real programs s).log ≡ take i (run real programs s).log ++ entry ∷ []
-  pub of_step : IsOfStep s (take i (run real programs s).log) entry recorded e
+  pub parts : (run_of z).log ≡ take i (run_of z).log ++ entry ∷ after
+  pub next : take (i + 1) (run_of z).log ≡ take i (run_of z).log ++ entry ∷ []
+  pub number : ℕ
+  pub reported : outcome_of e.outcome ≡ reported_outcome number entry.outcome
+  pub learnt : IsLearnt z.programs z.schedule e entry
+  pub silent : entry.call ≡ None → events_of_outcome entry.outcome ≡ []
 
-module _ (programs : List Program) (s : Schedule) (entries : List TakenStep) (recorded : List (List ℕ)) (h : AreOfRun programs s entries recorded) where
+module _ (z : Replay) (entries : List TakenStep) (h : AreOfRun z entries) where
   abbrev log : List Logged
-  log = (run real programs s).log
+  log = (run_of z).log
 
-  pub as_many : length entries ≡ length log
-  as_many = sym (length_map (λ (e : TakenStep). e.reported) entries) ∙ ap length h.reported ∙ length_map {B = Option Reported} Some (reported_log log) ∙ reported_length [] log
+  pub as_many : length entries ≡ length (run_of z).log
+  as_many = zip_length (IsLearnt z.programs z.schedule) entries (run_of z).log h.learnt
 
-  pub all_taken : (i : ℕ) → i ≡ length entries → take i log ≡ log
+  pub all_taken : (i : ℕ) → i ≡ length entries → take i (run_of z).log ≡ (run_of z).log
   all_taken i e = take_whole log i (e ∙ as_many)
 
-  pub entry_at : (i : ℕ) (e : TakenStep) → slice_get entries i ≡ Some e → i < length entries → IsAt programs s recorded i e
+  pub entry_at : (i : ℕ) (e : TakenStep) → slice_get entries i ≡ Some e → i < length entries → IsAt z i e
   entry_at i e at less =
       let within : i < length log = (let many = as_many in omega (arith, less, many)) in
       let p = parted log i within in
       let l : Logged = p.0 in
-      let step : slice_get s.steps (length (take i log)) ≡ Some e.step = ap (slice_get s.steps) (take_length log i within) ∙ ap (λ (xs : List Step). slice_get xs i) h.steps ∙ map_at (λ (x : TakenStep). x.step) entries i e at in
-      let b = entry_call programs s (take i log) l (drop (suc i) log) e.step h.taken p.2 step in
-      let both : Some e.reported ≡ Some (Some (reported_outcome (frame_number (take i log)) l.outcome)) =
-      sym (map_at (λ (x : TakenStep). x.reported) entries i e at) ∙ ap (λ (ts : List (Option Reported)). slice_get ts i) h.reported ∙ map_at {B = Option Reported} Some (reported_log log) i (reported_outcome (frame_number (take i log)) l.outcome) (reported_at [] log i l p.1) in
-      let reported : e.reported ≡ Some (reported_outcome (frame_number (take i log)) l.outcome) = cc in
+      let step : slice_get z.schedule.steps (length (take i log)) ≡ Some e.step = ap (slice_get z.schedule.steps) (take_length log i within) ∙ ap (λ (xs : List Step). slice_get xs i) h.steps ∙ map_at (λ (x : TakenStep). x.step) entries i e at in
+      let b = entry_call z.programs z.schedule (take i log) l (drop (suc i) log) e.step h.taken p.2 step in
+      let both : Some (outcome_of e.outcome) ≡ Some (reported_outcome (frame_number (take i log)) l.outcome) =
+      sym (map_at (λ (x : TakenStep). outcome_of x.outcome) entries i e at) ∙ ap (λ (ts : List Reported). slice_get ts i) h.reported ∙ reported_at [] log i l p.1 in
       record {
         entry = l;
         after = drop (suc i) log;
         parts = p.2;
         next = take_one log i l p.1;
-        of_step = record {
-          world = b.world;
-          call = b.call;
-          silent = b.silent;
-          number = frame_number (take i log);
-          reported = reported;
-          last = run real programs s;
-          whole = sym h.frames;
-          later = b.later;
-          first = h.frames ∙ b.frames;
-        };
+        number = frame_number (take i log);
+        reported = cc;
+        learnt = zip_at (IsLearnt z.programs z.schedule) entries log i e l h.learnt at p.1;
+        silent = b.silent;
       }
 
-  pub entry_there : (i : ℕ) (e : TakenStep) → i < length entries → e ≡ get_or entries i e → IsAt programs s recorded i e
+  pub entry_there : (i : ℕ) (e : TakenStep) → i < length entries → e ≡ get_or entries i e → IsAt z i e
   entry_there i e less is = entry_at i e (got entries i e less is) less
     where
       got : (xs : List TakenStep) (i : ℕ) (x : TakenStep) → i < length xs → x ≡ get_or xs i x → slice_get xs i ≡ Some x
