@@ -155,29 +155,29 @@ module _ (r : Replay) (compiled : AreCompiled real r.schedule.graphs r.programs)
   -- the walk of a session's trace explains the session
   session_path : (sid : List ℕ) (c : Trace) → IsTraceOf r.schedule (run_of r).log (run_of r).log sid c → IsPath r (path_of_trace (sid, c))
   session_path sid c h =
-      let graph : graph_of r sid ≡ c.graph = ap graph_or_none (ap (option_and_then (λ (c : Cast). graph_with real r.schedule.graphs c.graph)) h.cast ∙ h.graph) in
-      let path : OnePath c.graph (honest_role r.schedule c.cast) (events_of sid (run_of r).log) (explaining_walk c.graph (honest_role r.schedule c.cast) [] c.shown) =
-      traces_are_explained real real_hash r.programs r.schedule sid c.cast c.graph c.shown c.origins compiled schedule hold h.cast h.graph h.trace in
-      let same : steps_of_trace c ≡ explaining_walk c.graph (honest_role r.schedule c.cast) [] c.shown = λ i. explaining_walk c.graph (λ role. h.honest role i) [] c.shown in
+      let graph : graph_of r sid ≡ c.graph = ap graph_or_none (ap (option_and_then (λ (c : Cast). graph_with real r.schedule.graphs c.graph)) h.is_cast ∙ h.graph) in
+      let path : OnePath c.graph (honest_role r.schedule h.cast) (events_of sid (run_of r).log) (explaining_walk c.graph (honest_role r.schedule h.cast) [] c.shown) =
+      traces_are_explained real real_hash r.programs r.schedule sid h.cast c.graph c.shown compiled schedule hold h.is_cast h.graph h.trace in
+      let same : steps_of_trace c ≡ explaining_walk c.graph (honest_role r.schedule h.cast) [] c.shown = λ i. explaining_walk c.graph (λ role. h.honest role i) [] c.shown in
       record {
         graph = sym graph;
-        honest = λ role. h.honest role ∙ sym (ap (λ (o : Option Cast). option_map_or (λ c. honest_role r.schedule c role) o false) h.cast);
-        path = explained_path r sid c.cast c.graph (steps_of_trace c) h.cast h.graph (subst (OnePath c.graph (honest_role r.schedule c.cast) (events_of sid (run_of r).log)) (sym same) path);
+        honest = λ role. h.honest role ∙ sym (ap (λ (o : Option Cast). option_map_or (λ c. honest_role r.schedule c role) o false) h.is_cast);
+        path = explained_path r sid h.cast c.graph (steps_of_trace c) h.is_cast h.graph (subst (OnePath c.graph (honest_role r.schedule h.cast) (events_of sid (run_of r).log)) (sym same) path);
       }
 
   session_paths : (es : List (List ℕ × Trace)) → AllByRecursion (λ (e : List ℕ × Trace). IsTraceOf r.schedule (run_of r).log (run_of r).log e.0 e.1) es → AllByRecursion (λ (e : List ℕ × Trace). IsPath r (path_of_trace e)) es
   session_paths [] h = tt
   session_paths (e ∷ es) h = (session_path e.0 e.1 h.0, session_paths es h.1)
 
-  pub trace_paths : (c : Traces) → AreTraces r.schedule (run_of r).log c → c.programs ≡ r.programs → AllByRecursion (λ (e : List ℕ × Trace). IsPath r (path_of_trace e)) c.traces
-  trace_paths c are same = session_paths c.traces (subst (λ (ps : List Program). AllByRecursion (λ (e : List ℕ × Trace). IsTraceOf r.schedule (run real ps r.schedule).log (run_of r).log e.0 e.1) c.traces) same are.each)
+  pub trace_paths : (c : Traces) → AreTraces r.programs r.schedule (run_of r).log c → AllByRecursion (λ (e : List ℕ × Trace). IsPath r (path_of_trace e)) c
+  trace_paths c are = session_paths c are.each
 
   have_steps : (es : List (List ℕ × Trace)) → AllByRecursion (λ (e : List ℕ × Trace). IsPath r (path_of_trace e)) es → AllByRecursion (λ (e : List ℕ × Trace). HasSteps e.1.graph (steps_of_trace e.1)) es
   have_steps [] h = tt
   have_steps (e ∷ es) h = (has_its_steps r schedule (path_of_trace e) h.0, have_steps es h.1)
 
-  pub can_walk : (c : Traces) → AreTraces r.schedule (run_of r).log c → c.programs ≡ r.programs → CanWalkAll c
-  can_walk c are same = have_steps c.traces (trace_paths c are same)
+  pub can_walk : (c : Traces) → AreTraces r.programs r.schedule (run_of r).log c → CanWalkAll c
+  can_walk c are = have_steps c (trace_paths c are)
 
   all_explained : (es : List (List ℕ × Trace)) → AllByRecursion (λ (e : List ℕ × Trace). IsPath r (path_of_trace e)) es
       → AllByRecursion (λ (w : List ℕ × List StoredStep). OnePath (graph_of r w.0) (honest_in r w.0) (events_of w.0 (run_of r).log) w.1) (map sid_and_walk es)
@@ -189,19 +189,19 @@ module _ (r : Replay) (compiled : AreCompiled real r.schedule.graphs r.programs)
   sids_beside (e ∷ es) = ap (λ (z : List (List ℕ)). e.0 ∷ z) (sids_beside es)
 
   -- the walks of all sessions with an event, in the order of their first events
-  pub walks_made : (c : Traces) → AreTraces r.schedule (run_of r).log c → c.programs ≡ r.programs → (walks : List (List ℕ × List StoredStep)) → walks ≡ map sid_and_walk c.traces → WalksAreMade r walks
-  walks_made c are same walks is = subst (WalksAreMade r) (sym is) (record {
-    sids = sids_beside c.traces ∙ are.sids;
-    each = all_explained c.traces (trace_paths c are same);
+  pub walks_made : (c : Traces) → AreTraces r.programs r.schedule (run_of r).log c → (walks : List (List ℕ × List StoredStep)) → walks ≡ map sid_and_walk c → WalksAreMade r walks
+  walks_made c are walks is = subst (WalksAreMade r) (sym is) (record {
+    sids = sids_beside c ∙ are.sids;
+    each = all_explained c (trace_paths c are);
   })
 
   -- the walks of all sessions with an event, in their order
-  pub walks_written : (c : Traces) → AreTraces r.schedule (run_of r).log c → c.programs ≡ r.programs → (old new : List ℕ)
+  pub walks_written : (c : Traces) → AreTraces r.programs r.schedule (run_of r).log c → (old new : List ℕ)
       → new ≡ old ++ flat_map (path_line (known_sessions (account r))) (filter_map (path_at c) (all_sids (known_sessions (account r)))) → WalksAreWritten r old new
-  walks_written c are same old new text = record {
+  walks_written c are old new text = record {
     paths = filter_map (path_at c) (all_sids (known_sessions (account r)));
-    each = reported_paths path_of_trace (λ sid w. refl) r c.traces (trace_paths c are same) (all_sids (known_sessions (account r)));
-    sids = reported_known path_of_trace (λ sid w. refl) c.traces (known_sessions (account r)) (λ sid. ap (has_text sid) are.sids ∙ has_text-firsts sid (sids_of (run_of r).log));
+    each = reported_paths path_of_trace (λ sid w. refl) r c (trace_paths c are) (all_sids (known_sessions (account r)));
+    sids = reported_known path_of_trace (λ sid w. refl) c (known_sessions (account r)) (λ sid. ap (has_text sid) are.sids ∙ has_text-firsts sid (sids_of (run_of r).log));
     text = text;
   }
 
@@ -211,13 +211,12 @@ made_ok (Ok v) f h = f v h
 made_ok (Err e) f h = tt
 
 -- what a trace's walk gives explains the session
-pub trace_path : (r : Replay) (c : Traces) (sid : List ℕ) (o : Option StoredWalk) (w : StoredWalk) → IsUnbroken r.programs r.schedule → AreTraces r.schedule (run_of r).log c → c.programs ≡ r.programs
-    → ((s : Schedule) → IsUnbroken c.programs s → AreTraces s (run real c.programs s).log c → MatchOption o (events_of sid (run real c.programs s).log ≡ []) (λ w. IsExplainedBy c.programs s sid (steps_of w)))
+pub trace_path : (r : Replay) (c : Traces) (sid : List ℕ) (o : Option StoredWalk) (w : StoredWalk) → IsUnbroken r.programs r.schedule → AreTraces r.programs r.schedule (run_of r).log c
+    → ((programs : List Program) (s : Schedule) → IsUnbroken programs s → AreTraces programs s (run real programs s).log c → MatchOption o (events_of sid (run real programs s).log ≡ []) (λ w. IsExplainedBy programs s sid (steps_of w)))
     → o ≡ Some w → OnePath (graph_of r sid) (honest_in r sid) (events_of sid (run_of r).log) (steps_of w)
-trace_path r c sid o w unbroken are same gives is =
-    let found = gives r.schedule (subst (λ (ps : List Program). IsUnbroken ps r.schedule) (sym same) unbroken) (subst (λ (ps : List Program). AreTraces r.schedule (run real ps r.schedule).log c) (sym same) are) in
-    let here : IsExplainedBy c.programs r.schedule sid (steps_of w) = subst (λ (z : Option StoredWalk). MatchOption z (events_of sid (run real c.programs r.schedule).log ≡ []) (λ w. IsExplainedBy c.programs r.schedule sid (steps_of w))) is found in
-    let e : IsExplainedBy r.programs r.schedule sid (steps_of w) = subst (λ (ps : List Program). IsExplainedBy ps r.schedule sid (steps_of w)) same here in
+trace_path r c sid o w unbroken are gives is =
+    let e : IsExplainedBy r.programs r.schedule sid (steps_of w) =
+    subst (λ (z : Option StoredWalk). MatchOption z (events_of sid (run real r.programs r.schedule).log ≡ []) (λ w. IsExplainedBy r.programs r.schedule sid (steps_of w))) is (gives r.programs r.schedule unbroken are) in
     explained_path r sid e.0.cast e.0.graph (steps_of w) e.0.is_cast e.0.is_graph (subst (OnePath e.0.graph (honest_role r.schedule e.0.cast) (events_of sid (run_of r).log)) e.1 e.0.path)
 
 -- ---- written one after another

@@ -4,4 +4,4 @@ use Rattle.sg_world.proofs.session_walk.make_walks.Given as goal
 
 -- the walks so far are made
 abbrev pub invariant-loop-index : goal.invariant-loop-index
-invariant-loop-index l = map sid_and_steps l.walks.items ≡ map sid_and_walk (take l.index l.traces.traces)
+invariant-loop-index l = map sid_and_steps l.walks.items ≡ map sid_and_walk (take l.index l.traces)
