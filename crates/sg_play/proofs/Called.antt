@@ -10,7 +10,6 @@ use Rattle.sg_protocol.specs.Acting.{answer}
 use Rattle.sg_protocol.specs.Calls as Protocol
 use Rattle.sg_protocol.specs.Calls.{Call, Answer, Act}
 use Rattle.sg_protocol.specs.Frame.{Frame}
-use Rattle.sg_protocol.specs.Graph.{Graph}
 use Rattle.sg_protocol.specs.Keyring.{Keyring}
 use Rattle.sg_protocol.specs.NodeStates.{NodeState}
 use Rattle.sg_protocol.specs.Past.{Past, node_of}
@@ -18,10 +17,14 @@ use Rattle.sg_protocol.specs.Ranges.{IsCallInRange, AreValues}
 use Rattle.sg_protocol.specs.Spelling.{spelling}
 use Rattle.sg_protocol.specs.Texts.{real}
 use Rattle.sg_protocol.specs.Named.{graph_of_call}
-use Rattle.sg_node.specs.Answers.{GoesOn}
-use Rattle.sg_report.specs.Reported.{Reported, Sends, reported_answer}
+use Rattle.sg_node.specs.Answers.{GoesOn, graph_named}
+use Rattle.sg_node.specs.declared.answer.Happened.{Happened as Begun}
+use Rattle.sg_report.specs.Outcome.{graph_in, outcome_of}
+use Rattle.sg_report.specs.Reported.{Sends, reported_answer}
+use Rattle.sg_report.specs.declared.outcome.Outcome.{Outcome}
+use Rattle.sg_report.specs.declared.outcome.Outcome.TheVariants as OfStep
+use Rattle.sg_walk.specs.Model.{event_of}
 use Rattle.sg_protocol.specs.Run.{frame_in}
-use Rattle.sg_report.proofs.Answered.{SendsNothing}
 use Rattle.sg_play.specs.Asking.{IsAsked, IsAskedWithFrames, addressed, sealed_in}
 use Rattle.sg_play.specs.Posting.{frames_made}
 use Rattle.sg_play.specs.Steps.{frames_in}
@@ -32,17 +35,18 @@ none_sealed (Protocol.Sends e to f) h = absurd (cc)
 none_sealed other h = refl
 
 -- the outcome of a call that sends nothing
-pub results_quiet : (number : ℕ) (old new : NodeState) (past : Past) (call : Call) (reported : Option Reported) (graph : Option Graph) → IsCallInRange call
-    → SendsNothing number (answer real (node_of past) call) reported → graph ≡ graph_of_call real (node_of past) call → GoesOn old new call past → IsAsked number old new past call reported graph None
-results_quiet number old new past call reported graph range h graphed goes = record { range = range; is_reported = h.0; is_graph = graphed; is_sealed = none_sealed (answer real (node_of past) call) h.1; goes_on = goes }
+pub results_quiet : (number : ℕ) (old new : NodeState) (past : Past) (call : Call) (o : Outcome) → IsCallInRange call → outcome_of o ≡ reported_answer number (answer real (node_of past) call) → None ≡ frame_in (answer real (node_of past) call)
+    → graph_in o ≡ graph_named (answer real (node_of past) call) (graph_of_call real (node_of past) call) → GoesOn old new call past → IsAsked number old new past call o None
+results_quiet number old new past call o range reported sends graphed goes = record { range = range; is_reported = reported; is_graph = graphed; is_sealed = none_sealed (answer real (node_of past) call) sends; goes_on = goes }
 
 -- the outcome of a step that was sent
-pub results_sent : (number : ℕ) (old new : NodeState) (past : Past) (sid : List ℕ) (label : ℕ) (values : Map Value) (random : List (List ℕ)) (e : Protocol.Event) (to : Name) (sealed : Name × List ℕ) (graph : Option Graph) (f : Frame)
-    → to ≡ sealed.0 → answer real (node_of past) (Act sid label values random) ≡ Protocol.Sends e sealed.0 f → sealed.1 ≡ spelling f → AreValues values random → graph ≡ graph_of_call real (node_of past) (Act sid label values random)
-    → GoesOn old new (Act sid label values random) past → IsAsked number old new past (Act sid label values random) (Some (Sends e to number)) graph (Some sealed)
-results_sent number old new past sid label values random e to sealed graph f is_to given spelled range graphed goes = record {
+pub results_sent : (number : ℕ) (old new : NodeState) (past : Past) (sid : List ℕ) (label : ℕ) (values : Map Value) (random : List (List ℕ)) (h : Begun) (to : Name) (sealed : Name × List ℕ) (f : Frame)
+    → to ≡ sealed.0 → answer real (node_of past) (Act sid label values random) ≡ Protocol.Sends (event_of h.event) sealed.0 f → sealed.1 ≡ spelling f → AreValues values random
+    → Some h.graph.now ≡ graph_named (answer real (node_of past) (Act sid label values random)) (graph_of_call real (node_of past) (Act sid label values random))
+    → GoesOn old new (Act sid label values random) past → IsAsked number old new past (Act sid label values random) (OfStep.Sent h to number) (Some sealed)
+results_sent number old new past sid label values random h to sealed f is_to given spelled range graphed goes = record {
   range = range;
-  is_reported = (λ i. Some (Sends e (is_to i) number)) ∙ ap (λ (a : Answer). Some (reported_answer number a)) (sym given);
+  is_reported = (λ i. Sends (event_of h.event) (is_to i) number) ∙ ap (reported_answer number) (sym given);
   is_graph = graphed;
   is_sealed = (λ i. Some (sealed.0, spelled i)) ∙ ap sealed_in (sym given);
   goes_on = goes;
@@ -65,12 +69,12 @@ is_addressed keys Protocol.NotAbandoned = refl
 is_addressed keys (Protocol.NotDelivered x) = refl
 
 -- what comes of an act, with its frame
-pub results_made : (keys : Keyring) (frames counted : ℕ) (old new : NodeState) (past : Past) (call : Call) (number : ℕ) (reported : Option Reported) (graph : Option Graph) (sealed : Option (Name × List ℕ)) (frame : Option (Addr × (Name × List ℕ)))
-    → number ≡ frames + 1 → IsAsked number old new past call reported graph sealed → frame ≡ addressed keys sealed → counted ≡ frames + length (frames_made frame) → IsAskedWithFrames keys frames counted old new past call reported graph frame
-results_made keys frames counted old new past call number reported graph sealed frame is_number h is_frame counted_so = record {
+pub results_made : (keys : Keyring) (frames counted : ℕ) (old new : NodeState) (past : Past) (call : Call) (number : ℕ) (o : Outcome) (sealed : Option (Name × List ℕ)) (frame : Option (Addr × (Name × List ℕ)))
+    → number ≡ frames + 1 → IsAsked number old new past call o sealed → frame ≡ addressed keys sealed → counted ≡ frames + length (frames_made frame) → IsAskedWithFrames keys frames counted old new past call o frame
+results_made keys frames counted old new past call number o sealed frame is_number h is_frame counted_so = record {
   is_asked = record {
     range = h.range;
-    is_reported = h.is_reported ∙ ap (λ k. Some (reported_answer k (answer real (node_of past) call))) is_number;
+    is_reported = h.is_reported ∙ ap (λ k. reported_answer k (answer real (node_of past) call)) is_number;
     is_graph = h.is_graph;
     is_sealed = refl;
     goes_on = h.goes_on;

@@ -89,15 +89,6 @@ results_act s w k number who n label values ds sid confounders old new past c sa
 
 -- ---- answers
 
--- a start and a delivery send nothing
-pub start_is_quiet : (r : Result Begun StartRefusal) → None ≡ frame_in (answer_of_start r)
-start_is_quiet (Ok h) = refl
-start_is_quiet (Err why) = refl
-
-pub delivery_is_quiet : (r : Result Receipt DeliveryRefusal) → None ≡ frame_in (answer_of_delivery r)
-delivery_is_quiet (Ok x) = refl
-delivery_is_quiet (Err why) = refl
-
 -- the outcome of a step that was sent
 pub results_sent : (number : ℕ) (old new : NodeState) (past : Past) (sid : List ℕ) (label : ℕ) (values : Map Value) (confounders : List (List ℕ)) (h : Begun) (to bytes : List ℕ) (notes : Notes) (blank c : StepResult)
     → blank ≡ no_frame → c ≡ record { outcome = OfStep.Sent h to number; cast = None; frame = Some bytes; notes = notes } → (f : Frame) → answer real (node_of past) (Act sid label values confounders) ≡ Protocol.Sends (event_of h.event) to f → bytes ≡ spelling f

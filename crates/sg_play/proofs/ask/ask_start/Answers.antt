@@ -1,30 +1,19 @@
-use Rattle.std.proofs.Common.{◌≡◌, Some, option_map, Err, refl}
-use Rattle.std.specs.Option.{option_copied}
-use Rattle.sg_model.proofs.Small.{clash}
+use Rattle.std.proofs.Common.{◌≡◌, sym, ap, ◌∙◌}
 use Rattle.sg_protocol.specs.Acting.{answer}
-use Rattle.sg_protocol.specs.Calls as Protocol
 use Rattle.sg_protocol.specs.Calls.{Start}
+use Rattle.sg_protocol.specs.Named.{graph_of_call}
 use Rattle.sg_protocol.specs.Past.{node_of}
+use Rattle.sg_protocol.specs.Run.{frame_in}
 use Rattle.sg_protocol.specs.Texts.{real}
-use Rattle.sg_node.specs.Faults.{start_fault}
-use Rattle.sg_node.specs.declared.fault.StartFault.TheVariants as starting
-use Rattle.sg_walk.specs.Model.{event_of}
-use Rattle.sg_report.specs.Reported.{Happened, NotStarted}
-use Rattle.sg_report.proofs.Answered.{err_same, not_started, quiet}
+use Rattle.sg_node.specs.Answers.{graph_named}
+use Rattle.sg_report.specs.Reported.{reported_answer}
+use Rattle.sg_report.proofs.Answered.{start_is_quiet}
 use Rattle.sg_play.proofs.Called.{results_quiet}
 use Rattle.sg_play.proofs.ask.ask_start.Goals as goal
 
 pub returns-in-Ok-clause-is_asked : goal.returns-in-Ok-clause-is_asked
-returns-in-Ok-clause-is_asked c = λ number past represents. results_quiet number c.args.node.now c.start.new.self past (Start c.args.cast) (Some (Happened (event_of c.in-Ok.event))) (option_copied c.start_graph-graph.result) c.facts_of_cast.ensures
-    (quiet number (answer real (node_of past) (Start c.args.cast)) (Protocol.Happened (event_of c.in-Ok.event)) (Happened (event_of c.in-Ok.event)) refl refl (c.in-Ok.ensures.answer past represents))
-    (c.start_graph-graph.ensures past represents)
-    (c.in-Ok.ensures.state past represents (λ e. cc))
-
-pub returns-clause-is_asked : goal.returns-clause-is_asked
-returns-clause-is_asked c = λ number past represents.
-    let ne = λ (e : c.in-Err.fault ≡ starting.OutOfMemory). clash c.is_start_memory-lacks.result (c.is_start_memory-lacks.ensures.1 e) c.if-lacks.false in
-    let other = λ (e : c.start.result ≡ Err starting.OutOfMemory). ne (err_same c.start.result c.in-Err.fault starting.OutOfMemory c.in-Err.is e) in
-    results_quiet number c.args.node.now c.start.new.self past (Start c.args.cast) (option_map NotStarted (start_fault c.in-Err.fault)) (option_copied c.start_graph-graph.result) c.facts_of_cast.ensures
-    (not_started number (answer real (node_of past) (Start c.args.cast)) c.in-Err.fault ne (c.in-Err.ensures.answer past represents))
-    (c.start_graph-graph.ensures past represents)
-    (c.start.ensures.state past represents other)
+returns-in-Ok-clause-is_asked c = λ number past represents.
+    let call = Start c.args.cast in
+    let is = c.in-Ok.ensures.answer past represents in
+    results_quiet number c.args.node.now c.begin.new.self past call c.of_start.result c.facts_of_cast.ensures (c.of_start.ensures.reported number ∙ ap (reported_answer number) (sym is)) (start_is_quiet c.in-Ok.answer ∙ ap frame_in (sym is))
+    (c.of_start.ensures.graph ∙ c.in-Ok.ensures.graph past represents ∙ ap (λ a. graph_named a (graph_of_call real (node_of past) call)) (sym is)) (c.in-Ok.ensures.state past represents)

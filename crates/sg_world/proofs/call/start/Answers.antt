@@ -7,7 +7,8 @@ use Rattle.sg_protocol.specs.Texts.{real}
 use Rattle.sg_protocol.specs.Named.{graph_of_call}
 use Rattle.sg_node.specs.Answers.{answer_of_start, graph_named}
 use Rattle.sg_report.specs.Reported.{reported_answer}
-use Rattle.sg_world.proofs.Called.{results_quiet, start_is_quiet}
+use Rattle.sg_report.proofs.Answered.{start_is_quiet}
+use Rattle.sg_world.proofs.Called.{results_quiet}
 use Rattle.sg_world.proofs.call.start.Goals as goal
 
 pub returns-clause-is_result : goal.returns-clause-is_result
