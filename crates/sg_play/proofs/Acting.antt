@@ -9,11 +9,10 @@ use Rattle.sg_model.specs.Last.{Map}
 use Rattle.sg_model.specs.Names.{Name}
 use Rattle.sg_model.specs.Values.{Value}
 use Rattle.sg_protocol.specs.Calls.{Call, Act}
-use Rattle.sg_protocol.specs.Graph.{Graph}
 use Rattle.sg_protocol.specs.NodeStates.{NodeState}
 use Rattle.sg_protocol.specs.Past.{node_of}
 use Rattle.sg_protocol.specs.Turn.{turn_of}
-use Rattle.sg_report.specs.Reported.{Reported}
+use Rattle.sg_report.specs.declared.outcome.Outcome.{Outcome}
 use Rattle.sg_script.specs.Script.{Choice}
 use Rattle.sg_walk.specs.Model.{values_of}
 use Rattle.sg_play.specs.declared.fault.PlayFault.{PlayFault}
@@ -47,15 +46,15 @@ pub act_is : (sid : List ℕ) (c : Choice) (label : ℕ) (values : Map Value) (c
 act_is sid c label values count drawn random l v n w = let d = w ∙ ap (λ k. next_confounders k random) n in λ i. Act sid (l i) (v i) (d i)
 
 -- the player has acted
-pub has_acted : (old : Player) (n : NodeState) (table : List (Spot × List Choice)) (counted : ℕ) (p : Play) (sid : List ℕ) (graph : Name) (node : ℕ) (c : Choice) (call : Call) (reported : Option Reported) (by : Option Graph) (frame : Option (Addr × (Name × List ℕ)))
+pub has_acted : (old : Player) (n : NodeState) (table : List (Spot × List Choice)) (counted : ℕ) (p : Play) (sid : List ℕ) (graph : Name) (node : ℕ) (c : Choice) (call : Call) (o : Outcome) (frame : Option (Addr × (Name × List ℕ)))
     (left : Option (List (List ℕ))) → RepresentsPlay old p → find (is_ready graph node) p.choices ≡ Some c → call ≡ act_by sid c p.random → IsAskedWithFrames old.keys.now old.frames counted old.node n p.past call reported by frame
     → HoldsChoices table (used graph node p.choices) → left ≡ Some (drop (length c.values) p.random) → HasActed (record old { node = n; choices = table; frames = counted }) left sid graph node p reported by (frames_made frame)
-has_acted old n table counted p sid graph node c call reported by frame left s first is_call is_asked holds random =
+has_acted old n table counted p sid graph node c call o frame left s first is_call is_asked holds random =
     let came = subst (λ (k : Call). IsAskedWithFrames old.keys.now old.frames counted old.node n p.past k reported by frame) is_call is_asked in
     record {
       choice = c;
       is_first = first;
-      asked = asked_made (record old { choices = table }) n counted (chosen graph node c p) (act_by sid c p.random) reported by frame (by_choice old table p graph node c holds s) came;
+      asked = asked_made (record old { choices = table }) n counted (chosen graph node c p) (act_by sid c p.random) o frame (by_choice old table p graph node c holds s) came;
       random_left = random;
     }
 
@@ -83,7 +82,7 @@ module _ (start now : Outside) (pl : Player) (random : Option (List (List ℕ)))
   act_none old before x p e same kept s w h = act_same (p, false) x (Ok false) e (((subst (λ (z : Player). RepresentsPlay z p) (sym same) s, h), kept ∙ w), refl)
 
 -- by the first choice
-module _ (start now : Outside) (old pl : Player) (random : Option (List (List ℕ))) (sid : List ℕ) (graph : Name) (node : ℕ) (p : Play) (reported : Option Reported) (by : Option Graph) (made : List (Addr × List ℕ)) (h : HasActed old random sid graph node p reported by made) where
+module _ (start now : Outside) (old pl : Player) (random : Option (List (List ℕ))) (sid : List ℕ) (graph : Name) (node : ℕ) (p : Play) (o : Outcome) (made : List (Addr × List ℕ)) (h : HasActed old random sid graph node p o made) where
   pub act_given : (sent : Bool) → ProgressedOnItsWay start now pl (called (chosen graph node h.choice p) (act_by sid h.choice p.random)) (Ok tt) → sent ≡ is_sent (answer_in p (act_by sid h.choice p.random)) → ProgressedActing start now pl random (acted_in sid graph node p) (Ok sent)
   act_given sent came is = act_same start now pl random (acted_by sid graph node p h.choice) (acted_in sid graph node p) (Ok sent) (acted_first sid node p graph h.choice h.is_first) ((came, h.random_left), is)
 

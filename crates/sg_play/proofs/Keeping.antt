@@ -9,12 +9,11 @@ use Rattle.sg_node.specs.Answers.{IsAnsweredPast}
 use Rattle.sg_protocol.specs.Acting.{answer}
 use Rattle.sg_protocol.specs.Calls as Protocol
 use Rattle.sg_protocol.specs.Calls.{Call, Answer, Act, Abandon}
-use Rattle.sg_protocol.specs.Graph.{Graph}
 use Rattle.sg_protocol.specs.Keyring.{Keyring}
 use Rattle.sg_protocol.specs.NodeStates.{NodeState, RepresentsPast, state_after}
 use Rattle.sg_protocol.specs.Past.{Past, node_of, past_after}
 use Rattle.sg_protocol.specs.Texts.{real}
-use Rattle.sg_report.specs.Reported.{Reported}
+use Rattle.sg_report.specs.declared.outcome.Outcome.{Outcome}
 use Rattle.sg_play.specs.Asking.{IsAsked, IsAskedWithFrames, sealed_in}
 use Rattle.sg_play.specs.Representation.{KeepsJoins}
 
@@ -48,19 +47,19 @@ leavings_join_none st sid Protocol.NotAbandoned = refl
 leavings_join_none st sid (Protocol.NotDelivered x) = refl
 
 -- a call that joins nothing
-keeps_by : (number : ℕ) (old new : NodeState) (c : Call) (past : Past) (reported : Option Reported) (graph : Option Graph) (sealed : Option (Name × List ℕ)) → IsAnsweredPast past → IsAsked number old new past c reported graph sealed
+keeps_by : (number : ℕ) (old new : NodeState) (c : Call) (past : Past) (o : Outcome) (sealed : Option (Name × List ℕ)) → IsAnsweredPast past → IsAsked number old new past c o sealed
     → ((a : Answer) → (state_after old c a).joins ≡ old.joins) → (later : Past) × RepresentsPast new later × IsAnsweredPast later × (new.joins ≡ old.joins)
-keeps_by number old new c past reported graph sealed its h none =
+keeps_by number old new c past o sealed its h none =
     (past_after real past c, h.goes_on.represents, pasts_go_on past c its h.range, ap (λ (n : NodeState). n.joins) h.goes_on.state ∙ none (answer real (node_of past) c))
 
 -- an act
-pub keeps_by_act : (keys : Keyring) (frames counted : ℕ) (old new : NodeState) (sid : List ℕ) (label : ℕ) (values : Map Value) (confounders : List (List ℕ)) (reported : Option Reported) (graph : Option Graph) (frame : Option (Addr × (Name × List ℕ)))
-    → ((past : Past) → RepresentsPast old past → IsAskedWithFrames keys frames counted old new past (Act sid label values confounders) reported graph frame) → KeepsJoins old new
-keeps_by_act keys frames counted old new sid label values confounders reported graph frame h past s its =
+pub keeps_by_act : (keys : Keyring) (frames counted : ℕ) (old new : NodeState) (sid : List ℕ) (label : ℕ) (values : Map Value) (confounders : List (List ℕ)) (o : Outcome) (frame : Option (Addr × (Name × List ℕ)))
+    → ((past : Past) → RepresentsPast old past → IsAskedWithFrames keys frames counted old new past (Act sid label values confounders) o frame) → KeepsJoins old new
+keeps_by_act keys frames counted old new sid label values confounders o frame h past s its =
     let act = Act sid label values confounders in
-    keeps_by (frames + 1) old new act past reported graph (sealed_in (answer real (node_of past) act)) its (h past s).is_asked (acts_join_none old sid label values confounders)
+    keeps_by (frames + 1) old new act past o (sealed_in (answer real (node_of past) act)) its (h past s).is_asked (acts_join_none old sid label values confounders)
 
 -- a leaving
-pub keeps_by_leaving : (number : ℕ) (old new : NodeState) (sid : List ℕ) (reported : Option Reported) (graph : Option Graph) (sealed : Option (Name × List ℕ))
-    → ((past : Past) → RepresentsPast old past → IsAsked number old new past (Abandon sid) reported graph sealed) → KeepsJoins old new
-keeps_by_leaving number old new sid reported graph sealed h past s its = keeps_by number old new (Abandon sid) past reported graph sealed its (h past s) (leavings_join_none old sid)
+pub keeps_by_leaving : (number : ℕ) (old new : NodeState) (sid : List ℕ) (o : Outcome) (sealed : Option (Name × List ℕ))
+    → ((past : Past) → RepresentsPast old past → IsAsked number old new past (Abandon sid) o sealed) → KeepsJoins old new
+keeps_by_leaving number old new sid o sealed h past s its = keeps_by number old new (Abandon sid) past o sealed its (h past s) (leavings_join_none old sid)

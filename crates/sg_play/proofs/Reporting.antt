@@ -1,21 +1,27 @@
 -- What a player represents once it has reported the outcome of a call.
-use Rattle.std.proofs.Common.{◌≡◌, ℕ, ◌+◌, List, [], ◌∷◌, ◌++◌, map, flat_map, length, Option, Some, None, refl, sym, ap, ◌∙◌, subst, arith}
+use Rattle.std.proofs.Common.{◌≡◌, ℕ, ◌+◌, Bool, true, false, if◌then◌else◌, List, [], ◌∷◌, ◌++◌, map, flat_map, length, Option, Some, None, refl, sym, ap, ◌∙◌, subst, arith}
+use Rattle.std.specs.Fmt.{decimal}
 use Rattle.std.specs.Option.{option_map_or}
 use Rattle.std.proofs.lemmas.List.{append-nil, length-append, map-append}
 use Rattle.std.proofs.lemmas.List.Concat.{flat_map-append}
 use Rattle.sg_base.specs.declared.address.Addr.{Addr}
 use Rattle.sg_text.specs.Sessions.{KnownSessions, Naming, naming, session_name}
 use Rattle.sg_node.proofs.Life.{pasts_go_on}
+use Rattle.sg_node.specs.Answers.{graph_named}
 use Rattle.sg_model.specs.Names.{Name}
 use Rattle.sg_protocol.specs.Calls as Protocol
 use Rattle.sg_protocol.specs.Calls.{Call, Answer, events_of_answer, sid_of}
 use Rattle.sg_protocol.specs.Graph.{Graph}
 use Rattle.sg_protocol.specs.Keyring.{Keyring}
 use Rattle.sg_protocol.specs.NodeStates.{NodeState}
-use Rattle.sg_protocol.specs.Past.{AnsweredCall, past_after}
+use Rattle.sg_protocol.specs.Named.{graph_of_call, names_numbers}
+use Rattle.sg_protocol.specs.Past.{AnsweredCall, node_of, past_after}
 use Rattle.sg_protocol.specs.Texts.{real}
-use Rattle.sg_report.specs.Lines.{graph_or_none, line_text}
-use Rattle.sg_report.specs.Reported.{Reported, reported_answer, session_reported, sid_left, sid_reported}
+use Rattle.sg_report.proofs.NamedAnswers.{text-anywhere}
+use Rattle.sg_report.specs.Lines.{by_whom, graph_or_none, line_text, reported_text}
+use Rattle.sg_report.specs.Outcome.{graph_in}
+use Rattle.sg_report.specs.Reported.{CanBeReported, Reported, reported_answer, session_reported, sid_left, sid_reported}
+use Rattle.sg_report.specs.declared.outcome.Outcome.{Outcome}
 use Rattle.sg_play.specs.declared.player.Player.{Player}
 use Rattle.sg_play.specs.Asking.{IsAsked, IsAskedWithFrames, sealed_in}
 use Rattle.sg_play.specs.Meeting.{known_more}
@@ -78,8 +84,8 @@ no_more : (n : ℕ) → n ≡ n + 0
 no_more n = omega arith
 
 -- a call that sends no frame was asked
-pub asked_quiet : (pl : Player) (n : NodeState) (p : Play) (c : Call) (reported : Option Reported) (graph : Option Graph) → RepresentsPlay pl p → ((number : ℕ) → IsAsked number pl.node n p.past c reported graph None) → HasAsked (record pl { node = n }) p c reported graph []
-asked_quiet pl n p c reported graph s h =
+pub asked_quiet : (pl : Player) (n : NodeState) (p : Play) (c : Call) (o : Outcome) → RepresentsPlay pl p → ((number : ℕ) → IsAsked number pl.node n p.past c o None) → HasAsked (record pl { node = n }) p c o []
+asked_quiet pl n p c o s h =
     let came = h (length (frames_of p.steps) + 1) in
     record {
       node = came.goes_on.represents;
@@ -96,9 +102,9 @@ asked_quiet pl n p c reported graph s h =
     }
 
 -- an act was asked, with its frame
-pub asked_made : (pl : Player) (n : NodeState) (counted : ℕ) (p : Play) (c : Call) (reported : Option Reported) (graph : Option Graph) (frame : Option (Addr × (Name × List ℕ))) → RepresentsPlay pl p → IsAskedWithFrames pl.keys.now pl.frames counted pl.node n p.past c reported graph frame
-    → HasAsked (record pl { node = n; frames = counted }) p c reported graph (frames_made frame)
-asked_made pl n counted p c reported graph frame s h =
+pub asked_made : (pl : Player) (n : NodeState) (counted : ℕ) (p : Play) (c : Call) (o : Outcome) (frame : Option (Addr × (Name × List ℕ))) → RepresentsPlay pl p → IsAskedWithFrames pl.keys.now pl.frames counted pl.node n p.past c o frame
+    → HasAsked (record pl { node = n; frames = counted }) p c o (frames_made frame)
+asked_made pl n counted p c o frame s h =
     let came = h.is_asked in
     record {
       node = came.goes_on.represents;
@@ -109,7 +115,7 @@ asked_made pl n counted p c reported graph frame s h =
       names = s.names;
       steps = s.steps;
       frames = h.is_counted ∙ ap (λ k. k + length (frames_made frame)) s.frames;
-      is_reported = came.is_reported ∙ ap (λ k. Some (reported_answer (k + 1) (answer_in p c))) s.frames;
+      is_reported = came.is_reported ∙ ap (λ k. reported_answer (k + 1) (answer_in p c)) s.frames;
       is_graph = came.is_graph;
       is_made = ap frames_made h.is_frame ∙ is_addressed pl.keys.now (answer_in p c) ∙ ap (λ (k : Keyring). frames_in k (answer_in p c)) (sym s.keys);
     }
@@ -126,24 +132,42 @@ known_with p c = sym (known_after p.past.calls (record { call = c; answer = answ
 pub reported_rest : (old known : Player) (number : ℕ) → known ≡ record old { names = known.names } → number ≡ known.steps + 1 → record known { steps = number } ≡ record old { names = known.names; steps = old.steps + 1 }
 reported_rest old known number is next = (λ i. record (is i) { steps = next i }) ∙ (λ i. record old { names = known.names; steps = (is i).steps + 1 })
 
+-- what names nothing is reported without a graph
+unnamed : (k : ℕ) (a : Answer) → names_numbers a ≡ false → CanBeReported None (reported_answer k a)
+unnamed k (Protocol.Happened e) h = (let q : true ≡ false = h in absurd (cc))
+unnamed k (Protocol.Sends e to f) h = (let q : true ≡ false = h in absurd (cc))
+unnamed k (Protocol.NotActed (Protocol.ActFault.Send (Protocol.SendFault.BadValues x))) h = (let q : true ≡ false = h in absurd (cc))
+unnamed k (Protocol.NotDelivered (Protocol.Refusal.BadOpening x)) h = (let q : true ≡ false = h in absurd (cc))
+unnamed k other h = tt
+
+-- so its text is that by the graph of the call
+text_by : (session : List ℕ) (k : ℕ) (a : Answer) (g : Option Graph) → reported_text session (graph_or_none (graph_named a g)) (reported_answer k a) ≡ reported_text session (graph_or_none g) (reported_answer k a)
+text_by session k a g = by (names_numbers a) refl
+  where
+    by : (b : Bool) → names_numbers a ≡ b → reported_text session (graph_or_none (if b then g else None)) (reported_answer k a) ≡ reported_text session (graph_or_none g) (reported_answer k a)
+    by true e = refl
+    by false e = text-anywhere session (graph_or_none None) (graph_or_none g) (reported_answer k a) (unnamed k a e)
+
 -- the line is that of the step
-pub line_is : (pl : Player) (p : Play) (c : Call) (reported : Option Reported) (left : Option (List ℕ)) (graph : Option Graph) (made : List (Addr × List ℕ)) (line : List ℕ) → HasAsked pl p c reported graph made → left ≡ sid_left c
-    → line ≡ line_text (option_map_or (session_name 115 (known_more (known_in p.past.calls) (reported_in p c))) (session_reported left (reported_in p c)) []) (graph_or_none graph) (pl.steps + 1) pl.keys.now.me (reported_in p c) → line ≡ (step_in p c).line
-line_is pl p c reported left graph made line h l e =
+pub line_is : (pl : Player) (p : Play) (c : Call) (o : Outcome) (left : Option (List ℕ)) (made : List (Addr × List ℕ)) (line : List ℕ) → HasAsked pl p c o made → left ≡ sid_left c
+    → line ≡ line_text (option_map_or (session_name 115 (known_more (known_in p.past.calls) (reported_in p c))) (session_reported left (reported_in p c)) []) (graph_or_none (graph_in o)) (pl.steps + 1) pl.keys.now.me (reported_in p c) → line ≡ (step_in p c).line
+line_is pl p c o left made line h l e =
     let known = known_with p c in
     let number : pl.steps + 1 ≡ length (past_after real p.past c).calls = ap (λ n. n + 1) h.steps ∙ sym (one_more p.past.calls (record { call = c; answer = answer_in p c })) in
     let graphed = h.is_graph in
     let me : pl.keys.now.me ≡ p.past.keys.me = ap (λ (k : Keyring). k.me) (sym h.keys) in
+    let session : List ℕ = option_map_or (session_name 115 (known_in (past_after real p.past c).calls)) (session_reported (sid_left c) (reported_in p c)) [] in
     e ∙ (λ i. line_text (option_map_or (session_name 115 (known i)) (session_reported (l i) (reported_in p c)) []) (graph_or_none (graphed i)) (number i) (me i) (reported_in p c))
+    ∙ ap (λ text. decimal (length (past_after real p.past c).calls) ++ 32 ∷ by_whom p.past.keys.me (reported_in p c) ++ text ++ 10 ∷ []) (text_by session (length (frames_of p.steps) + 1) (answer_in p c) (graph_of_call real (node_of p.past) c))
 
 -- the names are those after it
 pub names_are : (ns : Naming) (p : Play) (c : Call) → ns ≡ naming 115 (known_more (known_in p.past.calls) (reported_in p c)) → ns ≡ naming 115 (known_in (past_after real p.past c).calls)
 names_are ns p c e = e ∙ ap (naming 115) (known_with p c)
 
 -- and the player represents the play with the step
-pub represents_reported : (old new : Player) (p : Play) (c : Call) (reported : Option Reported) (graph : Option Graph) (made : List (Addr × List ℕ)) → HasAsked old p c reported graph made → new ≡ record old { names = new.names; steps = old.steps + 1 }
+pub represents_reported : (old new : Player) (p : Play) (c : Call) (o : Outcome) (made : List (Addr × List ℕ)) → HasAsked old p c o made → new ≡ record old { names = new.names; steps = old.steps + 1 }
     → new.names ≡ naming 115 (known_more (known_in p.past.calls) (reported_in p c)) → RepresentsPlay new (called p c)
-represents_reported old new p c reported graph made h is names = subst (λ (pl : Player). RepresentsPlay pl (called p c)) (sym is) (record {
+represents_reported old new p c o made h is names = subst (λ (pl : Player). RepresentsPlay pl (called p c)) (sym is) (record {
   node = h.node;
   answered = h.answered_past;
   keys = h.keys;

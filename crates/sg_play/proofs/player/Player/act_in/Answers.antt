@@ -1,7 +1,5 @@
 use Rattle.sg_play.proofs.Keeping.{keeps_same, keeps_then}
 use Rattle.std.proofs.Common.{rules, ◌≡◌, ◌+◌, length, Err, refl}
-use Rattle.std.specs.Option.{option_copied}
-use Rattle.sg_report.specs.Outcome.{outcome_of}
 use Rattle.sg_play.specs.Ends.{Outside}
 use Rattle.sg_play.specs.Played.{act_by, answer_in, chosen}
 use Rattle.sg_play.specs.Posting.{frames_made}
@@ -22,14 +20,14 @@ pub returns-in_err-give-in-Some-clause-progress : goal.returns-in_err-give-in-So
 returns-in_err-give-in-Some-clause-progress g c = let same : c.from_residual-in_err-give-in-Some.result ≡ Err c.in_err-give-in-Some.field-0.0 = search rules in λ p start s w h.
     let acted = rw c.in-Some.is at (c.in_ok-outcome.ensures.acted p s w) in
     act_stopped start (record { written = g.O.Sink.written c.give.new.out; sent = g.L.Link.sent c.give.new.link }) c.try_act.new.self c.give.new.self (g.R.Fresh.random c.try_act.new.fresh) c.args.sid c.args.graph.now c.args.node p
-    (outcome_of c.in-Some.outcome) (option_copied c.in-Some.reported_by) (frames_made c.in-Some.frame) acted c.from_residual-in_err-give-in-Some.result c.in_err-give-in-Some.field-0.0 same
+    c.in-Some.outcome (frames_made c.in-Some.frame) acted c.from_residual-in_err-give-in-Some.result c.in_err-give-in-Some.field-0.0 same
     (c.in_err-give-in-Some.ensures.progress (chosen c.args.graph.now c.args.node acted.choice p) (act_by c.args.sid acted.choice p.random) start acted.asked refl h)
 
 pub returns-in_ok-give-in-Some-clause-progress : goal.returns-in_ok-give-in-Some-clause-progress
 returns-in_ok-give-in-Some-clause-progress g c = λ p start s w h.
     let acted = rw c.in-Some.is at (c.in_ok-outcome.ensures.acted p s w) in
     act_given start (record { written = g.O.Sink.written c.give.new.out; sent = g.L.Link.sent c.give.new.link }) c.try_act.new.self c.give.new.self (g.R.Fresh.random c.try_act.new.fresh) c.args.sid c.args.graph.now c.args.node p
-    (outcome_of c.in-Some.outcome) (option_copied c.in-Some.reported_by) (frames_made c.in-Some.frame) acted c.was_sent.result
+    c.in-Some.outcome (frames_made c.in-Some.frame) acted c.was_sent.result
     (c.in_ok-give-in-Some.ensures.progress (chosen c.args.graph.now c.args.node acted.choice p) (act_by c.args.sid acted.choice p.random) start acted.asked refl h)
     (c.was_sent.ensures (length (frames_of p.steps) + 1) (answer_in p (act_by c.args.sid acted.choice p.random)) acted.asked.is_reported)
 

@@ -1,10 +1,8 @@
 use Rattle.std.proofs.Common.{◌≡◌, ◌∙◌, ap, sym}
-use Rattle.std.specs.Option.{option_copied}
 use Rattle.sg_protocol.specs.Calls.{Act}
 use Rattle.sg_protocol.specs.Keyring.{Keyring}
 use Rattle.sg_protocol.specs.NodeStates.{RepresentsPast}
 use Rattle.sg_protocol.specs.Past.{Past}
-use Rattle.sg_report.specs.Outcome.{outcome_of}
 use Rattle.sg_walk.specs.Model.{values_of}
 use Rattle.sg_play.specs.Asking.{IsAskedWithFrames, addressed, sealed_in}
 use Rattle.sg_play.specs.Played.{Play, answer_in}
@@ -22,9 +20,9 @@ returns-clause-asked c =
     let frames = c.ask_act.new.frames in
     let act = Act c.args.sid c.args.label (values_of c.args.values.now) c.args.confounders.now in
     each_ok c.ask_act.result (λ (p : Play). RepresentsPlay old p)
-    (λ (p : Play) r. IsAskedWithFrames old.keys.now old.frames frames old.node node p.past act (outcome_of r.0) (option_copied r.1) r.2)
-    (λ (p : Play) r. HasAsked (record old { node = node; frames = frames }) p act (outcome_of r.0) (option_copied r.1) (frames_made r.2))
-    (λ p r s h. asked_made old node frames p act (outcome_of r.0) (option_copied r.1) r.2 s h)
+    (λ (p : Play) r. IsAskedWithFrames old.keys.now old.frames frames old.node node p.past act r.0 r.1)
+    (λ (p : Play) r. HasAsked (record old { node = node; frames = frames }) p act r.0 (frames_made r.1))
+    (λ p r s h. asked_made old node frames p act r.0 r.1 s h)
     (λ p s. c.ask_act.ensures.is_asked p.past s.node)
 
 pub returns-clause-frame : goal.returns-clause-frame
@@ -34,8 +32,8 @@ returns-clause-frame c =
     let frames = c.ask_act.new.frames in
     let act = Act c.args.sid c.args.label (values_of c.args.values.now) c.args.confounders.now in
     each_ok c.ask_act.result (λ (p : Play). RepresentsPlay old p)
-    (λ (p : Play) r. IsAskedWithFrames old.keys.now old.frames frames old.node node p.past act (outcome_of r.0) (option_copied r.1) r.2)
-    (λ (p : Play) r. r.2 ≡ addressed p.past.keys (sealed_in (answer_in p act)))
+    (λ (p : Play) r. IsAskedWithFrames old.keys.now old.frames frames old.node node p.past act r.0 r.1)
+    (λ (p : Play) r. r.1 ≡ addressed p.past.keys (sealed_in (answer_in p act)))
     (λ p r s h. h.is_frame ∙ ap (λ (k : Keyring). addressed k (sealed_in (answer_in p act))) (sym s.keys))
     (λ p s. c.ask_act.ensures.is_asked p.past s.node)
 
@@ -46,6 +44,6 @@ returns-clause-joins c =
     let frames = c.ask_act.new.frames in
     let values = values_of c.args.values.now in
     then_ok c.ask_act.result (λ (past : Past). RepresentsPast old.node past)
-    (λ (past : Past) r. IsAskedWithFrames old.keys.now old.frames frames old.node node past (Act c.args.sid c.args.label values c.args.confounders.now) (outcome_of r.0) (option_copied r.1) r.2) (KeepsJoins old.node node)
-    (λ r h. keeps_by_act old.keys.now old.frames frames old.node node c.args.sid c.args.label values c.args.confounders.now (outcome_of r.0) (option_copied r.1) r.2 h)
+    (λ (past : Past) r. IsAskedWithFrames old.keys.now old.frames frames old.node node past (Act c.args.sid c.args.label values c.args.confounders.now) r.0 r.1) (KeepsJoins old.node node)
+    (λ r h. keeps_by_act old.keys.now old.frames frames old.node node c.args.sid c.args.label values c.args.confounders.now r.0 r.1 h)
     c.ask_act.ensures.is_asked

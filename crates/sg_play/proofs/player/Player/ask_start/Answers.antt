@@ -1,11 +1,9 @@
 use Rattle.std.proofs.Common.{IfOk, None, subst}
-use Rattle.std.specs.Option.{option_copied}
 use Rattle.sg_protocol.specs.Calls.{Start}
 use Rattle.sg_protocol.specs.Frame.{Cast}
-use Rattle.sg_report.specs.Outcome.{outcome_of}
 use Rattle.sg_play.specs.Asking.{IsAsked}
 use Rattle.sg_play.proofs.player.Player.ask_start.Goals as goal
 
 pub returns-clause-is_asked : goal.returns-clause-is_asked
 returns-clause-is_asked c = λ number past represents.
-    subst (λ (x : Cast). IfOk c.ask_start.result (λ r. IsAsked number c.args.self.now.node c.ask_start.new.node past (Start x) (outcome_of r.0) (option_copied r.1) None)) c.in_ok-cast.ensures.cast (c.ask_start.ensures.is_asked number past represents)
+    subst (λ (x : Cast). IfOk c.ask_start.result (λ o. IsAsked number c.args.self.now.node c.ask_start.new.node past (Start x) o None)) c.in_ok-cast.ensures.cast (c.ask_start.ensures.is_asked number past represents)

@@ -1,7 +1,5 @@
 use Rattle.std.proofs.Common.{rules, ◌≡◌, ◌∙◌, Err, ap, refl}
-use Rattle.std.specs.Option.{option_copied, option_and_then}
 use Rattle.sg_protocol.specs.Calls.{Start}
-use Rattle.sg_report.specs.Outcome.{outcome_of}
 use Rattle.sg_play.specs.declared.fault.PlayFault.TheVariants.{OutOfMemory, LinkFailed, WriteFailed}
 use Rattle.sg_play.specs.Played.{answer_in, called}
 use Rattle.sg_report.proofs.Answered.{err_same}
@@ -35,15 +33,15 @@ returns-in_err-give-clause-write_failed g c = let same : c.from_residual-in_err-
 
 pub returns-in_err-give-clause-progress : goal.returns-in_err-give-clause-progress
 returns-in_err-give-clause-progress g c = let same : c.from_residual-in_err-give.result ≡ Err c.in_err-give.field-0.0 = search rules in λ p start represents w.
-    let asked = asked_quiet c.args.self.now c.ask_start.new.node p (Start c.args.cast) (outcome_of c.in_ok-outcome.outcome) (option_copied c.in_ok-outcome.graph) represents (λ number. c.in_ok-outcome.ensures.is_asked number p.past represents.node) in
+    let asked = asked_quiet c.args.self.now c.ask_start.new.node p (Start c.args.cast) c.in_ok-outcome.outcome represents (λ number. c.in_ok-outcome.ensures.is_asked number p.past represents.node) in
     rw same (c.in_err-give.ensures.progress p (Start c.args.cast) start asked refl w)
 
 pub returns-clause-progress : goal.returns-clause-progress
 returns-clause-progress g c = λ p start represents w.
-    let asked = asked_quiet c.args.self.now c.ask_start.new.node p (Start c.args.cast) (outcome_of c.in_ok-outcome.outcome) (option_copied c.in_ok-outcome.graph) represents (λ number. c.in_ok-outcome.ensures.is_asked number p.past represents.node) in
+    let asked = asked_quiet c.args.self.now c.ask_start.new.node p (Start c.args.cast) c.in_ok-outcome.outcome represents (λ number. c.in_ok-outcome.ensures.is_asked number p.past represents.node) in
     c.in_ok-give.ensures.progress p (Start c.args.cast) start asked refl w
 
 pub returns-clause-turn : goal.returns-clause-turn
 returns-clause-turn g c = λ p represents.
     let came = c.in_ok-outcome.ensures.is_asked 0 p.past represents.node in
-    c.sid_reported.ensures.reported ∙ ap (option_and_then sid_reported) came.is_reported ∙ reported_given 0 (answer_in p (Start c.args.cast))
+    c.sid_reported.ensures.reported ∙ ap sid_reported came.is_reported ∙ reported_given 0 (answer_in p (Start c.args.cast))
