@@ -47,10 +47,10 @@ act_is sid c label values count drawn random l v n w = let d = w ∙ ap (λ k. n
 
 -- the player has acted
 pub has_acted : (old : Player) (n : NodeState) (table : List (Spot × List Choice)) (counted : ℕ) (p : Play) (sid : List ℕ) (graph : Name) (node : ℕ) (c : Choice) (call : Call) (o : Outcome) (frame : Option (Addr × (Name × List ℕ)))
-    (left : Option (List (List ℕ))) → RepresentsPlay old p → find (is_ready graph node) p.choices ≡ Some c → call ≡ act_by sid c p.random → IsAskedWithFrames old.keys.now old.frames counted old.node n p.past call reported by frame
-    → HoldsChoices table (used graph node p.choices) → left ≡ Some (drop (length c.values) p.random) → HasActed (record old { node = n; choices = table; frames = counted }) left sid graph node p reported by (frames_made frame)
+    (left : Option (List (List ℕ))) → RepresentsPlay old p → find (is_ready graph node) p.choices ≡ Some c → call ≡ act_by sid c p.random → IsAskedWithFrames old.keys.now old.frames counted old.node n p.past call o frame
+    → HoldsChoices table (used graph node p.choices) → left ≡ Some (drop (length c.values) p.random) → HasActed (record old { node = n; choices = table; frames = counted }) left sid graph node p o (frames_made frame)
 has_acted old n table counted p sid graph node c call o frame left s first is_call is_asked holds random =
-    let came = subst (λ (k : Call). IsAskedWithFrames old.keys.now old.frames counted old.node n p.past k reported by frame) is_call is_asked in
+    let came = subst (λ (k : Call). IsAskedWithFrames old.keys.now old.frames counted old.node n p.past k o frame) is_call is_asked in
     record {
       choice = c;
       is_first = first;
