@@ -30,8 +30,8 @@ working joins = record { joins = joins; failed = false }
 
 -- ---- the node was asked
 
-pub asked_node : (sv : Server) (pl : Player) (may_leave : List ℕ → Type 0) (c : Call) (reported : Option Reported) (graph : Option Graph) (h : HoldsJoins sv may_leave) → IsAsked 0 sv.player.node pl.node h.past c reported graph None → HasAskedNode (record sv { player = pl }) may_leave reported
-asked_node sv pl may_leave c reported graph h came = record {
+pub asked_node : (sv : Server) (pl : Player) (may_leave : List ℕ → Type 0) (c : Call) (o : Outcome) (h : HoldsJoins sv may_leave) → IsAsked 0 sv.player.node pl.node h.past c o None → HasAskedNode (record sv { player = pl }) may_leave o
+asked_node sv pl may_leave c o h came = record {
   past = h.past;
   call = c;
   number = 0;
@@ -43,10 +43,10 @@ asked_node sv pl may_leave c reported graph h came = record {
   images = subst (AllRepresent (images_if (is_some sv.ledger) may_leave)) h.represents.joins h.images;
 }
 
-pub has_called : (sv : Server) (pl : Player) (s : Serving) (c : Call) (reported : Option Reported) (graph : Option Graph) → RepresentsServing sv s → pl ≡ record sv.player { node = pl.node } → ((number : ℕ) → IsAsked number sv.player.node pl.node s.play.past c reported graph None)
-    → HasCalled (record sv { player = pl }) s c reported graph None
-has_called sv pl s c reported graph h is is_asked = record {
-  asked = subst (λ (x : Player). HasAsked x s.play c reported graph []) (sym is) (asked_quiet sv.player pl.node s.play c reported graph h.player is_asked);
+pub has_called : (sv : Server) (pl : Player) (s : Serving) (c : Call) (o : Outcome) → RepresentsServing sv s → pl ≡ record sv.player { node = pl.node } → ((number : ℕ) → IsAsked number sv.player.node pl.node s.play.past c o None)
+    → HasCalled (record sv { player = pl }) s c o None
+has_called sv pl s c o h is is_asked = record {
+  asked = subst (λ (x : Player). HasAsked x s.play c o []) (sym is) (asked_quiet sv.player pl.node s.play c o h.player is_asked);
   answered_before = h.player.answered;
   is_frame = ap (addressed s.play.past.keys) (is_asked 0).is_sealed;
   programs = h.programs;
@@ -86,17 +86,17 @@ reported_join n (Protocol.NotActed x) = refl
 reported_join n Protocol.NotAbandoned = refl
 reported_join n (Protocol.NotDelivered x) = refl
 
-module _ (sv : Server) (may_leave : List ℕ → Type 0) (reported : Option Reported) (h : HasAskedNode sv may_leave reported) where
+module _ (sv : Server) (may_leave : List ℕ → Type 0) (o : Outcome) (h : HasAskedNode sv may_leave o) where
   -- the node's answer
   abbrev given : Answer
   given = answer real (node_of h.past) h.call
 
   -- the pair that it joins, if it joins one
   abbrev joined : Option Join
-  joined = option_and_then join_reported reported
+  joined = join_reported (outcome_of o)
 
   join_is : joined ≡ join_in given
-  join_is = ap (option_and_then join_reported) h.is_reported ∙ reported_join h.number given
+  join_is = ap join_reported h.is_reported ∙ reported_join h.number given
 
   -- if there is no ledger
   pub holds_none : sv.ledger ≡ None → HoldsJoins sv may_leave

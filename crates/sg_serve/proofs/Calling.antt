@@ -31,9 +31,9 @@ use Rattle.sg_serve.proofs.Saying.{of_some}
 
 -- ---- a call that makes its frame
 
-pub called_made : (sv : Server) (pl : Player) (s : Serving) (c : Call) (reported : Option Reported) (graph : Option Graph) (frame : Option (Addr × (Name × List ℕ))) → RepresentsServing sv s → HasAsked pl s.play c reported graph (frames_made frame) → frame ≡ addressed s.play.past.keys (sealed_in (answer_in s.play c))
-    → HasCalled (record sv { player = pl }) s c reported graph frame
-called_made sv pl s c reported graph frame st asked is = record {
+pub called_made : (sv : Server) (pl : Player) (s : Serving) (c : Call) (o : Outcome) (frame : Option (Addr × (Name × List ℕ))) → RepresentsServing sv s → HasAsked pl s.play c o (frames_made frame) → frame ≡ addressed s.play.past.keys (sealed_in (answer_in s.play c))
+    → HasCalled (record sv { player = pl }) s c o frame
+called_made sv pl s c o frame st asked is = record {
   asked = asked;
   answered_before = st.player.answered;
   is_frame = is;
@@ -47,17 +47,17 @@ no_frame : (frame : Option (Addr × (Name × List ℕ))) → [] ≡ frames_made 
 no_frame None e = refl
 no_frame (Some f) e = absurd (cc)
 
-pub called_quiet : (sv : Server) (pl : Player) (s : Serving) (c : Call) (reported : Option Reported) (graph : Option Graph) → RepresentsServing sv s → HasAsked pl s.play c reported graph [] → HasCalled (record sv { player = pl }) s c reported graph None
-called_quiet sv pl s c reported graph st asked =
-    called_made sv pl s c reported graph None st asked (no_frame (addressed s.play.past.keys (sealed_in (answer_in s.play c))) (asked.is_made ∙ sym (is_addressed s.play.past.keys (answer_in s.play c))))
+pub called_quiet : (sv : Server) (pl : Player) (s : Serving) (c : Call) (o : Outcome) → RepresentsServing sv s → HasAsked pl s.play c o [] → HasCalled (record sv { player = pl }) s c o None
+called_quiet sv pl s c o st asked =
+    called_made sv pl s c o None st asked (no_frame (addressed s.play.past.keys (sealed_in (answer_in s.play c))) (asked.is_made ∙ sym (is_addressed s.play.past.keys (answer_in s.play c))))
 
 -- a session was left
-pub abandoned : (sv new : Server) (pl : Player) (n : ℕ) (sid : List ℕ) (reported : Option Reported) (graph : Option Graph) (r : Result Step ServeFault) → ((p : Play) → RepresentsPlay sv.player p → Some sid ≡ slice_get (sids_of p) (n - 1))
-    → ((p : Play) → RepresentsPlay sv.player p → HasAsked pl p (Abandon sid) reported graph []) → IfOk r (λ step. (s : Serving) (c : Call) → HasCalled (record sv { player = pl }) s c reported graph None → Some sid ≡ sid_left c → HasReplied new step (calls s c))
+pub abandoned : (sv new : Server) (pl : Player) (n : ℕ) (sid : List ℕ) (o : Outcome) (r : Result Step ServeFault) → ((p : Play) → RepresentsPlay sv.player p → Some sid ≡ slice_get (sids_of p) (n - 1))
+    → ((p : Play) → RepresentsPlay sv.player p → HasAsked pl p (Abandon sid) o []) → IfOk r (λ step. (s : Serving) (c : Call) → HasCalled (record sv { player = pl }) s c o None → Some sid ≡ sid_left c → HasReplied new step (calls s c))
     → IfOk r (λ step. (s : Serving) → RepresentsServing sv s → HasReplied new step (of_session s n (λ x. calls s (Abandon x))))
-abandoned sv new pl n sid reported graph (Ok step) at asked h =
-    λ s st. subst (λ (y : Reply). HasReplied new step y) (of_some s n sid (λ x. calls s (Abandon x)) (sym (at s.play st.player))) (h s (Abandon sid) (called_quiet sv pl s (Abandon sid) reported graph st (asked s.play st.player)) refl)
-abandoned sv new pl n sid reported graph (Err f) at asked h = tt
+abandoned sv new pl n sid o (Ok step) at asked h =
+    λ s st. subst (λ (y : Reply). HasReplied new step y) (of_some s n sid (λ x. calls s (Abandon x)) (sym (at s.play st.player))) (h s (Abandon sid) (called_quiet sv pl s (Abandon sid) o st (asked s.play st.player)) refl)
+abandoned sv new pl n sid o (Err f) at asked h = tt
 
 -- ---- random bytes
 
@@ -81,19 +81,19 @@ less_represents sv n s st = record {
 
 -- ---- an act
 
-pub acted : (sv new : Server) (pl : Player) (random : Option (List (List ℕ))) (sid : List ℕ) (label n : ℕ) (vs : Map Value) (ws : List (List ℕ)) (reported : Option Reported) (graph : Option Graph) (frame : Option (Addr × (Name × List ℕ))) (r : Result Step ServeFault) → n ≡ length vs
-    → ((all : List (List ℕ)) → random ≡ Some all → ws ≡ next_confounders n all) → ((p : Play) → RepresentsPlay sv.player p → HasAsked pl p (Act sid label vs ws) reported graph (frames_made frame))
+pub acted : (sv new : Server) (pl : Player) (random : Option (List (List ℕ))) (sid : List ℕ) (label n : ℕ) (vs : Map Value) (ws : List (List ℕ)) (o : Outcome) (frame : Option (Addr × (Name × List ℕ))) (r : Result Step ServeFault) → n ≡ length vs
+    → ((all : List (List ℕ)) → random ≡ Some all → ws ≡ next_confounders n all) → ((p : Play) → RepresentsPlay sv.player p → HasAsked pl p (Act sid label vs ws) o (frames_made frame))
     → ((p : Play) → RepresentsPlay sv.player p → frame ≡ addressed p.past.keys (sealed_in (answer_in p (Act sid label vs ws))))
-    → IfOk r (λ step. (s : Serving) (c : Call) → HasCalled (record sv { player = pl }) s c reported graph frame → None ≡ sid_left c → HasReplied new step (calls s c))
+    → IfOk r (λ step. (s : Serving) (c : Call) → HasCalled (record sv { player = pl }) s c o frame → None ≡ sid_left c → HasReplied new step (calls s c))
     → IfOk r (λ step. (s : Serving) → RepresentsServing sv s → random ≡ Some s.play.random → HasReplied new step (acts s sid label vs))
-acted sv new pl random sid label n vs ws reported graph frame (Ok step) count drawn asked made h = λ s st w.
+acted sv new pl random sid label n vs ws o frame (Ok step) count drawn asked made h = λ s st w.
     let m = length vs in
     let k = Act sid label vs ws in
     let q = less m s in
     let lst = less_represents sv m s st in
     subst (λ (c : Call). HasReplied new step (calls (less m s) c)) (ap (Act sid label vs) (drawn s.play.random w ∙ ap (λ (i : ℕ). next_confounders i s.play.random) count))
-    (h q k (called_made sv pl q k reported graph frame lst (asked q.play lst.player) (made q.play lst.player)) refl)
-acted sv new pl random sid label n vs ws reported graph frame (Err f) count drawn asked made h = tt
+    (h q k (called_made sv pl q k o frame lst (asked q.play lst.player) (made q.play lst.player)) refl)
+acted sv new pl random sid label n vs ws o frame (Err f) count drawn asked made h = tt
 
 pub not_twice : (b : Bool) → true ≡ b → false ≡ not b
 not_twice true e = refl

@@ -49,7 +49,7 @@ kept_is : (o : Option OpenLedger) (joins : List Join) → ((l : OpenLedger) → 
 kept_is None joins h e = absurd (cc)
 kept_is (Some l) joins h e = h l refl
 
-module _ (sv : Server) (may_leave : List ℕ → Type 0) (s : Serving) (c : Call) (reported : Option Reported) (graph : Option Graph) (frame : Option (Addr × (Name × List ℕ))) (h : HasCalled sv s c reported graph frame) where
+module _ (sv : Server) (may_leave : List ℕ → Type 0) (s : Serving) (c : Call) (o : Outcome) (frame : Option (Addr × (Name × List ℕ))) (h : HasCalled sv s c o frame) where
   -- the joins of the node with the call
   pub node_has : sv.player.node.joins ≡ joins_of (calls s c).0
   node_has = h.asked.node.joins ∙ joins_of_node (past_after real s.play.past c) h.asked.answered_past
@@ -65,5 +65,5 @@ module _ (sv : Server) (may_leave : List ℕ → Type 0) (s : Serving) (c : Call
   join_kept m rest same holds image left = inr (subst (Represents image) (ap (λ (x : Server). x.player.node.joins) rest ∙ node_has) (holds.images image (same ∙ left.0, left.1)))
 
   -- the server with another ledger has called the same
-  pub called_with : (m : Server) → m ≡ record sv { ledger = m.ledger } → HasCalled m s c reported graph frame
-  called_with m rest = subst (λ (x : Server). HasCalled x s c reported graph frame) (sym rest) (record { asked = h.asked; answered_before = h.answered_before; is_frame = h.is_frame; programs = h.programs; graphs = h.graphs; last = h.last })
+  pub called_with : (m : Server) → m ≡ record sv { ledger = m.ledger } → HasCalled m s c o frame
+  called_with m rest = subst (λ (x : Server). HasCalled x s c o frame) (sym rest) (record { asked = h.asked; answered_before = h.answered_before; is_frame = h.is_frame; programs = h.programs; graphs = h.graphs; last = h.last })

@@ -38,7 +38,7 @@ one_graph p g gs l = sym (ap (λ (b : Bool). if b then gs ++ g ∷ [] else gs) (
 -- ---- the frame
 
 -- the frame has the number that is reported of it
-frame_is : (keys : Keyring) (n number : ℕ) (a : Answer) (reported : Option Reported) (frame : Option (Addr × (Name × List ℕ))) → reported ≡ Some (reported_answer n a) → ((e : Event) (to : Name) (k : ℕ) → reported ≡ Some (Report.Sends e to k) → number ≡ k) → frame ≡ addressed keys (sealed_in a)
+frame_is : (keys : Keyring) (n number : ℕ) (a : Answer) (reported : Reported) (frame : Option (Addr × (Name × List ℕ))) → reported ≡ reported_answer n a → ((e : Event) (to : Name) (k : ℕ) → reported ≡ Report.Sends e to k → number ≡ k) → frame ≡ addressed keys (sealed_in a)
     → option_map (as_sent number) frame ≡ option_map (as_sent n) (addressed keys (sealed_in a))
 frame_is keys n number (Protocol.Happened e) reported frame t h is = ap (option_map (as_sent number)) is
 frame_is keys n number (Protocol.Sends e to f) reported frame t h is = ap (option_map (as_sent number)) is ∙ ap (λ (k : ℕ). option_map (as_sent k) (addressed keys (Some (to, spelling f)))) (h e to n t)
@@ -55,17 +55,17 @@ posted_made n (Some f) = refl
 
 -- ---- a call was reported
 
-module _ (sv : Server) (pl : Player) (s : Serving) (c : Call) (reported : Option Reported) (graph : Option Graph) (frame : Option (Addr × (Name × List ℕ))) (left : Option (List ℕ)) (h : HasCalled sv s c reported graph frame) (leaves : left ≡ sid_left c) where
+module _ (sv : Server) (pl : Player) (s : Serving) (c : Call) (o : Outcome) (frame : Option (Addr × (Name × List ℕ))) (left : Option (List ℕ)) (h : HasCalled sv s c o frame) (leaves : left ≡ sid_left c) where
   -- the number of a frame
   abbrev next : ℕ
   next = length (frames_of s.play.steps) + 1
 
-  pub session_is : (session : Option (List ℕ)) → IfSome reported (λ t. session ≡ session_reported left t) → session ≡ session_in s.play c
+  pub session_is : (session : Option (List ℕ)) → session ≡ session_reported left (outcome_of o) → session ≡ session_in s.play c
   session_is session e =
-      subst (λ (o : Option Reported). IfSome o (λ t. session ≡ session_reported left t)) h.asked.is_reported e ∙ ap (λ (l : Option (List ℕ)). session_reported l (reported_answer next (answer_in s.play c))) leaves
+      e ∙ ap (session_reported left) h.asked.is_reported ∙ ap (λ (l : Option (List ℕ)). session_reported l (reported_answer next (answer_in s.play c))) leaves
 
-  pub made_is : (number : ℕ) → ((e : Event) (to : Name) (k : ℕ) → reported ≡ Some (Report.Sends e to k) → number ≡ k) → option_map (as_sent number) frame ≡ frame_made s.play c
-  made_is number is = frame_is s.play.past.keys next number (answer_in s.play c) reported frame h.asked.is_reported is h.is_frame
+  pub made_is : (number : ℕ) → ((e : Event) (to : Name) (k : ℕ) → outcome_of o ≡ Report.Sends e to k → number ≡ k) → option_map (as_sent number) frame ≡ frame_made s.play c
+  made_is number is = frame_is s.play.past.keys next number (answer_in s.play c) (outcome_of o) frame h.asked.is_reported is h.is_frame
 
   -- the line, the frame, the graphs and the last frames make the reply
   pub replied : (line : List ℕ) (kept copy : Option SentFrame) (gs : List (Option Graph)) (session : Option (List ℕ)) (last : List KeptFrame) (step : Step) → (line ≡ (step_in s.play c).line) × RepresentsPlay pl (called s.play c) → kept ≡ frame_made s.play c → copy ≡ kept

@@ -7,4 +7,4 @@ use Rattle.sg_serve.proofs.server.Server.abandon.Goals as goal
 pub returns-clause-replied : goal.returns-clause-replied
 returns-clause-replied c =
     let asked = c.ask_abandon-outcome in
-    abandoned c.args.self.now c.report.new.self asked.new.self c.args.number c.in-Some.sid (outcome_of asked.result.0) (option_copied asked.result.1) c.report.result (λ p h. sym c.in-Some.is ∙ c.sid.ensures p h) asked.ensures.asked c.report.ensures.replied
+    abandoned c.args.self.now c.report.new.self asked.new.self c.args.number c.in-Some.sid asked.result c.report.result (λ p h. sym c.in-Some.is ∙ c.sid.ensures p h) asked.ensures.asked c.report.ensures.replied

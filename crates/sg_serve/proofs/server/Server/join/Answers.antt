@@ -14,12 +14,11 @@ returns-in-Ok-clause-replied g c = λ s k called has leaves.
     let sv = c.args.self.now in
     let m = c.keep_join.new.self in
     let leaves_now = g.D.Disk.may_leave c.keep_join.new.disk in
-    let reported = outcome_of c.args.outcome.now in
-    let graph = option_copied c.args.graph in
+    let outcome = c.args.outcome.now in
     replied_so _ s c.report.new.self (calls s k) c.report.result
-    (applied c.report.result _ (λ (step : Step). HasReplied c.report.new.self step (calls s k)) (λ step h. h s k (called_with sv leaves_now s k reported graph None called m c.keep_join.ensures.rest) leaves) c.report.ensures.replied)
-    (join_kept sv leaves_now s k reported graph None called m c.keep_join.ensures.rest c.keep_join.ensures.same c.in-Ok.ensures.holds)
+    (applied c.report.result _ (λ (step : Step). HasReplied c.report.new.self step (calls s k)) (λ step h. h s k (called_with sv leaves_now s k outcome None called m c.keep_join.ensures.rest) leaves) c.report.ensures.replied)
+    (join_kept sv leaves_now s k outcome None called m c.keep_join.ensures.rest c.keep_join.ensures.same c.in-Ok.ensures.holds)
 
 pub returns-in-Err-clause-replied : goal.returns-in-Err-clause-replied
 returns-in-Err-clause-replied g c = λ s k called has leaves.
-    join_unkept c.args.self.now (g.D.Disk.may_leave c.keep_join.new.disk) s k (outcome_of c.args.outcome.now) (option_copied c.args.graph) None called has c.in-Err.ensures.images
+    join_unkept c.args.self.now (g.D.Disk.may_leave c.keep_join.new.disk) s k c.args.outcome.now None called has c.in-Err.ensures.images

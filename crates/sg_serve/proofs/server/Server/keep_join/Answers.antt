@@ -7,19 +7,19 @@ use Rattle.sg_serve.proofs.Asking.{holds_after, holds_none, is_new, unkept}
 use Rattle.sg_serve.proofs.server.Server.keep_join.Goals as goal
 
 pub add_join-requires-clause-new : goal.add_join-requires-clause-new
-add_join-requires-clause-new g c = is_new c.args.self.now (g.D.Disk.may_leave c.args.disk.now) (outcome_of c.args.outcome.now) c.requires.asked c.in-Some.ledger c.in-Some.is
+add_join-requires-clause-new g c = is_new c.args.self.now (g.D.Disk.may_leave c.args.disk.now) c.args.outcome.now c.requires.asked c.in-Some.ledger c.in-Some.is
 
 pub returns-in-Ok-clause-holds : goal.returns-in-Ok-clause-holds
 returns-in-Ok-clause-holds g c =
-    holds_after c.args.self.now (g.D.Disk.may_leave c.args.disk.now) (outcome_of c.args.outcome.now) c.requires.asked c.in-Some.ledger c.in-Some.is c.add_join.new.ledger (g.D.Disk.may_leave c.add_join.new.disk) c.in-Ok.ensures.added c.in-Ok.ensures.images
+    holds_after c.args.self.now (g.D.Disk.may_leave c.args.disk.now) c.args.outcome.now c.requires.asked c.in-Some.ledger c.in-Some.is c.add_join.new.ledger (g.D.Disk.may_leave c.add_join.new.disk) c.in-Ok.ensures.added c.in-Ok.ensures.images
 
 pub returns-in-Err-DiskFailed-clause-images : goal.returns-in-Err-DiskFailed-clause-images
 returns-in-Err-DiskFailed-clause-images g c =
-    unkept c.args.self.now (g.D.Disk.may_leave c.args.disk.now) (outcome_of c.args.outcome.now) c.requires.asked c.in-Some.ledger c.in-Some.is (g.D.Disk.may_leave c.add_join.new.disk) c.in-Err-DiskFailed.ensures.between
+    unkept c.args.self.now (g.D.Disk.may_leave c.args.disk.now) c.args.outcome.now c.requires.asked c.in-Some.ledger c.in-Some.is (g.D.Disk.may_leave c.add_join.new.disk) c.in-Err-DiskFailed.ensures.between
 
 pub returns-in-Err-Played-clause-images : goal.returns-in-Err-Played-clause-images
 returns-in-Err-Played-clause-images g c =
-    unkept c.args.self.now (g.D.Disk.may_leave c.args.disk.now) (outcome_of c.args.outcome.now) c.requires.asked c.in-Some.ledger c.in-Some.is (g.D.Disk.may_leave c.add_join.new.disk) c.in-Err-Played.ensures.between
+    unkept c.args.self.now (g.D.Disk.may_leave c.args.disk.now) c.args.outcome.now c.requires.asked c.in-Some.ledger c.in-Some.is (g.D.Disk.may_leave c.add_join.new.disk) c.in-Err-Played.ensures.between
 
 pub returns-in-None-clause-holds : goal.returns-in-None-clause-holds
-returns-in-None-clause-holds g c = holds_none c.args.self.now (g.D.Disk.may_leave c.args.disk.now) (outcome_of c.args.outcome.now) c.requires.asked c.in-None.is
+returns-in-None-clause-holds g c = holds_none c.args.self.now (g.D.Disk.may_leave c.args.disk.now) c.args.outcome.now c.requires.asked c.in-None.is

@@ -28,7 +28,7 @@ pub join-requires : goal.join-requires
 join-requires g c =
     let sv = c.args.self.now in
     record {
-      asked = asked_node sv c.ask_start.new.self (g.D.Disk.may_leave c.args.disk.now) (Start (cast_of_start sv.player.programs.now c.args.start_of.now c.next-nonce.result)) (outcome_of c.in-Ok.outcome) (option_copied c.in-Ok.graph) c.requires.holds
+      asked = asked_node sv c.ask_start.new.self (g.D.Disk.may_leave c.args.disk.now) (Start (cast_of_start sv.player.programs.now c.args.start_of.now c.next-nonce.result)) c.in-Ok.outcome c.requires.holds
           (c.in-Ok.ensures.is_asked 0 c.requires.holds.past c.requires.holds.represents);
     }
 
@@ -39,7 +39,7 @@ returns-in-Ok-clause-replied g c = λ s st w.
     let start = c.args.start_of.now in
     let k = Start (cast_of_start sv.player.programs.now start c.next-nonce.result) in
     let lst = less_represents sv 1 s st in
-    let called = has_called sv c.ask_start.new.self (less 1 s) k (outcome_of c.in-Ok.outcome) (option_copied c.in-Ok.graph) lst c.in-Ok.ensures.rest (λ number. c.in-Ok.ensures.is_asked number s.play.past st.player.node) in
+    let called = has_called sv c.ask_start.new.self (less 1 s) k c.in-Ok.outcome lst c.in-Ok.ensures.rest (λ number. c.in-Ok.ensures.is_asked number s.play.past st.player.node) in
     replied_as images (less 1 s) s c.join.new.self (calls (less 1 s) k) (starts s start) c.join.result refl
     (starts_is s start sv.programs.now sv.player.programs.now c.next-nonce.result c.by_name.result (c.by_name.ensures ∙ ap (λ (x : ScriptStart). find (is_named x.graph) sv.programs.now) c.start_of.view_is) (c.is_none.ensures ∙ ap not c.if-is_none.false) st.programs st.player.programs (c.next-nonce.ensures.drawn s.play.random w))
     (c.join.ensures.replied (less 1 s) k called (ledger_has sv (g.D.Disk.may_leave c.args.disk.now) (less 1 s) c.requires.holds lst) refl)

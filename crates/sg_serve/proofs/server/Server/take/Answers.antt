@@ -22,14 +22,14 @@ returns-in_default-clause-replied g c = λ s st.
 pub join-requires : goal.join-requires
 join-requires g c =
     let sv = c.args.self.now in
-    record { asked = asked_node sv c.ask_deliver.new.self (g.D.Disk.may_leave c.args.disk.now) (Deliver c.as_slice.result.now) (outcome_of c.in-Ok.outcome) (option_copied c.in-Ok.graph) c.requires.holds (c.in-Ok.ensures.is_asked 0 c.requires.holds.past c.requires.holds.represents) }
+    record { asked = asked_node sv c.ask_deliver.new.self (g.D.Disk.may_leave c.args.disk.now) (Deliver c.as_slice.result.now) c.in-Ok.outcome c.requires.holds (c.in-Ok.ensures.is_asked 0 c.requires.holds.past c.requires.holds.represents) }
 
 pub returns-in-Ok-clause-replied : goal.returns-in-Ok-clause-replied
 returns-in-Ok-clause-replied g c = λ s st.
     let sv = c.args.self.now in
     let images = images_if (is_some sv.ledger) (g.D.Disk.may_leave c.join.new.disk) in
     let k = Deliver c.as_slice.result.now in
-    let called = has_called sv c.ask_deliver.new.self s k (outcome_of c.in-Ok.outcome) (option_copied c.in-Ok.graph) st c.in-Ok.ensures.rest (λ number. c.in-Ok.ensures.is_asked number s.play.past st.player.node) in
+    let called = has_called sv c.ask_deliver.new.self s k c.in-Ok.outcome st c.in-Ok.ensures.rest (λ number. c.in-Ok.ensures.is_asked number s.play.past st.player.node) in
     replied_as images s s c.join.new.self (calls s k) (takes s (option_map (λ bytes. bytes.items) c.args.found)) c.join.result refl
     (ap (λ bytes. calls s (Deliver bytes)) c.as_slice.ensures.value ∙ ap (λ f. takes s (option_map (λ bytes. bytes.items) f)) (sym c.in-Some.is))
     (c.join.ensures.replied s k called (ledger_has sv (g.D.Disk.may_leave c.args.disk.now) s c.requires.holds st) refl)
