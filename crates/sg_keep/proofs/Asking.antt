@@ -1,16 +1,17 @@
 -- What a keeper holds before a call, once its node was asked, once the join is kept, and once the turn was played.
 use Rattle.std.proofs.Common.{◌≡◌, ◌⊎◌, ℕ, List, [], ◌++◌, false, length, Option, Some, None, option_and_then, IfSome, Result, Ok, Err, OnOk, refl, sym, ap, ◌∙◌, subst}
 use Rattle.std.proofs.lemmas.List.{append-nil}
+use Rattle.sg_report.specs.Outcome.{outcome_of}
+use Rattle.sg_report.specs.declared.outcome.Outcome.{Outcome}
 use Rattle.sg_ledger.specs.Format.{Join, OpenLedger, Represents}
 use Rattle.sg_node.proofs.Life.{pasts_go_on}
 use Rattle.sg_protocol.specs.Acting.{answer}
 use Rattle.sg_protocol.specs.Calls as Protocol
 use Rattle.sg_protocol.specs.Calls.{Call, Answer}
-use Rattle.sg_protocol.specs.Graph.{Graph}
 use Rattle.sg_protocol.specs.Keyring.{Keyring, Program}
 use Rattle.sg_protocol.specs.Past.{Past, node_of, past_after}
 use Rattle.sg_protocol.specs.Texts.{real}
-use Rattle.sg_report.specs.Reported.{Reported, reported_answer, sid_left}
+use Rattle.sg_report.specs.Reported.{reported_answer, sid_left}
 use Rattle.sg_script.specs.Script.{Choice, Script}
 use Rattle.sg_play.specs.declared.fault.PlayFault.{PlayFault}
 use Rattle.sg_play.specs.declared.fault.PlayFault.TheVariants.{LinkFailed, WriteFailed, OutOfMemory}
@@ -39,8 +40,8 @@ working joins = record { joins = joins; failed = false }
 
 -- ---- the node was asked
 
-pub asked_node : (k : Keeper) (pl : Player) (may_leave : List ℕ → Type 0) (c : Call) (reported : Option Reported) (graph : Option Graph) (h : HoldsJoins k may_leave) → IsAskedOfNode 0 k.player.node pl.node h.past c reported graph None → HasAskedNode (record k { player = pl }) may_leave reported
-asked_node k pl may_leave c reported graph h came = record {
+pub asked_node : (k : Keeper) (pl : Player) (may_leave : List ℕ → Type 0) (c : Call) (o : Outcome) (h : HoldsJoins k may_leave) → IsAskedOfNode 0 k.player.node pl.node h.past c o None → HasAskedNode (record k { player = pl }) may_leave o
+asked_node k pl may_leave c o h came = record {
   past = h.past;
   call = c;
   number = 0;
@@ -52,10 +53,10 @@ asked_node k pl may_leave c reported graph h came = record {
   images = subst (AllRepresent may_leave) h.represents.joins h.images;
 }
 
-pub is_asked : (k : Keeper) (pl : Player) (may_leave : List ℕ → Type 0) (p : Play) (c : Call) (reported : Option Reported) (graph : Option Graph) → HoldsJoins k may_leave → RepresentsKept k p → pl ≡ record k.player { node = pl.node }
-    → ((number : ℕ) → IsAskedOfNode number k.player.node pl.node p.past c reported graph None) → None ≡ sid_left c → IsAsked (record k { player = pl }) p c reported graph
-is_asked k pl may_leave p c reported graph h s is its_asked stays = record {
-  asked = subst (λ (x : Player). HasAsked x p c reported graph []) (sym is) (asked_quiet k.player pl.node p c reported graph s.player its_asked);
+pub is_asked : (k : Keeper) (pl : Player) (may_leave : List ℕ → Type 0) (p : Play) (c : Call) (o : Outcome) → HoldsJoins k may_leave → RepresentsKept k p → pl ≡ record k.player { node = pl.node }
+    → ((number : ℕ) → IsAskedOfNode number k.player.node pl.node p.past c o None) → None ≡ sid_left c → IsAsked (record k { player = pl }) p c o
+is_asked k pl may_leave p c o h s is its_asked stays = record {
+  asked = subst (λ (x : Player). HasAsked x p c o []) (sym is) (asked_quiet k.player pl.node p c o s.player its_asked);
   stays = stays;
   answered_before = s.player.answered;
   in_step = s.in_step;
@@ -74,19 +75,19 @@ reported_join n (Protocol.NotActed x) = refl
 reported_join n Protocol.NotAbandoned = refl
 reported_join n (Protocol.NotDelivered x) = refl
 
-module _ (k : Keeper) (may_leave : List ℕ → Type 0) (reported : Option Reported) (h : HasAskedNode k may_leave reported) where
+module _ (k : Keeper) (may_leave : List ℕ → Type 0) (o : Outcome) (h : HasAskedNode k may_leave o) where
   -- the node's answer
   abbrev given : Answer
   given = answer real (node_of h.past) h.call
 
-  pub join_is : (r : Option Join) → r ≡ option_and_then join_reported reported → r ≡ join_in given
-  join_is r e = e ∙ ap (option_and_then join_reported) h.is_reported ∙ reported_join h.number given
+  pub join_is : (r : Option Join) → r ≡ join_reported (outcome_of o) → r ≡ join_in given
+  join_is r e = e ∙ ap join_reported h.is_reported ∙ reported_join h.number given
 
   -- a pair that joins is new to the ledger
-  pub is_new : IfSome (option_and_then join_reported reported) (IsNew k.ledger.joins)
-  is_new = by (option_and_then join_reported reported) refl
+  pub is_new : IfSome (join_reported (outcome_of o)) (IsNew k.ledger.joins)
+  is_new = by (join_reported (outcome_of o)) refl
     where
-      by : (o : Option Join) → o ≡ option_and_then join_reported reported → IfSome o (IsNew k.ledger.joins)
+      by : (o : Option Join) → o ≡ join_reported (outcome_of o) → IfSome o (IsNew k.ledger.joins)
       by None e = tt
       by (Some j) e = subst (λ (l : OpenLedger). IsNew l.joins j) (sym h.ledger) ((any_call real (node_of h.past) h.call h.range).1 j (sym (join_is (Some j) e)))
 
@@ -97,13 +98,13 @@ module _ (k : Keeper) (may_leave : List ℕ → Type 0) (reported : Option Repor
   represent_now = subst (λ (o : OpenLedger). AllRepresent may_leave o.joins) (sym h.ledger) h.images
 
   -- the node's joins are the ledger's with it
-  pub node_joins : (r : Option Join) → r ≡ option_and_then join_reported reported → k.player.node.joins ≡ with_join k.ledger.joins r
+  pub node_joins : (r : Option Join) → r ≡ join_reported (outcome_of o) → k.player.node.joins ≡ with_join k.ledger.joins r
   node_joins r e =
       h.represents.joins ∙ joins_with h.past h.call h.range
       ∙ (λ i. with_join (sym (ap (λ (o : OpenLedger). o.joins) h.ledger) i) (sym (join_is r e) i))
 
   -- the ledger has it
-  pub holds_after : (l : OpenLedger) (now_leaves : List ℕ → Type 0) (r : Option Join) → r ≡ option_and_then join_reported reported → l ≡ working (with_join k.ledger.joins r) → AllRepresent now_leaves l.joins → HoldsJoins (record k { ledger = l }) now_leaves
+  pub holds_after : (l : OpenLedger) (now_leaves : List ℕ → Type 0) (r : Option Join) → r ≡ join_reported (outcome_of o) → l ≡ working (with_join k.ledger.joins r) → AllRepresent now_leaves l.joins → HoldsJoins (record k { ledger = l }) now_leaves
   holds_after l now_leaves r e is all = record {
     past = past_after real h.past h.call;
     represents = h.represents;
@@ -114,7 +115,7 @@ module _ (k : Keeper) (may_leave : List ℕ → Type 0) (reported : Option Repor
 
 -- ---- the call is reported
 
-module _ (start now : Outside) (may_leave : List ℕ → Type 0) (k : Keeper) (p : Play) (c : Call) (reported : Option Reported) (graph : Option Graph) (a : IsAsked k p c reported graph) where
+module _ (start now : Outside) (may_leave : List ℕ → Type 0) (k : Keeper) (p : Play) (c : Call) (o : Outcome) (a : IsAsked k p c o) where
   -- the joins of the ledger, and those of the node with the call
   pub ledger_has : k.ledger.joins ≡ p.past.first ++ joins_made p.past.calls
   ledger_has = a.ledger ∙ joins_of_node p.past a.answered_before
@@ -142,8 +143,8 @@ module _ (start now : Outside) (may_leave : List ℕ → Type 0) (k : Keeper) (p
     steps_so : length (called p c).steps ≡ length (called p c).past.calls
     steps_so = in_step_on p (called p c) (by_call p c) a.in_step
 
-    pub asked_then : HasAsked m.player p c reported graph []
-    asked_then = subst (λ (pl : Player). HasAsked pl p c reported graph []) (sym same) a.asked
+    pub asked_then : HasAsked m.player p c o []
+    asked_then = subst (λ (pl : Player). HasAsked pl p c o []) (sym same) a.asked
 
     -- the outcome was not given
     pub unreported : (f : PlayFault) → Ended start now (called p c).steps (Err f) → HasKept start now may_leave (with_turn p c) (Err (Played f))

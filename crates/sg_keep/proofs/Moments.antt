@@ -1,10 +1,11 @@
 -- What the images of a disk represent at each moment of a play.
 use Rattle.std.proofs.Common.{◌≡◌, ℕ, List, [], ◌∷◌, ◌++◌, Option, Some, None, option_and_then, Result, Ok, Err, OnOk, inl, ⊎_elim, refl, sym, ap, ◌∙◌, subst, append_assoc}
 use Rattle.std.proofs.lemmas.List.{append-nil}
+use Rattle.sg_report.specs.Outcome.{outcome_of}
+use Rattle.sg_report.specs.declared.outcome.Outcome.{Outcome}
 use Rattle.sg_ledger.specs.Disk.{LeavesOnly}
 use Rattle.sg_ledger.specs.Format.{Join, OpenLedger, Represents}
 use Rattle.sg_ledger.proofs.Moments.{chained, started, weakened}
-use Rattle.sg_report.specs.Reported.{Reported}
 use Rattle.sg_keep.specs.declared.keeper.Keeper.{Keeper}
 use Rattle.sg_keep.specs.Joins.{join_reported, with_join}
 use Rattle.sg_keep.specs.KeptRuns.{AllRepresent, RepresentsEither, RepresentsMore}
@@ -40,10 +41,10 @@ pub all_held : (k : Keeper) (may_leave : List ℕ → Type 0) → HoldsJoins k m
 all_held k may_leave h = subst (λ (l : OpenLedger). AllRepresent may_leave l.joins) (sym h.ledger) h.images
 
 -- the node that was asked has these, and then what the call joined
-pub asked_more : (k : Keeper) (may_leave : List ℕ → Type 0) (reported : Option Reported) → HasAskedNode k may_leave reported → HasMore k.ledger.joins k.player.node.joins
-asked_more k may_leave reported h =
-    let join = option_and_then join_reported reported in
-    subst (HasMore k.ledger.joins) (sym (node_joins k may_leave reported h join refl)) (more_with k.ledger.joins join)
+pub asked_more : (k : Keeper) (may_leave : List ℕ → Type 0) (o : Outcome) → HasAskedNode k may_leave o → HasMore k.ledger.joins k.player.node.joins
+asked_more k may_leave o h =
+    let join = join_reported (outcome_of o) in
+    subst (HasMore k.ledger.joins) (sym (node_joins k may_leave o h join refl)) (more_with k.ledger.joins join)
 
 -- ---- over calls of a disk
 

@@ -1,5 +1,4 @@
 use Rattle.std.proofs.Common.{List, inl, inr, ⊎_elim, Err, ap, ◌∙◌, subst, arith}
-use Rattle.std.specs.Prelude.{option_and_then}
 use Rattle.sg_ledger.specs.Disk.{LeavesOnly}
 use Rattle.sg_ledger.specs.Format.{Join, Represents}
 use Rattle.sg_ledger.specs.declared.ledger.AddJoinFault.{AddJoinFault}
@@ -12,47 +11,47 @@ use Rattle.sg_keep.proofs.Moments.{not_asked_either}
 use Rattle.sg_keep.proofs.keeper.add_join.Goals as goal
 
 pub returns-in_default-clause-added : goal.returns-in_default-clause-added
-returns-in_default-clause-added g c = λ i. record { joins = with_none c.args.ledger.now.joins (option_and_then join_reported (outcome_of c.args.outcome.now)) c.join_in.result c.join_in.ensures c.in_default.is i; failed = c.requires.working i }
+returns-in_default-clause-added g c = λ i. record { joins = with_none c.args.ledger.now.joins (join_reported (outcome_of c.args.outcome.now)) c.join_in.result c.join_in.ensures c.in_default.is i; failed = c.requires.working i }
 
 pub add-requires-clause-role : goal.add-requires-clause-role
-add-requires-clause-role g c = (new_of c.args.ledger.now.joins (option_and_then join_reported (outcome_of c.args.outcome.now)) c.join_in.result c.join_in.ensures c.in-Some.join c.in-Some.is c.requires.new).role
+add-requires-clause-role g c = (new_of c.args.ledger.now.joins (join_reported (outcome_of c.args.outcome.now)) c.join_in.result c.join_in.ensures c.in-Some.join c.in-Some.is c.requires.new).role
 
 pub unreachable-requires : goal.unreachable-requires
 unreachable-requires g c =
-    (new_of c.args.ledger.now.joins (option_and_then join_reported (outcome_of c.args.outcome.now)) c.join_in.result c.join_in.ensures c.in-Some.join c.in-Some.is c.requires.new).absent
+    (new_of c.args.ledger.now.joins (join_reported (outcome_of c.args.outcome.now)) c.join_in.result c.join_in.ensures c.in-Some.join c.in-Some.is c.requires.new).absent
     (c.add.ensures.twice.0 (c.in-Err-Twice.is ∙ ap (λ (f : AddJoinFault). Err f) c.in-Err-Twice.field-0-is))
 
 pub unreachable-requires-in-Err-Full : goal.unreachable-requires-in-Err-Full
 unreachable-requires-in-Err-Full g c =
-    let room = (new_of c.args.ledger.now.joins (option_and_then join_reported (outcome_of c.args.outcome.now)) c.join_in.result c.join_in.ensures c.in-Some.join c.in-Some.is c.requires.new).room in
+    let room = (new_of c.args.ledger.now.joins (join_reported (outcome_of c.args.outcome.now)) c.join_in.result c.join_in.ensures c.in-Some.join c.in-Some.is c.requires.new).room in
     let full = (c.add.ensures.full.0 (c.in-Err-Full.is ∙ ap (λ (f : AddJoinFault). Err f) c.in-Err-Full.field-0-is)).1 in
     omega (arith, room, full)
 
 pub returns-in-Ok-clause-added : goal.returns-in-Ok-clause-added
-returns-in-Ok-clause-added g c = c.in-Ok.ensures.added ∙ ap working (with_one c.args.ledger.now.joins (option_and_then join_reported (outcome_of c.args.outcome.now)) c.join_in.result c.join_in.ensures c.in-Some.join c.in-Some.is)
+returns-in-Ok-clause-added g c = c.in-Ok.ensures.added ∙ ap working (with_one c.args.ledger.now.joins (join_reported (outcome_of c.args.outcome.now)) c.join_in.result c.join_in.ensures c.in-Some.join c.in-Some.is)
 
 pub returns-in-Err-Failed-clause-between : goal.returns-in-Err-Failed-clause-between
 returns-in-Err-Failed-clause-between g c = λ image left.
-    let more = with_one c.args.ledger.now.joins (option_and_then join_reported (outcome_of c.args.outcome.now)) c.join_in.result c.join_in.ensures c.in-Some.join c.in-Some.is in
+    let more = with_one c.args.ledger.now.joins (join_reported (outcome_of c.args.outcome.now)) c.join_in.result c.join_in.ensures c.in-Some.join c.in-Some.is in
     ⊎_elim (λ s. inl s) (λ s. inr (subst (Represents image) more s))
     (c.add.ensures.any_moment.each image (g.met.D.Disk.counts_now c.add.new.disk (g.D.Disk.moment c.args.disk.now) image c.add.ensures.any_moment.later left))
 
 pub returns-in_default-clause-any_moment : goal.returns-in_default-clause-any_moment
 returns-in_default-clause-any_moment g c =
     not_asked_either g.D.Disk.moment g.D.Disk.left_since c.args.disk.now (g.D.Disk.may_leave c.args.disk.now) (g.met.D.Disk.only_now c.args.disk.now) c.args.ledger.now.joins c.requires.images
-    (with_join c.args.ledger.now.joins (option_and_then join_reported (outcome_of c.args.outcome.now)))
+    (with_join c.args.ledger.now.joins (join_reported (outcome_of c.args.outcome.now)))
 
 pub returns-in-Ok-clause-any_moment : goal.returns-in-Ok-clause-any_moment
 returns-in-Ok-clause-any_moment g c =
     subst (λ (js : List Join). LeavesOnly g.D.Disk.moment g.D.Disk.left_since c.args.disk.now c.add.new.disk (RepresentsEither c.args.ledger.now.joins js))
-    (with_one c.args.ledger.now.joins (option_and_then join_reported (outcome_of c.args.outcome.now)) c.join_in.result c.join_in.ensures c.in-Some.join c.in-Some.is) c.add.ensures.any_moment
+    (with_one c.args.ledger.now.joins (join_reported (outcome_of c.args.outcome.now)) c.join_in.result c.join_in.ensures c.in-Some.join c.in-Some.is) c.add.ensures.any_moment
 
 pub returns-in-Err-Failed-clause-any_moment : goal.returns-in-Err-Failed-clause-any_moment
 returns-in-Err-Failed-clause-any_moment g c =
     subst (λ (js : List Join). LeavesOnly g.D.Disk.moment g.D.Disk.left_since c.args.disk.now c.add.new.disk (RepresentsEither c.args.ledger.now.joins js))
-    (with_one c.args.ledger.now.joins (option_and_then join_reported (outcome_of c.args.outcome.now)) c.join_in.result c.join_in.ensures c.in-Some.join c.in-Some.is) c.add.ensures.any_moment
+    (with_one c.args.ledger.now.joins (join_reported (outcome_of c.args.outcome.now)) c.join_in.result c.join_in.ensures c.in-Some.join c.in-Some.is) c.add.ensures.any_moment
 
 pub returns-in-Err-OutOfMemory-clause-any_moment : goal.returns-in-Err-OutOfMemory-clause-any_moment
 returns-in-Err-OutOfMemory-clause-any_moment g c =
     subst (λ (js : List Join). LeavesOnly g.D.Disk.moment g.D.Disk.left_since c.args.disk.now c.add.new.disk (RepresentsEither c.args.ledger.now.joins js))
-    (with_one c.args.ledger.now.joins (option_and_then join_reported (outcome_of c.args.outcome.now)) c.join_in.result c.join_in.ensures c.in-Some.join c.in-Some.is) c.add.ensures.any_moment
+    (with_one c.args.ledger.now.joins (join_reported (outcome_of c.args.outcome.now)) c.join_in.result c.join_in.ensures c.in-Some.join c.in-Some.is) c.add.ensures.any_moment

@@ -1,5 +1,4 @@
 use Rattle.std.proofs.Common.{refl}
-use Rattle.std.specs.Option.{option_copied}
 use Rattle.sg_protocol.specs.Calls.{Deliver}
 use Rattle.sg_report.specs.Outcome.{outcome_of}
 use Rattle.sg_play.specs.Ends.{Outside}
@@ -15,12 +14,12 @@ use Rattle.sg_keep.proofs.keeper.Keeper.deliver.Goals as goal
 pub report-requires : goal.report-requires
 report-requires g c =
     let h = c.requires.holds in
-    record { asked = asked_node c.args.self.now c.ask_deliver.new.self (g.D.Disk.may_leave c.args.disk.now) (Deliver c.args.bytes.now) (outcome_of c.in-Ok.outcome) (option_copied c.in-Ok.graph) h (c.in-Ok.ensures.is_asked 0 h.past h.represents) }
+    record { asked = asked_node c.args.self.now c.ask_deliver.new.self (g.D.Disk.may_leave c.args.disk.now) (Deliver c.args.bytes.now) c.in-Ok.outcome h (c.in-Ok.ensures.is_asked 0 h.past h.represents) }
 
 pub returns-in-Ok-clause-progress : goal.returns-in-Ok-clause-progress
 returns-in-Ok-clause-progress g c = λ p start s w h.
     c.report.ensures.progress p (Deliver c.args.bytes.now) start
-    (is_asked c.args.self.now c.ask_deliver.new.self (g.D.Disk.may_leave c.args.disk.now) p (Deliver c.args.bytes.now) (outcome_of c.in-Ok.outcome) (option_copied c.in-Ok.graph) c.requires.holds s c.in-Ok.ensures.rest (λ number. c.in-Ok.ensures.is_asked number p.past s.player.node) refl)
+    (is_asked c.args.self.now c.ask_deliver.new.self (g.D.Disk.may_leave c.args.disk.now) p (Deliver c.args.bytes.now) c.in-Ok.outcome c.requires.holds s c.in-Ok.ensures.rest (λ number. c.in-Ok.ensures.is_asked number p.past s.player.node) refl)
     w h
 
 pub returns-in-Err-clause-faults : goal.returns-in-Err-clause-faults
@@ -35,7 +34,7 @@ returns-in-Ok-clause-more g c =
     let h = c.requires.holds in
     let leaves = g.D.Disk.may_leave c.args.disk.now in
     let k : Keeper = record c.args.self.now { player = c.ask_deliver.new.self } in
-    let asked = asked_node c.args.self.now c.ask_deliver.new.self leaves (Deliver c.args.bytes.now) (outcome_of c.in-Ok.outcome) (option_copied c.in-Ok.graph) h (c.in-Ok.ensures.is_asked 0 h.past h.represents) in
+    let asked = asked_node c.args.self.now c.ask_deliver.new.self leaves (Deliver c.args.bytes.now) c.in-Ok.outcome h (c.in-Ok.ensures.is_asked 0 h.past h.represents) in
     let more = asked_more k leaves (outcome_of c.in-Ok.outcome) asked in
     more_on_ok c.report.result k.ledger.joins k.player.node.joins c.report.new.self.ledger.joins more c.report.ensures.joins
 
@@ -44,7 +43,7 @@ returns-in-Ok-clause-any_moment g c =
     let h = c.requires.holds in
     let leaves = g.D.Disk.may_leave c.args.disk.now in
     let k : Keeper = record c.args.self.now { player = c.ask_deliver.new.self } in
-    let asked = asked_node c.args.self.now c.ask_deliver.new.self leaves (Deliver c.args.bytes.now) (outcome_of c.in-Ok.outcome) (option_copied c.in-Ok.graph) h (c.in-Ok.ensures.is_asked 0 h.past h.represents) in
+    let asked = asked_node c.args.self.now c.ask_deliver.new.self leaves (Deliver c.args.bytes.now) c.in-Ok.outcome h (c.in-Ok.ensures.is_asked 0 h.past h.represents) in
     let more = asked_more k leaves (outcome_of c.in-Ok.outcome) asked in
     either_more g.D.Disk.moment g.D.Disk.left_since c.args.disk.now c.report.new.disk k.ledger.joins k.player.node.joins more c.report.ensures.any_moment
 
@@ -58,11 +57,10 @@ returns-in-Ok-clause-leaves_at_most g c = λ p s.
     let leaves = g.D.Disk.may_leave c.args.disk.now in
     let now : Outside = record { written = g.O.Sink.written c.args.out.now; sent = g.L.Link.sent c.args.link.now } in
     let k : Keeper = record c.args.self.now { player = c.ask_deliver.new.self } in
-    let reported = outcome_of c.in-Ok.outcome in
-    let graph = option_copied c.in-Ok.graph in
+    let outcome = c.in-Ok.outcome in
     let call = Deliver c.args.bytes.now in
-    let a = is_asked c.args.self.now c.ask_deliver.new.self leaves p call reported graph c.requires.holds s c.in-Ok.ensures.rest (λ number. c.in-Ok.ensures.is_asked number p.past s.player.node) refl in
-    call_at_most g.D.Disk.moment g.D.Disk.left_since c.args.disk.now c.report.new.disk p call k.ledger.joins k.player.node.joins (ledger_has now now leaves k p call reported graph a) (node_has now now leaves k p call reported graph a) c.report.ensures.any_moment
+    let a = is_asked c.args.self.now c.ask_deliver.new.self leaves p call outcome c.requires.holds s c.in-Ok.ensures.rest (λ number. c.in-Ok.ensures.is_asked number p.past s.player.node) refl in
+    call_at_most g.D.Disk.moment g.D.Disk.left_since c.args.disk.now c.report.new.disk p call k.ledger.joins k.player.node.joins (ledger_has now now leaves k p call outcome a) (node_has now now leaves k p call outcome a) c.report.ensures.any_moment
 
 pub returns-in-Err-clause-leaves_at_most : goal.returns-in-Err-clause-leaves_at_most
 returns-in-Err-clause-leaves_at_most g c = λ p s.

@@ -1,5 +1,4 @@
 use Rattle.std.proofs.Common.{◌≡◌, ◌⊎◌, ℕ, List, inl, inr, ⊎_elim, refl, sym, subst}
-use Rattle.std.specs.Prelude.{option_and_then}
 use Rattle.sg_ledger.specs.Disk.{LeavesOnly}
 use Rattle.sg_ledger.specs.Format.{Join, Represents}
 use Rattle.sg_report.specs.Outcome.{outcome_of}
@@ -11,38 +10,38 @@ use Rattle.sg_keep.proofs.Asking.{holds_after, is_new, node_joins, not_failed, r
 use Rattle.sg_keep.proofs.keeper.Keeper.keep_join.Goals as goal
 
 pub add_join-requires-clause-working : goal.add_join-requires-clause-working
-add_join-requires-clause-working g c = not_failed c.args.self.now (g.D.Disk.may_leave c.args.disk.now) (outcome_of c.args.outcome.now) c.requires.asked
+add_join-requires-clause-working g c = not_failed c.args.self.now (g.D.Disk.may_leave c.args.disk.now) c.args.outcome.now c.requires.asked
 
 pub add_join-requires-clause-images : goal.add_join-requires-clause-images
-add_join-requires-clause-images g c = represent_now c.args.self.now (g.D.Disk.may_leave c.args.disk.now) (outcome_of c.args.outcome.now) c.requires.asked
+add_join-requires-clause-images g c = represent_now c.args.self.now (g.D.Disk.may_leave c.args.disk.now) c.args.outcome.now c.requires.asked
 
 pub add_join-requires-clause-new : goal.add_join-requires-clause-new
-add_join-requires-clause-new g c = is_new c.args.self.now (g.D.Disk.may_leave c.args.disk.now) (outcome_of c.args.outcome.now) c.requires.asked
+add_join-requires-clause-new g c = is_new c.args.self.now (g.D.Disk.may_leave c.args.disk.now) c.args.outcome.now c.requires.asked
 
 pub returns-clause-holds : goal.returns-clause-holds
 returns-clause-holds g c =
     let before = g.D.Disk.may_leave c.args.disk.now in
     let after = g.D.Disk.may_leave c.add_join.new.disk in
-    let reported = outcome_of c.args.outcome.now in
-    let join = option_and_then join_reported reported in
+    let outcome = c.args.outcome.now in
+    let join = join_reported (outcome_of outcome) in
     let k = c.args.self.now in
     let ledger = c.add_join.new.ledger in
     on_ok_both c.add_join.result (ledger ≡ working (with_join k.ledger.joins join)) (AllRepresent after ledger.joins) (HoldsJoins (record k { ledger = ledger }) after)
-    (λ is all. holds_after k before reported c.requires.asked ledger after join refl is all) c.add_join.ensures.added c.add_join.ensures.images
+    (λ is all. holds_after k before outcome c.requires.asked ledger after join refl is all) c.add_join.ensures.added c.add_join.ensures.images
 
 pub returns-clause-images : goal.returns-clause-images
 returns-clause-images g c =
     let before = g.D.Disk.may_leave c.args.disk.now in
     let after = g.D.Disk.may_leave c.add_join.new.disk in
-    let reported = outcome_of c.args.outcome.now in
-    let join = option_and_then join_reported reported in
+    let outcome = c.args.outcome.now in
+    let join = join_reported (outcome_of outcome) in
     let k = c.args.self.now in
     on_err c.add_join.result ((image : List ℕ) → after image → Represents image k.ledger.joins ⊎ Represents image (with_join k.ledger.joins join)) ((image : List ℕ) → after image → Represents image k.ledger.joins ⊎ Represents image k.player.node.joins)
-    (λ h image left. ⊎_elim (λ s. inl s) (λ s. inr (subst (Represents image) (sym (node_joins k before reported c.requires.asked join refl)) s)) (h image left)) c.add_join.ensures.between
+    (λ h image left. ⊎_elim (λ s. inl s) (λ s. inr (subst (Represents image) (sym (node_joins k before outcome c.requires.asked join refl)) s)) (h image left)) c.add_join.ensures.between
 
 pub returns-clause-any_moment : goal.returns-clause-any_moment
 returns-clause-any_moment g c =
-    let reported = outcome_of c.args.outcome.now in
+    let outcome = c.args.outcome.now in
     let k = c.args.self.now in
     subst (λ (js : List Join). LeavesOnly g.D.Disk.moment g.D.Disk.left_since c.args.disk.now c.add_join.new.disk (RepresentsEither k.ledger.joins js))
-    (sym (node_joins k (g.D.Disk.may_leave c.args.disk.now) reported c.requires.asked (option_and_then join_reported reported) refl)) c.add_join.ensures.any_moment
+    (sym (node_joins k (g.D.Disk.may_leave c.args.disk.now) outcome c.requires.asked (join_reported (outcome_of outcome)) refl)) c.add_join.ensures.any_moment

@@ -1,6 +1,4 @@
 use Rattle.std.proofs.Common.{◌∙◌, Ok, Err, option_and_then, refl, ap}
-use Rattle.std.specs.Option.{option_copied}
-use Rattle.sg_report.specs.Outcome.{outcome_of}
 use Rattle.sg_report.specs.Reported.{sid_reported}
 use Rattle.sg_ledger.specs.Format.{OpenLedger}
 use Rattle.sg_play.specs.Ends.{Outside}
@@ -20,7 +18,7 @@ returns-in-Err-clause-faults g c =
 
 pub returns-in-Err-clause-progress : goal.returns-in-Err-clause-progress
 returns-in-Err-clause-progress g c = λ p k start a w h.
-    unkept start (record { written = g.O.Sink.written c.args.out.now; sent = g.L.Link.sent c.args.link.now }) (g.D.Disk.may_leave c.keep_join.new.disk) c.args.self.now p k (outcome_of c.args.outcome.now) (option_copied c.args.graph) a
+    unkept start (record { written = g.O.Sink.written c.args.out.now; sent = g.L.Link.sent c.args.link.now }) (g.D.Disk.may_leave c.keep_join.new.disk) c.args.self.now p k c.args.outcome.now a
     c.in-Err.fault c.in-Err.ensures.causes c.in-Err.ensures.images h
 
 -- the disk alone was used before
@@ -37,12 +35,11 @@ returns-in-Err-give-clause-faults g c =
 
 pub returns-in-Err-give-clause-progress : goal.returns-in-Err-give-clause-progress
 returns-in-Err-give-clause-progress g c = λ p k start a w h.
-    let reported = outcome_of c.args.outcome.now in
-    let graph = option_copied c.args.graph in
+    let outcome = c.args.outcome.now in
     let m = c.keep_join.new.self in
     let now : Outside = record { written = g.O.Sink.written c.give.new.out; sent = g.L.Link.sent c.give.new.link } in
-    unreported start now (g.D.Disk.may_leave c.keep_join.new.disk) c.args.self.now p k reported graph a m c.keep_join.ensures.player c.in-Ok.ensures.holds c.in-Err-give.fault
-    (c.in-Err-give.ensures.progress p k start (asked_then start now (g.D.Disk.may_leave c.keep_join.new.disk) c.args.self.now p k reported graph a m c.keep_join.ensures.player c.in-Ok.ensures.holds) a.stays h)
+    unreported start now (g.D.Disk.may_leave c.keep_join.new.disk) c.args.self.now p k outcome a m c.keep_join.ensures.player c.in-Ok.ensures.holds c.in-Err-give.fault
+    (c.in-Err-give.ensures.progress p k start (asked_then start now (g.D.Disk.may_leave c.keep_join.new.disk) c.args.self.now p k outcome a m c.keep_join.ensures.player c.in-Ok.ensures.holds) a.stays h)
 
 pub returns-in-Ok-play_if-clause-faults : goal.returns-in-Ok-play_if-clause-faults
 returns-in-Ok-play_if-clause-faults g c =
@@ -65,15 +62,14 @@ returns-in-Ok-play_if-clause-holds g c =
 
 pub returns-in-Ok-play_if-clause-progress : goal.returns-in-Ok-play_if-clause-progress
 returns-in-Ok-play_if-clause-progress g c = λ p k start a w h.
-    let reported = outcome_of c.args.outcome.now in
-    let graph = option_copied c.args.graph in
+    let outcome = c.args.outcome.now in
     let m = c.keep_join.new.self in
     let leaves = g.D.Disk.may_leave c.keep_join.new.disk in
     let now : Outside = record { written = g.O.Sink.written c.play_if.new.out; sent = g.L.Link.sent c.play_if.new.link } in
-    let given = c.in-Ok-give.ensures.progress p k start (asked_then start now leaves c.args.self.now p k reported graph a m c.keep_join.ensures.player c.in-Ok.ensures.holds) a.stays h in
-    let sid = c.sid_reported.ensures.reported ∙ ap (option_and_then sid_reported) a.asked.is_reported ∙ reported_given _ (answer_in p k) in
+    let given = c.in-Ok-give.ensures.progress p k start (asked_then start now leaves c.args.self.now p k outcome a m c.keep_join.ensures.player c.in-Ok.ensures.holds) a.stays h in
+    let sid = c.sid_reported.ensures.reported ∙ ap sid_reported a.asked.is_reported ∙ reported_given _ (answer_in p k) in
     let turn = turn_given start now c.play_if.new.self (g.R.Fresh.random c.play_if.new.fresh) p k c.sid_reported.result (Ok tt) sid (c.in-Ok-play_if.ensures.progress (called p k) start given.0 w given.1) in
-    (represents_kept start now leaves c.args.self.now p k reported graph a m c.keep_join.ensures.player c.in-Ok.ensures.holds (record m { player = c.play_if.new.self }) turn.0.0, turn.0.1, turn.1)
+    (represents_kept start now leaves c.args.self.now p k outcome a m c.keep_join.ensures.player c.in-Ok.ensures.holds (record m { player = c.play_if.new.self }) turn.0.0, turn.0.1, turn.1)
 
 pub returns-in-Err-play_if-clause-faults : goal.returns-in-Err-play_if-clause-faults
 returns-in-Err-play_if-clause-faults g c =
@@ -90,15 +86,14 @@ returns-in-Err-play_if-clause-faults g c =
 
 pub returns-in-Err-play_if-clause-progress : goal.returns-in-Err-play_if-clause-progress
 returns-in-Err-play_if-clause-progress g c = λ p k start a w h.
-    let reported = outcome_of c.args.outcome.now in
-    let graph = option_copied c.args.graph in
+    let outcome = c.args.outcome.now in
     let m = c.keep_join.new.self in
     let leaves = g.D.Disk.may_leave c.keep_join.new.disk in
     let now : Outside = record { written = g.O.Sink.written c.play_if.new.out; sent = g.L.Link.sent c.play_if.new.link } in
-    let given = c.in-Ok-give.ensures.progress p k start (asked_then start now leaves c.args.self.now p k reported graph a m c.keep_join.ensures.player c.in-Ok.ensures.holds) a.stays h in
-    let sid = c.sid_reported.ensures.reported ∙ ap (option_and_then sid_reported) a.asked.is_reported ∙ reported_given _ (answer_in p k) in
+    let given = c.in-Ok-give.ensures.progress p k start (asked_then start now leaves c.args.self.now p k outcome a m c.keep_join.ensures.player c.in-Ok.ensures.holds) a.stays h in
+    let sid = c.sid_reported.ensures.reported ∙ ap sid_reported a.asked.is_reported ∙ reported_given _ (answer_in p k) in
     let turn = turn_given start now c.play_if.new.self (g.R.Fresh.random c.play_if.new.fresh) p k c.sid_reported.result (Err c.in-Err-play_if.fault) sid (c.in-Err-play_if.ensures.progress (called p k) start given.0 w given.1) in
-    unplayed start now leaves c.args.self.now p k reported graph a m c.keep_join.ensures.player c.in-Ok.ensures.holds c.in-Err-play_if.fault turn
+    unplayed start now leaves c.args.self.now p k outcome a m c.keep_join.ensures.player c.in-Ok.ensures.holds c.in-Err-play_if.fault turn
 
 pub returns-in-Ok-play_if-clause-joins : goal.returns-in-Ok-play_if-clause-joins
 returns-in-Ok-play_if-clause-joins g c = ap (λ (l : OpenLedger). l.joins) c.in-Ok.ensures.holds.ledger ∙ ap (λ (pl : Player). pl.node.joins) c.keep_join.ensures.player

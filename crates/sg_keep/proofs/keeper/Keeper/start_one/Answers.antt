@@ -1,5 +1,4 @@
 use Rattle.std.proofs.Common.{◌≡◌, length, refl, subst}
-use Rattle.std.specs.Option.{option_copied}
 use Rattle.sg_protocol.specs.Calls.{Start}
 use Rattle.sg_report.specs.Outcome.{outcome_of}
 use Rattle.sg_play.specs.Ends.{Outside}
@@ -18,7 +17,7 @@ use Rattle.sg_keep.proofs.keeper.Keeper.start_one.Goals as goal
 pub report-requires : goal.report-requires
 report-requires g c =
     let h = c.requires.holds in
-    record { asked = asked_node c.args.self.now c.ask_start.new.self (g.D.Disk.may_leave c.args.disk.now) (Start (cast_of_start c.args.self.now.player.programs.now c.args.start_of.now c.next-nonce.result)) (outcome_of c.in-Ok.outcome) (option_copied c.in-Ok.graph) h (c.in-Ok.ensures.is_asked 0 h.past h.represents) }
+    record { asked = asked_node c.args.self.now c.ask_start.new.self (g.D.Disk.may_leave c.args.disk.now) (Start (cast_of_start c.args.self.now.player.programs.now c.args.start_of.now c.next-nonce.result)) c.in-Ok.outcome h (c.in-Ok.ensures.is_asked 0 h.past h.represents) }
 
 pub returns-in-Ok-clause-progress : goal.returns-in-Ok-clause-progress
 returns-in-Ok-clause-progress g c = λ p start s w h.
@@ -30,7 +29,7 @@ returns-in-Ok-clause-progress g c = λ p start s w h.
     let is : with_turn q (Start cast) ≡ starts p c.args.start_of.now = start_is p c.args.start_of.now c.args.self.now.player.programs.now c.next-nonce.result cast s.player.programs (c.next-nonce.ensures.drawn p.random w) refl in
     to_same start now (g.D.Disk.may_leave c.report.new.disk) c.report.new.self (g.R.Fresh.random c.report.new.fresh) (with_turn q (Start cast)) (starts p c.args.start_of.now) c.report.result is
     (c.report.ensures.progress q (Start cast) start
-    (is_asked c.args.self.now c.ask_start.new.self leaves q (Start cast) (outcome_of c.in-Ok.outcome) (option_copied c.in-Ok.graph) c.requires.holds t c.in-Ok.ensures.rest (λ number. c.in-Ok.ensures.is_asked number q.past t.player.node) refl)
+    (is_asked c.args.self.now c.ask_start.new.self leaves q (Start cast) c.in-Ok.outcome c.requires.holds t c.in-Ok.ensures.rest (λ number. c.in-Ok.ensures.is_asked number q.past t.player.node) refl)
     (c.next-nonce.ensures.taken p.random w) h)
 
 pub returns-in-Err-clause-faults : goal.returns-in-Err-clause-faults
@@ -45,7 +44,7 @@ returns-in-Ok-clause-more g c =
     let h = c.requires.holds in
     let leaves = g.D.Disk.may_leave c.args.disk.now in
     let k : Keeper = record c.args.self.now { player = c.ask_start.new.self } in
-    let asked = asked_node c.args.self.now c.ask_start.new.self leaves (Start (cast_of_start c.args.self.now.player.programs.now c.args.start_of.now c.next-nonce.result)) (outcome_of c.in-Ok.outcome) (option_copied c.in-Ok.graph) h (c.in-Ok.ensures.is_asked 0 h.past h.represents) in
+    let asked = asked_node c.args.self.now c.ask_start.new.self leaves (Start (cast_of_start c.args.self.now.player.programs.now c.args.start_of.now c.next-nonce.result)) c.in-Ok.outcome h (c.in-Ok.ensures.is_asked 0 h.past h.represents) in
     let more = asked_more k leaves (outcome_of c.in-Ok.outcome) asked in
     more_on_ok c.report.result k.ledger.joins k.player.node.joins c.report.new.self.ledger.joins more c.report.ensures.joins
 
@@ -54,7 +53,7 @@ returns-in-Ok-clause-any_moment g c =
     let h = c.requires.holds in
     let leaves = g.D.Disk.may_leave c.args.disk.now in
     let k : Keeper = record c.args.self.now { player = c.ask_start.new.self } in
-    let asked = asked_node c.args.self.now c.ask_start.new.self leaves (Start (cast_of_start c.args.self.now.player.programs.now c.args.start_of.now c.next-nonce.result)) (outcome_of c.in-Ok.outcome) (option_copied c.in-Ok.graph) h (c.in-Ok.ensures.is_asked 0 h.past h.represents) in
+    let asked = asked_node c.args.self.now c.ask_start.new.self leaves (Start (cast_of_start c.args.self.now.player.programs.now c.args.start_of.now c.next-nonce.result)) c.in-Ok.outcome h (c.in-Ok.ensures.is_asked 0 h.past h.represents) in
     let more = asked_more k leaves (outcome_of c.in-Ok.outcome) asked in
     either_more g.D.Disk.moment g.D.Disk.left_since c.args.disk.now c.report.new.disk k.ledger.joins k.player.node.joins more c.report.ensures.any_moment
 
@@ -68,15 +67,14 @@ returns-in-Ok-clause-leaves_at_most g c = λ p s w.
     let leaves = g.D.Disk.may_leave c.args.disk.now in
     let now : Outside = record { written = g.O.Sink.written c.args.out.now; sent = g.L.Link.sent c.args.link.now } in
     let k : Keeper = record c.args.self.now { player = c.ask_start.new.self } in
-    let reported = outcome_of c.in-Ok.outcome in
-    let graph = option_copied c.in-Ok.graph in
+    let outcome = c.in-Ok.outcome in
     let q : Play = without 1 p in
     let cast = cast_of_start c.args.self.now.player.programs.now c.args.start_of.now c.next-nonce.result in
     let t = kept_without c.args.self.now p q refl refl (without_one c.args.self.now.player p s.player) s in
     let is : with_turn q (Start cast) ≡ starts p c.args.start_of.now = start_is p c.args.start_of.now c.args.self.now.player.programs.now c.next-nonce.result cast s.player.programs (c.next-nonce.ensures.drawn p.random w) refl in
-    let a = is_asked c.args.self.now c.ask_start.new.self leaves q (Start cast) reported graph c.requires.holds t c.in-Ok.ensures.rest (λ number. c.in-Ok.ensures.is_asked number q.past t.player.node) refl in
+    let a = is_asked c.args.self.now c.ask_start.new.self leaves q (Start cast) outcome c.requires.holds t c.in-Ok.ensures.rest (λ number. c.in-Ok.ensures.is_asked number q.past t.player.node) refl in
     subst (λ (z : Play). LeavesAtMost g.D.Disk.moment g.D.Disk.left_since c.args.disk.now c.report.new.disk z (length p.past.calls)) is
-    (call_at_most g.D.Disk.moment g.D.Disk.left_since c.args.disk.now c.report.new.disk q (Start cast) k.ledger.joins k.player.node.joins (ledger_has now now leaves k q (Start cast) reported graph a) (node_has now now leaves k q (Start cast) reported graph a) c.report.ensures.any_moment)
+    (call_at_most g.D.Disk.moment g.D.Disk.left_since c.args.disk.now c.report.new.disk q (Start cast) k.ledger.joins k.player.node.joins (ledger_has now now leaves k q (Start cast) outcome a) (node_has now now leaves k q (Start cast) outcome a) c.report.ensures.any_moment)
 
 pub returns-in-Err-clause-leaves_at_most : goal.returns-in-Err-clause-leaves_at_most
 returns-in-Err-clause-leaves_at_most g c = λ p s w.
