@@ -39,8 +39,7 @@ use std::alloc::AllocError;
 impl<'p> Node<'p> {
     /// Takes bytes that were delivered: the receipt of the frame that they spell, in the session that it continues or joins, or the
     /// first cause for which it is refused. After a refusal the node is as before, and if memory runs out the notes are too. The bytes are
-    /// read once. Too many bytes, a wrong beginning, an unknown graph, a bad cast, an unknown peer, an unknown session and a session at its
-    /// turn are refused without memory.
+    /// read once. Too many bytes and a wrong beginning are refused without memory.
     pub fn receive(
         &mut self,
         bytes: &[u8],
@@ -56,16 +55,38 @@ impl<'p> Node<'p> {
         ensures notes { (past : Past) → RepresentsPast self.old past → OnOk result (notes.new ≡ with_notes notes.old (noted_of real (node_of past) (Deliver bytes.now))) }
         ensures refused { IfOk result (λ r. OnErr r (self.new ≡ self.old)) }
         ensures memory { OnErr result ((self.new ≡ self.old) × (notes.new ≡ notes.old)) }
-        // Memory runs out neither for too many bytes, nor for a wrong beginning, nor for what needs none.
+        // Memory runs out neither for too many bytes nor for a wrong beginning.
         ensures early { (most_frame_bytes < length bytes.now) ⊎ IsErr (read_version 0 bytes.now) → IsOk result }
-        ensures needed { (past : Past) (f : Frame) → RepresentsPast self.old past → read bytes.now ≡ Ok f → OnErr result (may_take_memory (answer real (node_of past) (Deliver bytes.now)) ≡ true) }
     {
         facts_of_bytes(bytes);
         match ReadFrame::new(self.alloc, bytes) {
-            Ok(read) => self.take_frame(&read, notes),
+            Ok(read) => self.receive_frame(&read, notes),
             Err(DecodeFault::Malformed { at }) => Ok(Err(DeliveryRefusal::Malformed { at })),
             Err(DecodeFault::OutOfMemory) => Err(AllocError),
         }
+    }
+
+    /// Takes a frame that was read, as `receive` takes its bytes. An unknown graph, a bad cast, an unknown peer, an unknown session and a
+    /// session at its turn are refused without memory.
+    pub fn receive_frame(
+        &mut self,
+        read: &ReadFrame<'_>,
+        notes: &mut Notes,
+    ) -> Result<Result<Receipt<'p>, DeliveryRefusal<'p>>, OutOfMemory>
+        ensures answer { (past : Past) → RepresentsPast self.old past → IfOk result (λ r. answer real (node_of past) (Deliver read.now.bytes) ≡ answer_of_delivery r) }
+        ensures graph { (past : Past) → RepresentsPast self.old past
+            → IfOk result (λ r. graph_of_delivery r ≡ graph_named (answer_of_delivery r) (graph_of_call real (node_of past) (Deliver read.now.bytes))) }
+        ensures shown { (past : Past) → RepresentsPast self.old past → IfOk result (λ r. IfOk r (λ x. IsReceiptAt (node_of past) read.now.frame x × (x.cast ≡ read.now.frame.join))) }
+        ensures state { (past : Past) → RepresentsPast self.old past → OnOk result (GoesOn self.old self.new (Deliver read.now.bytes) past) }
+        ensures notes { (past : Past) → RepresentsPast self.old past → OnOk result (notes.new ≡ with_notes notes.old (noted_of real (node_of past) (Deliver read.now.bytes))) }
+        ensures refused { IfOk result (λ r. OnErr r (self.new ≡ self.old)) }
+        ensures memory { OnErr result ((self.new ≡ self.old) × (notes.new ≡ notes.old)) }
+        // Memory never runs out for an unknown graph, a bad cast, an unknown peer, an unknown session, or a session that doesn't wait.
+        ensures early { (past : Past) → RepresentsPast self.old past → OnErr result (may_take_memory (answer real (node_of past) (Deliver read.now.bytes)) ≡ true) }
+    {
+        facts_of_bytes(read.bytes());
+        let _programs = self.programs;
+        self.take_frame(read, notes)
     }
 
     // Takes a frame.
