@@ -1,7 +1,7 @@
 use Rattle.std.proofs.Common.{◌≡◌, true, is_ok, map, Some, None, Ok, Err, refl, sym, ◌∙◌, ap, subst}
 use Rattle.std.specs.Prelude.{option_map, slice_get}
 use Rattle.std.specs.List.{AllByRecursion}
-use Rattle.core.proofs.iter.runs.Lists.{slice_get_within}
+use Rattle.std.proofs.lemmas.Option.{slice_get_within}
 use Rattle.sg_model.proofs.Small.{clash}
 use Rattle.sg_model.specs.Lists.{first_some}
 use Rattle.sg_protocol.specs.Calls as Protocol
