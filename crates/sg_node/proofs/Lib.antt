@@ -9,6 +9,7 @@ pub mod Going
 pub mod InSlots
 pub mod Acts
 pub mod Refusing
+pub mod Shown
 pub mod Joined
 pub mod Memory
 pub mod Starts
