@@ -105,7 +105,8 @@ impl<'p> Node<'p> {
         ensures memory { OnErr result ((self.new ≡ self.old) × (notes.new ≡ notes.old)) }
         ensures early { (n : DefinedNode) → RepresentsNode self.old n → OnErr result (may_take_memory (verdict_on real n (Ok read.now.frame)) ≡ true) }
     {
-        match &read.frame().join {
+        let frame = read.frame();
+        match &frame.join {
             Some(cast) => self.join(read, *cast.get(), notes),
             None => self.continue_session(read, notes),
         }

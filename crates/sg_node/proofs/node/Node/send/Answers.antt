@@ -27,22 +27,18 @@ use Rattle.sg_node.proofs.node.Node.send.Goals as goal
 
 pub returns-in_default-clause-answer : goal.returns-in_default-clause-answer
 returns-in_default-clause-answer c =
-    let there = sym c.take.ensures.taken ∙ c.in-Some-AtTurn.is ∙ ap (λ z. Some z) c.in-Some-AtTurn.field-0-is in
     λ past st. (not_there c.self.inside c.self.invariant (node_of past) (subst (λ (z : NodeState). RepresentsPast z past) (sym c.self.view_is) st) c.args.sid c.args.label (values_of c.args.values.now) c.args.confounders.now (sym c.first.ensures ∙ c.in_default.is))
 
 pub returns-in_default-clause-graph : goal.returns-in_default-clause-graph
 returns-in_default-clause-graph c =
-    let there = sym c.take.ensures.taken ∙ c.in-Some-AtTurn.is ∙ ap (λ z. Some z) c.in-Some-AtTurn.field-0-is in
     λ past st. ap (λ a. graph_named a (graph_of_call real (node_of past) (Act c.args.sid c.args.label (values_of c.args.values.now) c.args.confounders.now))) (sym (not_there c.self.inside c.self.invariant (node_of past) (subst (λ (z : NodeState). RepresentsPast z past) (sym c.self.view_is) st) c.args.sid c.args.label (values_of c.args.values.now) c.args.confounders.now (sym c.first.ensures ∙ c.in_default.is)))
 
 pub returns-in_default-clause-state : goal.returns-in_default-clause-state
 returns-in_default-clause-state c =
-    let there = sym c.take.ensures.taken ∙ c.in-Some-AtTurn.is ∙ ap (λ z. Some z) c.in-Some-AtTurn.field-0-is in
     λ past st. subst (λ (z : NodeState). GoesOn z z (Act c.args.sid c.args.label (values_of c.args.values.now) c.args.confounders.now) past) c.self.view_is (stays_by c.self.inside c.self.invariant past (subst (λ (z : NodeState). RepresentsPast z past) (sym c.self.view_is) st) c.args.sid c.args.label (values_of c.args.values.now) c.args.confounders.now c.facts_of_values.ensures c.self.inside.sessions.slots refl Protocol.ActFault.UnknownSession (not_there c.self.inside c.self.invariant (node_of past) (subst (λ (z : NodeState). RepresentsPast z past) (sym c.self.view_is) st) c.args.sid c.args.label (values_of c.args.values.now) c.args.confounders.now (sym c.first.ensures ∙ c.in_default.is)))
 
 pub returns-in_default-clause-notes : goal.returns-in_default-clause-notes
 returns-in_default-clause-notes c =
-    let there = sym c.take.ensures.taken ∙ c.in-Some-AtTurn.is ∙ ap (λ z. Some z) c.in-Some-AtTurn.field-0-is in
     λ past st. with_none c.args.notes.now ∙ ap (with_notes c.args.notes.now) (sym (quiet (node_of past) c.args.sid c.args.label (values_of c.args.values.now) c.args.confounders.now Protocol.ActFault.UnknownSession (not_there c.self.inside c.self.invariant (node_of past) (subst (λ (z : NodeState). RepresentsPast z past) (sym c.self.view_is) st) c.args.sid c.args.label (values_of c.args.values.now) c.args.confounders.now (sym c.first.ensures ∙ c.in_default.is))))
 
 pub take-requires : goal.take-requires
@@ -101,7 +97,6 @@ invariant_of-self-in-Some-Waiting c =
 pub unreachable-requires : goal.unreachable-requires
 unreachable-requires c =
     let at = sym c.in-Some.ensures in
-    let there = sym c.take.ensures.taken ∙ c.in-Some-AtTurn.is ∙ ap (λ z. Some z) c.in-Some-AtTurn.field-0-is in
     some_none (first_at c.self.inside c.self.invariant c.args.sid c.in-Some.index at).live (sym (first_at c.self.inside c.self.invariant c.args.sid c.in-Some.index at).there ∙ sym c.take.ensures.taken ∙ c.in-None.is)
 
 pub returns-in-Ok-clause-answer : goal.returns-in-Ok-clause-answer
