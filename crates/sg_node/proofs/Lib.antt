@@ -10,6 +10,7 @@ pub mod InSlots
 pub mod Acts
 pub mod Refusing
 pub mod Shown
+pub mod ToldApart
 pub mod Joined
 pub mod Memory
 pub mod Starts

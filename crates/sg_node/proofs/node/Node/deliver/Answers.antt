@@ -1,0 +1,28 @@
+use Rattle.std.proofs.Common.{◌≡◌, sym, subst}
+use Rattle.std.specs.Prelude.{Result, OnErr, option_map}
+use Rattle.sg_protocol.specs.Acting.{answer}
+use Rattle.sg_protocol.specs.Calls.{Deliver, Happened, NotDelivered}
+use Rattle.sg_protocol.specs.Past.{node_of}
+use Rattle.sg_protocol.specs.Texts.{real}
+use Rattle.sg_node.specs.Answers.{IsAnswer, answer_of_delivery}
+use Rattle.sg_node.specs.Receipts.{Receipt}
+use Rattle.sg_node.specs.declared.refusal.DeliveryRefusal.{DeliveryRefusal}
+use Rattle.sg_node.proofs.ToldApart.{delivery_told}
+use Rattle.sg_node.proofs.node.Node.deliver.Goals as goal
+
+pub returns-in-Ok-Ok-clause-answer : goal.returns-in-Ok-Ok-clause-answer
+returns-in-Ok-Ok-clause-answer c = λ past st. subst (λ e. answer real (node_of past) (Deliver c.args.bytes.now) ≡ Happened e) (sym c.into_event.ensures)
+    (subst (λ r. answer real (node_of past) (Deliver c.args.bytes.now) ≡ answer_of_delivery r) c.in-Ok-Ok.field-0-is (c.in-Ok-Ok.ensures.answer past st))
+
+pub returns-in-Ok-Err-clause-answer : goal.returns-in-Ok-Err-clause-answer
+returns-in-Ok-Err-clause-answer c = λ past st. subst (λ o. IsAnswer (answer real (node_of past) (Deliver c.args.bytes.now)) (option_map NotDelivered o)) (sym c.into.ensures)
+    (subst (λ r. answer real (node_of past) (Deliver c.args.bytes.now) ≡ answer_of_delivery r) c.in-Ok-Err.field-0-is (c.in-Ok-Err.ensures.answer past st))
+
+pub returns-in-Ok-Err-clause-back : goal.returns-in-Ok-Err-clause-back
+returns-in-Ok-Err-clause-back c = subst (λ (r : Result Receipt DeliveryRefusal). OnErr r (c.receive.new.self ≡ c.args.self.now)) c.in-Ok-Err.field-0-is c.in-Ok-Err.ensures.refused
+
+pub returns-in-Ok-Err-clause-memory : goal.returns-in-Ok-Err-clause-memory
+returns-in-Ok-Err-clause-memory c = λ q. absurd (delivery_told c.in-Ok-Err.refusal c.into.result c.into.ensures q)
+
+pub returns-in-Ok-Err-clause-early : goal.returns-in-Ok-Err-clause-early
+returns-in-Ok-Err-clause-early c = λ h q. delivery_told c.in-Ok-Err.refusal c.into.result c.into.ensures q
