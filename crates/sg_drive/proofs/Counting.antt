@@ -1,5 +1,5 @@
 -- The counts of what is reported, one step more.
-use Rattle.std.proofs.Common.{◌≡◌, ℕ, zero, suc, ◌+◌, ◌<◌, ◌≤◌, Bool, true, false, cond, ◌||◌, if◌then◌else◌, List, [], ◌∷◌, ◌++◌, length, take, filter, filter_map, slice_get, Option, Some, None, option_map, refl, sym, ap, ◌∙◌, subst, inl, inr, arith, append-nil, length-append}
+use Rattle.std.proofs.Common.{◌≡◌, ℕ, zero, suc, ◌+◌, ◌<◌, ◌≤◌, Bool, true, false, cond, ◌||◌, if◌then◌else◌, List, [], ◌∷◌, ◌++◌, length, take, filter, filter_map, slice_get, Option, Some, None, refl, sym, ap, ◌∙◌, subst, inl, inr, arith, append-nil, length-append}
 use Rattle.std.specs.List.{cons_option, list_any}
 use Rattle.std.specs.Option.{option_map_or}
 use Rattle.std.proofs.lemmas.Bool.{cases_Bool}
@@ -9,12 +9,10 @@ use Rattle.sg_text.proofs.Firsts.{firsts-again, firsts-new, has_text-firsts}
 use Rattle.sg_text.proofs.SameSid.{same, same-bytes_eq}
 use Rattle.sg_text.specs.Sessions.{firsts}
 use Rattle.sg_model.specs.Lists.{has_text}
-use Rattle.std.specs.Prelude.{OnOk, Result}
 use Rattle.sg_model.specs.Limits.{most_steps}
-use Rattle.sg_protocol.specs.Calls.{Event, Refusal}
 use Rattle.sg_protocol.specs.Graph.{Graph}
-use Rattle.sg_report.specs.Reported.{Reported, Happened, Sends, Abandoned, NotDelivered}
-use Rattle.sg_drive.specs.Counted.{CanRise, with_event, with_sent, with_session, with_reported}
+use Rattle.sg_report.specs.Reported.{Reported}
+use Rattle.sg_drive.specs.Counted.{CanRise, with_session, with_reported}
 use Rattle.sg_drive.specs.Summary.{Counts, completed, count, counts, is_abandoned, is_received, is_refused, is_sent}
 
 -- ---- one count
@@ -91,34 +89,13 @@ all_taken n xs e = ap (λ k. take k xs) e ∙ whole xs
 -- ---- the loop
 
 -- one step more was counted
-pub counted_more : (g : Graph) (log : List Reported) (i : ℕ) (before after : Counts) (o : Option Reported) → i < length log → before ≡ counts g (take i log) → o ≡ slice_get log i → ((t : Reported) → o ≡ Some t → after ≡ with_reported g t before) → after ≡ counts g (take (i + 1) log)
-counted_more g log i before after o l e reported q =
+pub counted_more : (g : Graph) (log : List Reported) (i : ℕ) (before after : Counts) (t : Reported) → i < length log → before ≡ counts g (take i log) → Some t ≡ slice_get log i → after ≡ with_reported g t before → after ≡ counts g (take (i + 1) log)
+counted_more g log i before after t l e at more =
     let r = got log i l in
     let one : i + 1 ≡ suc i = omega arith in
-    q r.0 (reported ∙ r.1) ∙ ap (with_reported g r.0) e ∙ sym (counts_more g (take i log) r.0) ∙ ap (counts g) (sym r.2) ∙ ap (λ k. counts g (take k log)) (sym one)
-
--- ---- one outcome
-
-pub sends_reported : {V E : Type 0} (g : Graph) (e : Event) (to : List ℕ) (n : ℕ) (c c2 : Counts) (r : Result V E) (reported : Reported) → Some (Sends e to n) ≡ Some reported → OnOk r (c2 ≡ with_sent g e c) → OnOk r (c2 ≡ with_reported g reported c)
-sends_reported g e to n c c2 r reported q h = let same : Sends e to n ≡ reported = cc in subst (λ (t : Reported). OnOk r (c2 ≡ with_reported g t c)) same h
-
-pub event_reported : (g : Graph) (e : Event) (c c2 : Counts) (reported : Reported) → Some (Happened e) ≡ Some reported → c2 ≡ with_event e c → c2 ≡ with_reported g reported c
-event_reported g e c c2 reported q h = let same : Happened e ≡ reported = cc in subst (λ (t : Reported). c2 ≡ with_reported g t c) same h
-
-pub refused_reported : (g : Graph) (o : Option Refusal) (c c2 : Counts) (reported : Reported) → option_map NotDelivered o ≡ Some reported → c2 ≡ record c { refused = c.refused + 1 } → c2 ≡ with_reported g reported c
-refused_reported g None c c2 reported q h = absurd (cc)
-refused_reported g (Some why) c c2 reported q h = let same : NotDelivered why ≡ reported = cc in subst (λ (t : Reported). c2 ≡ with_reported g t c) same h
-
-pub abandoned_reported : (g : Graph) (c c2 : Counts) (reported : Reported) → Some Abandoned ≡ Some reported → c2 ≡ record c { abandoned = c.abandoned + 1 } → c2 ≡ with_reported g reported c
-abandoned_reported g c c2 reported q h = let same : Abandoned ≡ reported = cc in subst (λ (t : Reported). c2 ≡ with_reported g t c) same h
-
--- what counts for nothing
-pub same_reported : (g : Graph) (t : Reported) (c : Counts) (reported : Reported) → Some t ≡ Some reported → c ≡ with_reported g t c → c ≡ with_reported g reported c
-same_reported g t c reported q h = let same : t ≡ reported = cc in subst (λ (t : Reported). c ≡ with_reported g t c) same h
-
-pub fault_reported : {F : Type 0} (g : Graph) (f : F → Reported) (o : Option F) (c : Counts) (reported : Reported) → ((x : F) → c ≡ with_reported g (f x) c) → option_map f o ≡ Some reported → c ≡ with_reported g reported c
-fault_reported g f None c reported h q = absurd (cc)
-fault_reported g f (Some x) c reported h q = same_reported g (f x) c reported q (h x)
+    let both : Some t ≡ Some r.0 = at ∙ r.1 in
+    let same : t ≡ r.0 = cc in
+    more ∙ (λ j. with_reported g (same j) (e j)) ∙ sym (counts_more g (take i log) r.0) ∙ ap (counts g) (sym r.2) ∙ ap (λ k. counts g (take k log)) (sym one)
 
 -- ---- a set of sessions
 
