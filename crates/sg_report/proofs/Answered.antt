@@ -1,5 +1,5 @@
 -- What a node answers, and errors.
-use Rattle.std.proofs.Common.{◌≡◌, Result, Ok, Err, Option, None, refl}
+use Rattle.std.proofs.Common.{◌≡◌, Result, Ok, Err, None, refl}
 use Rattle.sg_protocol.specs.Run.{frame_in}
 use Rattle.sg_node.specs.Answers.{answer_of_delivery, answer_of_start}
 use Rattle.sg_node.specs.Receipts.{Receipt}

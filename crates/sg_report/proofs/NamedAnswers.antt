@@ -1,5 +1,5 @@
 -- Which answers have their names in a graph, and that the graph of others says nothing.
-use Rattle.std.proofs.Common.{◌≡◌, ℕ, ◌<◌, List, true, false, Option, None, true≢false, refl}
+use Rattle.std.proofs.Common.{◌≡◌, ℕ, List, true, false, Option, None, true≢false, refl}
 use Rattle.sg_protocol.specs.Calls.{Answer, Happened, Sends, NotActed, NotDelivered, ActFault, SendFault, Refusal}
 use Rattle.sg_protocol.specs.Graph.{Graph}
 use Rattle.sg_protocol.specs.Named.{names_numbers}
