@@ -1,5 +1,5 @@
 -- Traces by the sids of their sessions.
-use Rattle.std.proofs.Common.{◌≡◌, ℕ, zero, suc, ◌<◌, Bool, false, List, [], ◌∷◌, map, length, get_or, bytes_eq, refl, sym, ◌∙◌, ap, arith}
+use Rattle.std.proofs.Common.{◌≡◌, ℕ, zero, suc, ◌<◌, Bool, false, List, [], ◌∷◌, length, get_or, bytes_eq, refl, sym, ◌∙◌, ap, arith}
 use Rattle.std.specs.Prelude.{Option, Some, None, position, slice_get, MatchOption}
 use Rattle.std.specs.List.{list_any}
 use Rattle.std.specs.Map.{lookup}

@@ -1,23 +1,22 @@
 -- What an event beside a walk makes of the traces of a run.
-use Rattle.std.proofs.Common.{◌≡◌, ℕ, false, List, [], ◌∷◌, ◌++◌, refl, sym, ◌∙◌, ap, subst, inl, inr}
-use Rattle.std.specs.Prelude.{Some, Contains, slice_get}
-use Rattle.sg_certify.specs.Traces.{Trace, Traces}
+use Rattle.std.proofs.Common.{◌≡◌, false, List, [], ◌∷◌, ◌++◌, refl, sym, ◌∙◌, ap, subst, inl, inr}
+use Rattle.std.specs.Prelude.{Some, Contains}
 use Rattle.sg_model.proofs.Members.{contains_from_in, in_right}
 use Rattle.sg_text.proofs.Firsts.{has_text-firsts}
 use Rattle.sg_model.specs.Lists.{has_text}
-use Rattle.sg_protocol.specs.Calls.{Event, sid_of}
+use Rattle.sg_protocol.specs.Calls.{sid_of}
 use Rattle.sg_protocol.specs.Explaining.{IsShown}
 use Rattle.sg_protocol.specs.Frame.{Cast}
 use Rattle.sg_protocol.specs.Graph.{Graph}
-use Rattle.sg_protocol.specs.Run.{run, cast_of_session}
+use Rattle.sg_protocol.specs.Run.{run}
 use Rattle.sg_protocol.specs.Schedule.{graph_with}
 use Rattle.sg_protocol.specs.Texts.{real}
 use Rattle.sg_protocol.specs.World.{Logged}
 use Rattle.sg_certify.specs.Laws.{TracesGoOn}
-use Rattle.sg_certify.specs.Runs.{IsNext, IsTraceOf, AreTraces, sids_of}
-use Rattle.sg_certify.specs.Adding.{GoesAt, with_shown}
+use Rattle.sg_certify.specs.Runs.{IsTraceOf, AreTraces, sids_of}
+use Rattle.sg_certify.specs.Adding.{with_shown}
 use Rattle.sg_certify.proofs.Entries.{IsEntry, entry}
-use Rattle.sg_certify.proofs.Going.{Entry, keys, goes_at, goes_new, added, begins}
+use Rattle.sg_certify.proofs.Going.{goes_at, goes_new, added, begins}
 
 pub traces_go_on : TracesGoOn
 traces_go_on programs s before l g honest e walk old new u n is are add =

@@ -4,7 +4,7 @@ use Rattle.sg_protocol.specs.Calls.{Event, Deliver, Happened}
 use Rattle.sg_protocol.specs.Evidence.{IsView}
 use Rattle.sg_protocol.specs.Frame.{Cast, Frame}
 use Rattle.sg_protocol.specs.Graph.{Graph}
-use Rattle.sg_protocol.specs.Explaining.{AllShown, view_in, IsExample}
+use Rattle.sg_protocol.specs.Explaining.{AllShown, view_in}
 use Rattle.sg_protocol.specs.IsSchedule.{AreCompiled, IsSchedule}
 use Rattle.sg_protocol.specs.Keyring.{Program}
 use Rattle.sg_protocol.specs.Premises.{Premises}

@@ -1,6 +1,6 @@
 -- What is kept of the sessions of a run, and what of a session is its trace.
-use Rattle.std.specs.Prelude.{ℕ, List, ◌≡◌, Bool, true, false, [], map}
-use Rattle.sg_protocol.specs.Calls.{Event, Started, Sent, Received}
+use Rattle.std.specs.Prelude.{ℕ, List, ◌≡◌, [], map}
+use Rattle.sg_protocol.specs.Calls.{Event}
 use Rattle.sg_protocol.specs.Graph.{Graph}
 use Rattle.sg_protocol.specs.Explaining.{AllShown}
 use Rattle.sg_protocol.specs.World.{Logged}

@@ -1,4 +1,4 @@
-use Rattle.std.proofs.Common.{◌≡◌, ◌∙◌, refl, ap}
+use Rattle.std.proofs.Common.{◌∙◌, refl, ap}
 use Rattle.sg_certify.specs.Adding.{with_shown}
 use Rattle.sg_certify.specs.Traces.{Trace}
 use Rattle.sg_walk.specs.Model.{event_of}
