@@ -26,6 +26,9 @@ use Rattle.sg_protocol.specs.Spelling.{spelling, u64}
 use Rattle.sg_protocol.specs.Texts.{real, session_id}
 use Rattle.sg_protocol.specs.Named.{graph_of_call}
 use Rattle.sg_protocol.specs.World.{World, call_of}
+use Rattle.sg_sched.specs.Format.StepsHeld.{step_of}
+use Rattle.sg_sched.specs.declared.step.Step.{Step}
+use Rattle.sg_sched.specs.declared.step.Step.TheVariants as OfSchedule
 use Rattle.sg_walk.specs.Model.{event_of, values_of}
 use Rattle.sg_role.specs.Sending.{with_notes}
 use Rattle.sg_node.specs.Answers.{GoesOn, answer_of_delivery, answer_of_start, graph_named}
@@ -38,7 +41,7 @@ use Rattle.sg_report.specs.Reported.{reported_answer}
 use Rattle.sg_report.specs.declared.outcome.Outcome.{Outcome}
 use Rattle.sg_report.specs.declared.outcome.Outcome.TheVariants as OfStep
 use Rattle.sg_world.specs.StepResults.{IsResult, IsResultOfCall}
-use Rattle.sg_world.specs.RecordModel.{IfReceived, StepResult, no_frame}
+use Rattle.sg_world.specs.RecordModel.{IfReceived, StepResult, cast_begun, no_frame}
 
 -- the notes of a call that begins with none
 noted_first : (blank : StepResult) (notes more : Notes) → blank ≡ no_frame → notes ≡ with_notes blank.notes more → notes ≡ with_notes no_notes more
@@ -87,15 +90,20 @@ results_act s w k number who n label values ds sid confounders old new past c sa
     subst (λ (z : List ℕ). IsResultOfCall number old new past (Act z label values (map (λ (v : ℕ × Value). confounder k v.0) values)) c) (sid_is s n ds sid same at)
     (subst (λ (z : List (List ℕ)). IsResultOfCall number old new past (Act sid label values z) c) are h)
 
+-- a step that starts no session begins the one that its frame joined, if it did
+pub begun_other : (sessions : List NamedSession) (x : Step) (joined : Option Cast) → ((who : Name) (n : ℕ) → x ≡ OfSchedule.Start who n → ⊥) → cast_begun sessions (step_of x) joined ≡ joined
+begun_other sessions (OfSchedule.Start who n) joined never = absurd (never who n refl)
+begun_other sessions other joined never = refl
+
 -- ---- answers
 
 -- the outcome of a step that was sent
-pub results_sent : (number : ℕ) (old new : NodeState) (past : Past) (sid : List ℕ) (label : ℕ) (values : Map Value) (confounders : List (List ℕ)) (h : Begun) (to bytes : List ℕ) (notes : Notes) (blank c : StepResult)
-    → blank ≡ no_frame → c ≡ record { outcome = OfStep.Sent h to number; cast = None; frame = Some bytes; notes = notes } → (f : Frame) → answer real (node_of past) (Act sid label values confounders) ≡ Protocol.Sends (event_of h.event) to f → bytes ≡ spelling f
+pub results_sent : (number : ℕ) (old new : NodeState) (past : Past) (sid : List ℕ) (label : ℕ) (values : Map Value) (confounders : List (List ℕ)) (h : Begun) (to bytes : List ℕ) (joined : Option Cast) (notes : Notes) (blank c : StepResult)
+    → blank ≡ no_frame → c ≡ record { outcome = OfStep.Sent h to number; cast = joined; frame = Some bytes; notes = notes } → (f : Frame) → answer real (node_of past) (Act sid label values confounders) ≡ Protocol.Sends (event_of h.event) to f → bytes ≡ spelling f
     → AreValues values confounders → Some h.graph.now ≡ graph_named (answer real (node_of past) (Act sid label values confounders)) (graph_of_call real (node_of past) (Act sid label values confounders))
     → notes ≡ with_notes blank.notes (noted_of real (node_of past) (Act sid label values confounders)) → GoesOn old new (Act sid label values confounders) past
     → IsResultOfCall number old new past (Act sid label values confounders) c
-results_sent number old new past sid label values confounders h to bytes notes blank c none is f given spelled range graphed noted goes =
+results_sent number old new past sid label values confounders h to bytes joined notes blank c none is f given spelled range graphed noted goes =
     subst (IsResultOfCall number old new past (Act sid label values confounders)) (sym is) (record {
       range = range;
       reported = ap (reported_answer number) (sym given);

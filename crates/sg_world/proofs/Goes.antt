@@ -42,6 +42,7 @@ use Rattle.sg_report.specs.declared.outcome.Outcome.{Outcome}
 use Rattle.sg_report.specs.declared.outcome.Outcome.TheVariants as OfStep
 use Rattle.sg_world.proofs.EntryGraphs.{IsBefore, graph_of_called, learnt_same}
 use Rattle.sg_world.proofs.Pasts.{Named, names, Found, found, after}
+use Rattle.sg_world.proofs.Zipped.{zip_more}
 
 -- what is reported of a longer log
 reported_more : (before xs : List Logged) (l : Logged) → reported_after before (xs ++ l ∷ []) ≡ reported_after before xs ++ reported_outcome (frame_number (before ++ xs)) l.outcome ∷ []
@@ -49,13 +50,6 @@ reported_more before [] l = ap (λ (z : List Logged). reported_outcome (frame_nu
 reported_more before (x ∷ xs) l =
     ap (λ z. reported_outcome (frame_number before) x.outcome ∷ z) (reported_more (before ++ x ∷ []) xs l
     ∙ ap (λ (z : List Logged). reported_after (before ++ x ∷ []) xs ++ reported_outcome (frame_number z) l.outcome ∷ []) (append_assoc before (x ∷ []) xs))
-
--- what entries have learnt, with one more
-learnt_more : (R : TakenStep → Logged → Type 0) (es : List TakenStep) (ls : List Logged) (e : TakenStep) (l : Logged) → AllZip R es ls → R e l → AllZip R (es ++ e ∷ []) (ls ++ l ∷ [])
-learnt_more R [] [] e l h one = (one, tt)
-learnt_more R [] (m ∷ ls) e l h one = absurd h
-learnt_more R (d ∷ es) [] e l h one = absurd h
-learnt_more R (d ∷ es) (m ∷ ls) e l h one = (h.0, learnt_more R es ls e l h.1 one)
 
 -- the record of a run with one more entry
 record Entered (programs : List Program) (s : Schedule) (ps : List Past) (w : World) (l : Logged) (r : Recorded) (x : Step) (honest : List ℕ) (c : StepResult) : Type 0 where
@@ -73,7 +67,7 @@ entered programs s ps w nodes l r k x honest c b h reported learnt frame notes =
       ∙ (λ i. h.reported i ++ reported i ∷ [])
       ∙ ap (λ n. reported_log w.log ++ reported_outcome n l.outcome ∷ []) number
       ∙ sym (reported_more [] w.log l);
-  learnt = learnt_more (IsLearnt programs (with_step s x)) r.entries w.log (record { step = x; outcome = c.outcome; honest = honest }) l (learnt_same programs s x r.entries w.log b.pasts h.learnt) learnt;
+  learnt = zip_more (IsLearnt programs (with_step s x)) r.entries w.log (record { step = x; outcome = c.outcome; honest = honest }) l (learnt_same programs s x r.entries w.log b.pasts h.learnt) learnt;
   notes =
       (λ i. h.notes i ++ notes i ∷ [])
       ∙ sym (map-append (λ (l : Logged). l.notes) w.log (l ∷ []));
@@ -103,11 +97,11 @@ held programs s ps w nodes l r x honest c represent e = record { represent = rep
 -- ---- what an entry has learnt
 
 -- a receipt is of the frame whose call it answers
-received_weaker : {P Q : Receipt → Type 0} (o : Outcome) → ((x : Receipt) → P x → Q x) → IfReceived o P → IfReceived o Q
-received_weaker (OfStep.Received x) f h = f x h
-received_weaker (OfStep.Started d) f h = h
-received_weaker (OfStep.Sent d to frame) f h = h
-received_weaker other f h = tt
+received_weaker : (P Q : Receipt → Type 0) (o : Outcome) → ((x : Receipt) → P x → Q x) → IfReceived o P → IfReceived o Q
+received_weaker P Q (OfStep.Received x) f h = f x h
+received_weaker P Q (OfStep.Started d) f h = h
+received_weaker P Q (OfStep.Sent d to frame) f h = h
+received_weaker P Q other f h = tt
 
 -- an answer with an event is reported with one
 has_event : (n : ℕ) (a : Answer) → events_of_answer a ≢ [] → event_reported (reported_answer n a) ≢ None
@@ -116,11 +110,11 @@ has_event n (Sends e to f) some none = (let q : Some e ≡ None = none in absurd
 has_event n other some none = some refl
 
 -- the cast of a frame that joined is that of the receipt
-cast_received : {P : Receipt → Type 0} (o : Outcome) (cast join : Option Cast) → event_reported (outcome_of o) ≢ None → IfReceived o (λ x. P x × (cast ≡ join)) → cast ≡ join
-cast_received (OfStep.Received x) cast join some h = h.1
-cast_received (OfStep.Started d) cast join some h = absurd h
-cast_received (OfStep.Sent d to frame) cast join some h = absurd h
-cast_received other cast join some h = absurd (some refl)
+cast_received : (P : Receipt → Type 0) (o : Outcome) (cast join : Option Cast) → event_reported (outcome_of o) ≢ None → IfReceived o (λ x. P x × (cast ≡ join)) → cast ≡ join
+cast_received P (OfStep.Received x) cast join some h = h.1
+cast_received P (OfStep.Started d) cast join some h = absurd h
+cast_received P (OfStep.Sent d to frame) cast join some h = absurd h
+cast_received P other cast join some h = absurd (some refl)
 
 -- the cast that the call starts or joins is that of the step
 module _ (s : Schedule) (w : World) (k number : ℕ) (old new : NodeState) (past : Past) (c : StepResult) where
@@ -131,7 +125,7 @@ module _ (s : Schedule) (w : World) (k number : ℕ) (old new : NodeState) (past
       go (Err at) e = absurd (some (ap (λ z. events_of_answer (verdict_on real (node_of past) z)) e))
       go (Ok f) e =
           ap (λ z. option_and_then (λ (f : Frame). f.join) (result_ok z)) e
-          ∙ sym (cast_received c.outcome c.cast f.join (λ q. has_event number (answer real (node_of past) (Deliver bs)) some (ap event_reported (sym performed.reported) ∙ q)) (performed.shown bs f refl e))
+          ∙ sym (cast_received (IsReceiptAt (node_of past) f) c.outcome c.cast f.join (λ q. has_event number (answer real (node_of past) (Deliver bs)) some (ap event_reported (sym performed.reported) ∙ q)) (performed.shown bs f refl e))
 
   its_cast : (x : Step) (call : Call) → call_of real s w k x ≡ Some call → IsResultOfCall number old new past call c → events_of_answer (answer real (node_of past) call) ≢ [] → IfSome (cast_in call) (λ d. cast_begun s.sessions x c.cast ≡ Some d)
   its_cast (StartStep me n) call e performed some = start (cast_of s n) refl e
@@ -169,9 +163,10 @@ learnt_called programs s w k x honest c who number old new call past b is_past i
   shown = λ its bs f before is_deliver reads.
       let two : Some past ≡ Some its = sym is_past ∙ ap (λ (z : World). past_of z who) (sym b.run_is) ∙ before in
       let same : past ≡ its = cc in
+      let one : Some call ≡ Some (Deliver bs) = is_deliver in
       let delivered : call ≡ Deliver bs = cc in
-      received_weaker c.outcome (λ z h. subst (λ (y : Past). IsReceiptAt (node_of y) f z) same h.0) (performed.shown bs f delivered reads);
-  honest = λ some. honest_known s.honest honest (cast_in call) (cast_begun s.sessions x c.cast) (its_cast s w k number old new past c x call is_call performed (λ none. some (ap (λ z. z) none))) known;
+      received_weaker (λ z. IsReceiptAt (node_of past) f z × (c.cast ≡ f.join)) (IsReceiptAt (node_of its) f) c.outcome (λ z h. subst (λ (y : Past). IsReceiptAt (node_of y) f z) same h.0) (performed.shown bs f delivered reads);
+  honest = λ some. honest_known s.honest honest (cast_in call) (cast_begun s.sessions x c.cast) (its_cast s w k number old new past c x call is_call performed some) known;
 }
 
 -- an entry without a call has learnt nothing

@@ -1,3 +1,4 @@
+mod Zipped
 mod Pasts
 mod FreshPeers
 mod EntryGraphs
@@ -25,4 +26,5 @@ mod Gathered
 mod StepLaws
 pub mod EntryCalls
 pub mod Passing
+mod Followed
 mod ShownSteps

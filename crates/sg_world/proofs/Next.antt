@@ -1,6 +1,6 @@
 -- One more step of a replay, by its parts.
 use Rattle.std.proofs.Common.{◌≡◌, ℕ, zero, suc, ◌+◌, ◌<◌, ◌≤◌, ◌^◌, true, ◌&&◌, List, [], ◌∷◌, ◌++◌, map, length, Option, Some, None, option_map, filter_map, refl, sym, ◌∙◌, ap, subst, arith, length-append}
-use Rattle.std.specs.List.{AllZip, list_all, cons_option}
+use Rattle.std.specs.List.{list_all, cons_option}
 use Rattle.std.specs.Option.{option_map_or}
 use Rattle.indexmap.specs.IndexMap.{set_value_at}
 use Rattle.std.proofs.lemmas.Bool.{and_parts}
@@ -30,6 +30,7 @@ use Rattle.sg_world.proofs.EntryGraphs.{is_before}
 use Rattle.sg_world.proofs.Goes.{step_held}
 use Rattle.sg_protocol.proofs.OtherSteps.{schedule_more}
 use Rattle.sg_world.proofs.Pasts.{Named, names, in_names}
+use Rattle.sg_world.proofs.Zipped.{zip_length}
 
 -- a step records one frame at most
 few_framed : (ls : List Logged) → length (filter_map (λ (l : Logged). l.frame) ls) ≤ length ls
@@ -44,14 +45,8 @@ pub frames_few : (programs : List Program) (s : Schedule) (w : World) (nodes : L
 frames_few programs s w nodes r h =
     let a = ap (λ (z : List (List ℕ)). length z) h.frames in
     let b = few_framed w.log in
-    let c = as_many r.entries w.log h.learnt in
+    let c = zip_length (IsLearnt programs s) r.entries w.log h.learnt in
     omega (arith, a, b, c)
-  where
-    as_many : (es : List TakenStep) (ls : List Logged) → AllZip (IsLearnt programs s) es ls → length es ≡ length ls
-    as_many [] [] h = refl
-    as_many [] (l ∷ ls) h = absurd h
-    as_many (e ∷ es) [] h = absurd h
-    as_many (e ∷ es) (l ∷ ls) h = ap suc (as_many es ls h.1)
 
 -- a change of a value leaves the names
 pub names_same : (ns : List Named) (i : ℕ) (new : NodeState) → names (set_value_at ns i new) ≡ names ns

@@ -21,6 +21,8 @@ use Rattle.sg_world.specs.Replay.{Replay, run_of}
 use Rattle.sg_world.specs.Walked.{PremisesHold}
 use Rattle.sg_world.specs.declared.world.World.TheInside.{Inside}
 use Rattle.sg_world.proofs.EntryCalls.{entry_call}
+use Rattle.sg_world.proofs.Worlds.{map_at}
+use Rattle.sg_world.proofs.Zipped.{zip_at, zip_length}
 
 -- the event of an outcome is that which is reported
 pub reported_event : (n : ℕ) (o : Core.Outcome) → events_of_outcome o ≡ option_to_list (event_reported (reported_outcome n o))
@@ -42,11 +44,6 @@ reported_at : (before xs : List Logged) (i : ℕ) (l : Logged) → slice_get xs 
 reported_at before [] i l e = absurd (cc)
 reported_at before (x ∷ xs) zero l e = (let same : x ≡ l = cc in ap (λ (z : Logged). Some (reported_outcome (frame_number before) z.outcome)) same ∙ ap (λ (ls : List Logged). Some (reported_outcome (frame_number ls) l.outcome)) (sym (append-nil before)))
 reported_at before (x ∷ xs) (suc i) l e = reported_at (before ++ x ∷ []) xs i l e ∙ ap (λ (ls : List Logged). Some (reported_outcome (frame_number ls) l.outcome)) (append_assoc before (x ∷ []) (take i xs))
-
-map_at : {A B : Type 0} (f : A → B) (xs : List A) (i : ℕ) (x : A) → slice_get xs i ≡ Some x → slice_get (map f xs) i ≡ Some (f x)
-map_at f [] i x e = absurd (cc)
-map_at f (y ∷ ys) zero x e = (let same : y ≡ x = cc in ap (λ z. Some (f z)) same)
-map_at f (y ∷ ys) (suc i) x e = map_at f ys i x e
 
 -- a list parted at an index
 parted : (xs : List Logged) (i : ℕ) → i < length xs → (l : Logged) × (slice_get xs i ≡ Some l) × (xs ≡ take i xs ++ l ∷ drop (suc i) xs)
@@ -71,20 +68,6 @@ take_whole : (xs : List Logged) (i : ℕ) → i ≡ length xs → take i xs ≡ 
 take_whole [] i e = ap (λ n. take n []) e
 take_whole (x ∷ xs) zero e = absurd (omega (arith, e))
 take_whole (x ∷ xs) (suc i) e = ap (λ ls. x ∷ ls) (take_whole xs i (omega (arith, e)))
-
--- two lists in step
-zip_length : (R : TakenStep → Logged → Type 0) (es : List TakenStep) (ls : List Logged) → AllZip R es ls → length es ≡ length ls
-zip_length R [] [] h = refl
-zip_length R [] (l ∷ ls) h = absurd h
-zip_length R (e ∷ es) [] h = absurd h
-zip_length R (e ∷ es) (l ∷ ls) h = ap suc (zip_length R es ls h.1)
-
-zip_at : (R : TakenStep → Logged → Type 0) (es : List TakenStep) (ls : List Logged) (i : ℕ) (e : TakenStep) (l : Logged) → AllZip R es ls → slice_get es i ≡ Some e → slice_get ls i ≡ Some l → R e l
-zip_at R [] [] i e l h at at' = absurd (cc)
-zip_at R [] (m ∷ ls) i e l h at at' = absurd h
-zip_at R (d ∷ es) [] i e l h at at' = absurd h
-zip_at R (d ∷ es) (m ∷ ls) zero e l h at at' = (let one : d ≡ e = cc in let two : m ≡ l = cc in subst (λ z. R z l) one (subst (R d) two h.0))
-zip_at R (d ∷ es) (m ∷ ls) (suc i) e l h at at' = zip_at R es ls i e l h.1 at at'
 
 -- the entries are those of the replay's run, in which both assumptions hold
 pub record AreOfRun (z : Replay) (entries : List TakenStep) : Type 0 where

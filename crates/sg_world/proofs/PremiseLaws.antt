@@ -18,9 +18,8 @@ use Rattle.sg_protocol.specs.Run.{events_of_outcome, run, world_after_all}
 use Rattle.sg_protocol.specs.Schedule.{Step}
 use Rattle.sg_protocol.specs.Texts.{real, graph_text_of}
 use Rattle.sg_protocol.specs.World.{Logged, new_world}
-use Rattle.sg_world.specs.Entries.{graph_of_entry}
 use Rattle.sg_world.specs.Holds.{Holds, schedule_of}
-use Rattle.sg_world.specs.RecordModel.{Recorded, TakenStep}
+use Rattle.sg_world.specs.RecordModel.{IsLearnt, Recorded, TakenStep}
 use Rattle.sg_world.specs.PremiseFaults.{IsForgedAs, IsForgedFault, IsCollisionAs, IsCollisionFault}
 use Rattle.sg_world.specs.Replay.{Replay, run_of}
 use Rattle.sg_world.specs.Setting.{Setting}
@@ -31,6 +30,7 @@ use Rattle.sg_world.specs.declared.premises.CollisionFault.TheVariants as collis
 use Rattle.sg_world.specs.declared.premises.ForgedFault.{ForgedFault}
 use Rattle.sg_world.specs.declared.premises.ForgedFault.TheVariants as forged
 use Rattle.sg_world.proofs.Pasts.{Named, names, in_names}
+use Rattle.sg_world.proofs.Zipped.{zip_length}
 
 no_items : {A : Type 0} (xs : List A) → length xs ≡ 0 → xs ≡ []
 no_items [] h = refl
@@ -43,11 +43,9 @@ pub as_many : (d : Setting) (nodes : List Named) (r : Recorded) → Holds d node
 as_many d nodes r h =
     let log = (run real d.programs (schedule_of d nodes r)).log in
     let a = ap (λ (z : List Notes). length z) h.run.notes in
-    let b = ap (λ (z : List (Option Graph)). length z) h.run.graphs in
-    let e = length-map r.entries (λ (e : TakenStep). e.graph) in
-    let f = length-map log (graph_of_entry d.programs (schedule_of d nodes r)) in
-    let g = length-map log (λ (l : Logged). l.notes) in
-    omega (arith, a, b, e, f, g)
+    let b = zip_length (IsLearnt d.programs (schedule_of d nodes r)) r.entries log h.run.learnt in
+    let c = length-map log (λ (l : Logged). l.notes) in
+    omega (arith, a, b, c)
 
 -- what was noted is the record of the run
 pub is_record : (d : Setting) (nodes : List Named) (r : Recorded) (noted : List Notes) → Holds d nodes r → noted ≡ r.notes → IsRecord (run real d.programs (schedule_of d nodes r)) noted

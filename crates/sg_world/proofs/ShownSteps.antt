@@ -9,7 +9,6 @@ use Rattle.sg_model.specs.Lists.{has_text}
 use Rattle.sg_law.proofs.Members.{in_right}
 use Rattle.sg_law.proofs.Take.{contains_from_in}
 use Rattle.sg_law.proofs.Upto.{In}
-use Rattle.sg_protocol.proofs.ExplainingWalks.{frames_follow_labels}
 use Rattle.sg_protocol.proofs.NamedRuns.{entries_are_answered, entries_are_named, entries_have_one_graph}
 use Rattle.sg_protocol.proofs.RealHash.{real_hash}
 use Rattle.sg_protocol.specs.Acting.{answer}
@@ -47,6 +46,7 @@ use Rattle.sg_walk.specs.Model.{event_of}
 use Rattle.sg_world.specs.EntriesOfRun.{FitsEntry, IsEntryAdded, IsOutcomeAdded}
 use Rattle.sg_world.specs.RecordModel.{IfReceived, IsLearnt, TakenStep}
 use Rattle.sg_world.specs.Replay.{Replay, run_of}
+use Rattle.sg_world.proofs.Followed.{frames_follow_labels}
 use Rattle.sg_world.proofs.Passing.{AreOfRun, IsAt, entry_there, reported_event}
 
 -- the graph beside an event is the one by which its numbers have names

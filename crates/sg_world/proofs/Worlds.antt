@@ -1,7 +1,7 @@
 -- A replay as its parts keep it.
-use Rattle.std.proofs.Common.{◌≡◌, ℕ, zero, suc, ◌+◌, ◌<◌, ◌≤◌, List, [], ◌∷◌, map, length, sum_by, slice_get, get_or, Option, Some, option_map, arith, sym, ◌∙◌, ap, subst}
+use Rattle.std.proofs.Common.{◌≡◌, ℕ, ◌+◌, ◌<◌, ◌≤◌, List, map, length, sum_by, slice_get, get_or, Bor, Option, None, Some, option_copied, option_map, arith, refl, sym, ◌∙◌, ap, subst}
 use Rattle.std.proofs.lemmas.List.{length-map}
-use Rattle.std.proofs.lemmas.Option.{slice_get_read}
+use Rattle.std.proofs.lemmas.Option.{slice_get-map, slice_get_read}
 use Rattle.sg_model.specs.Last.{last}
 use Rattle.sg_model.specs.Limits.{most_record_before}
 use Rattle.sg_law.proofs.Cut.{last-option_map}
@@ -21,7 +21,9 @@ use Rattle.sg_world.specs.RecordModel.{Recorded, TakenStep}
 use Rattle.sg_world.specs.Indices.{IsIndexOf}
 use Rattle.sg_world.specs.Replay.{Replay, without_steps, with_taken, run_of, size_of, stepped}
 use Rattle.sg_world.specs.Setting.{Setting}
+use Rattle.sg_report.specs.Outcome.{outcome_of}
 use Rattle.sg_report.specs.Reported.{Reported, reported_log}
+use Rattle.sg_report.specs.declared.outcome.Outcome.{Outcome}
 use Rattle.sg_world.proofs.ByName.{indexed}
 use Rattle.sg_world.proofs.Begins.{begins, is_declared, new_named, nothing}
 use Rattle.sg_world.proofs.Pasts.{Named}
@@ -76,10 +78,20 @@ size_after rep new d nodes r x is h step taken small =
     omega (arith, more, after, there, sized, small)
 
 -- what is reported of the last step
-pub last_reported : (rep : Replay) (d : Setting) (nodes : List Named) (r : Recorded) → replay d nodes r ≡ rep → Holds d nodes r → option_map (λ (e : TakenStep). e.reported) (last r.entries) ≡ option_map {U = Option Reported} Some (last (reported_log (run_of rep).log))
-last_reported rep d nodes r is h =
-    sym (last-option_map (λ (e : TakenStep). e.reported) r.entries) ∙ ap (λ (z : List (Option Reported)). last z) h.run.reported ∙ last-option_map (λ (t : Reported). Some t) (reported_log (run_of (replay d nodes r)).log)
-    ∙ ap (λ (z : Replay). option_map {U = Option Reported} Some (last (reported_log (run_of z).log))) is
+pub last_reported : (rep : Replay) (d : Setting) (nodes : List Named) (r : Recorded) → replay d nodes r ≡ rep → Holds d nodes r → (o : Option (Bor Outcome)) → option_copied o ≡ option_map (λ (e : TakenStep). e.outcome) (last r.entries)
+    → option_map (λ (x : Bor Outcome). outcome_of x.now) o ≡ last (reported_log (run_of rep).log)
+last_reported rep d nodes r is h o given =
+    mapped o ∙ ap (option_map outcome_of) given ∙ of_entry (last r.entries)
+    ∙ sym (last-option_map (λ (e : TakenStep). outcome_of e.outcome) r.entries) ∙ ap (λ (z : List Reported). last z) h.run.reported
+    ∙ ap (λ (z : Replay). last (reported_log (run_of z).log)) is
+  where
+    mapped : (o : Option (Bor Outcome)) → option_map (λ (x : Bor Outcome). outcome_of x.now) o ≡ option_map outcome_of (option_copied o)
+    mapped None = refl
+    mapped (Some x) = refl
+
+    of_entry : (o : Option TakenStep) → option_map outcome_of (option_map (λ (e : TakenStep). e.outcome) o) ≡ option_map (λ (e : TakenStep). outcome_of e.outcome) o
+    of_entry None = refl
+    of_entry (Some e) = refl
 
 -- what was noted in each step
 pub noted : (rep : Replay) (d : Setting) (nodes : List Named) (r : Recorded) → replay d nodes r ≡ rep → Holds d nodes r → r.notes ≡ map (λ (l : Logged). l.notes) (run_of rep).log
@@ -88,22 +100,20 @@ noted rep d nodes r is h = h.run.notes ∙ ap (λ (z : Replay). map (λ (l : Log
 -- as much is reported as steps were taken
 pub reported_many : (rep : Replay) (d : Setting) (nodes : List Named) (r : Recorded) → replay d nodes r ≡ rep → Holds d nodes r → length r.entries ≡ length (reported_log (run_of rep).log)
 reported_many rep d nodes r is h =
-    sym (length-map r.entries (λ (e : TakenStep). e.reported)) ∙ ap (λ (z : List (Option Reported)). length z) h.run.reported ∙ length-map (reported_log (run_of (replay d nodes r)).log) (λ (t : Reported). Some t)
-    ∙ ap (λ (z : Replay). length (reported_log (run_of z).log)) is
+    sym (length-map r.entries (λ (e : TakenStep). outcome_of e.outcome)) ∙ ap (λ (z : List Reported). length z) h.run.reported ∙ ap (λ (z : Replay). length (reported_log (run_of z).log)) is
+
+-- a list mapped, at an index
+pub map_at : {A B : Type 0} (f : A → B) (xs : List A) (i : ℕ) (x : A) → slice_get xs i ≡ Some x → slice_get (map f xs) i ≡ Some (f x)
+map_at f xs i x e = slice_get-map f xs i ∙ ap (option_map f) e
 
 -- what is reported of the step at an index
-same_at : (es : List TakenStep) (ts : List Reported) (i : ℕ) (e : TakenStep) → map (λ (e : TakenStep). e.reported) es ≡ map Some ts → slice_get es i ≡ Some e → e.reported ≡ slice_get ts i
-same_at [] ts i e h q = absurd (cc)
-same_at (x ∷ es) [] i e h q = absurd (cc)
-same_at (x ∷ es) (t ∷ ts) zero e h q = cc
-same_at (x ∷ es) (t ∷ ts) (suc i) e h q = same_at es ts i e (cc) q
-
-pub reported_at : (rep : Replay) (d : Setting) (nodes : List Named) (r : Recorded) → replay d nodes r ≡ rep → Holds d nodes r → (i : ℕ) (e : TakenStep) → slice_get r.entries i ≡ Some e → e.reported ≡ slice_get (reported_log (run_of rep).log) i
-reported_at rep d nodes r is h i e q = same_at r.entries (reported_log (run_of (replay d nodes r)).log) i e h.run.reported q ∙ ap (λ (z : Replay). slice_get (reported_log (run_of z).log) i) is
+pub reported_at : (rep : Replay) (d : Setting) (nodes : List Named) (r : Recorded) → replay d nodes r ≡ rep → Holds d nodes r → (i : ℕ) (e : TakenStep) → slice_get r.entries i ≡ Some e → Some (outcome_of e.outcome) ≡ slice_get (reported_log (run_of rep).log) i
+reported_at rep d nodes r is h i e q =
+    sym (map_at (λ (t : TakenStep). outcome_of t.outcome) r.entries i e q) ∙ ap (λ (ts : List Reported). slice_get ts i) h.run.reported ∙ ap (λ (z : Replay). slice_get (reported_log (run_of z).log) i) is
 
 -- and so by a list that is the record's
 pub reported_here : (rep : Replay) (d : Setting) (nodes : List Named) (r : Recorded) → replay d nodes r ≡ rep → Holds d nodes r → (es : List TakenStep) → es ≡ r.entries → (i : ℕ) (e : TakenStep) → i < length rep.schedule.steps → e ≡ get_or es i e
-    → e.reported ≡ slice_get (reported_log (run_of rep).log) i
+    → Some (outcome_of e.outcome) ≡ slice_get (reported_log (run_of rep).log) i
 reported_here rep d nodes r is h es same i e below at =
     let many : length rep.schedule.steps ≡ length r.entries = sym (ap (λ (z : Replay). length z.schedule.steps) is) ∙ length-map r.entries (λ (t : TakenStep). t.step) in
     reported_at rep d nodes r is h i e (slice_get_read r.entries (length rep.schedule.steps) i e many below (at ∙ ap (λ (ts : List TakenStep). get_or ts i e) same))

@@ -1,19 +1,21 @@
 -- Lines that are written one after another.
-use Rattle.std.proofs.Common.{◌≡◌, ℕ, zero, suc, ◌+◌, ◌<◌, List, [], ◌∷◌, ◌++◌, map, length, take, get_or, Option, Some, None, refl, sym, ◌∙◌, ap, subst, inl, inr, arith, append_assoc, append-nil}
+use Rattle.std.proofs.Common.{◌≡◌, ℕ, zero, suc, ◌+◌, ◌<◌, nat_lt, Bool, true, false, if◌then◌else◌, List, [], ◌∷◌, ◌++◌, map, find, length, take, get_or, Bor, Option, Some, None, refl, sym, ◌∙◌, ap, subst, inl, inr, arith, append_assoc, append-nil}
 use Rattle.std.proofs.lemmas.List.{map_more}
 use Rattle.std.specs.Prelude.{OnOk, Result, Ok, Err, unwrap_or}
-use Rattle.std.specs.Option.{option_map_or}
+use Rattle.std.specs.Option.{option_map_or, option_to_list}
 use Rattle.std.specs.Fmt.{decimal}
 use Rattle.sg_text.specs.Sessions.{KnownSessions}
 use Rattle.sg_protocol.specs.Graph.{Graph}
 use Rattle.sg_protocol.specs.Schedule.{who_of}
+use Rattle.sg_node.specs.declared.refusal.ActRefusal.TheVariants.{BadValues}
 use Rattle.sg_report.proofs.NamedAnswers.{reported-anywhere, text-anywhere}
 use Rattle.sg_report.specs.Lines.{by_whom, graph_or_none, line_text, reported_text}
 use Rattle.sg_report.specs.Outcome.{graph_in, outcome_of}
 use Rattle.sg_report.specs.Report.{StepLine, line, lines_from, name_in}
 use Rattle.sg_report.specs.Reported.{CanBeReported, session_reported}
 use Rattle.sg_report.specs.declared.outcome.Outcome.{Outcome}
-use Rattle.sg_world.specs.Account.{graph_reported}
+use Rattle.sg_report.specs.declared.outcome.Outcome.TheVariants as OfStep
+use Rattle.sg_world.specs.Account.{graph_reported, variable_refused}
 use Rattle.sg_world.specs.RecordModel.{TakenStep}
 use Rattle.sg_world.specs.KeptLines.{IsRenamed, left_by, line_kept}
 use Rattle.sg_world.specs.Setting.{Setting}
@@ -64,6 +66,27 @@ module _ (gs : List Graph) (o : Outcome) where
 
   pub other_text : (other : Outcome) → IsRenamed gs o (Some other) → (session : List ℕ) → reported_text session (graph_or_none (graph_in other)) (outcome_of o) ≡ reported_text session (graph_or_none by_line) (outcome_of o)
   other_text other is session = ap (λ g. reported_text session (graph_or_none g) (outcome_of o)) is.1
+
+-- ---- an act that was refused for a variable
+
+module _ (gs : List Graph) (o : Outcome) (x : ℕ) (g : Bor Graph) (is : o ≡ OfStep.NotActed (BadValues x g)) where
+  -- its graph has the variable
+  pub not_renamed : nat_lt x (length g.now.variables) ≡ true → IsRenamed gs o None
+  not_renamed has = subst (λ (z : Outcome). IsRenamed gs z None) (sym is) (inl (ap (λ (b : Bool). if b then Some g.now else find (λ (h : Graph). nat_lt x (length h.variables)) gs) has))
+
+  -- none of the graphs has it
+  pub named_nowhere : nat_lt x (length g.now.variables) ≡ false → find (λ (h : Graph). nat_lt x (length h.variables)) gs ≡ None → IsRenamed gs o None
+  named_nowhere lacks none = subst (λ (z : Outcome). IsRenamed gs z None) (sym is) (inr (ap (λ (b : Bool). if b then Some g.now else find (λ (h : Graph). nat_lt x (length h.variables)) gs) lacks ∙ none))
+
+  -- this is the first that has it
+  pub renamed_to : (h : Bor Graph) → nat_lt x (length g.now.variables) ≡ false → find (λ (h : Graph). nat_lt x (length h.variables)) gs ≡ Some h.now → IsRenamed gs o (Some (OfStep.NotActed (BadValues x h)))
+  renamed_to h lacks at =
+      subst (λ (z : Outcome). IsRenamed gs z (Some (OfStep.NotActed (BadValues x h)))) (sym is)
+      (refl, sym (ap (λ (b : Bool). if b then Some g.now else find (λ (h : Graph). nat_lt x (length h.variables)) gs) lacks ∙ at))
+
+-- of any other outcome the line is by its own graph
+pub not_refused : (gs : List Graph) (o : Outcome) → variable_refused (outcome_of o) ≡ None → IsRenamed gs o None
+not_refused gs o none = inl (ap (λ (z : Option ℕ). option_map_or (λ x. find (λ (h : Graph). nat_lt x (length h.variables)) (option_to_list (graph_in o) ++ gs)) z (graph_in o)) none)
 
 -- what is written of a step is its line
 pub entry_written : {A E : Type 0} (res : Result A E) (m : KnownSessions) (d : Setting) (k : ℕ) (e : TakenStep) (who sid : Option (List ℕ)) (name session : List ℕ) (graph : Option Graph) (old new : List ℕ)

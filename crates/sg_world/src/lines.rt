@@ -112,7 +112,10 @@ fn renamed<'a>(outcome: &Outcome<'_>, graphs: &'a [Graph]) -> Option<Outcome<'a>
     ensures { IsRenamed graphs.now outcome.now result }
 {
     match outcome {
-        Outcome::NotActed(ActRefusal::BadValues { var, graph }) if !has(graph, *var) => {
+        Outcome::NotActed(ActRefusal::BadValues { var, graph }) => {
+            if has(graph, *var) {
+                return None;
+            }
             let graph = first_with(graphs, *var)?;
             Some(Outcome::NotActed(ActRefusal::BadValues { var: *var, graph }))
         }

@@ -70,13 +70,6 @@ impl<'p> Setting<'p> {
         })
     }
 
-    /// The programs.
-    pub fn programs(&self) -> &'p Programs
-        ensures { result.now ≡ self.now.programs }
-    {
-        self.programs
-    }
-
     /// The keys of pairs of principals.
     pub fn keys(&self) -> &PairKeys
         ensures { result.now ≡ self.now.keys }

@@ -21,7 +21,6 @@ use crate::setting::Setting;
 use indexmap::IndexMap;
 use sg_base::{Name, OutOfMemory, RoleSet, Seq};
 use sg_certify::honest_roles;
-use sg_crypt::SharedCast;
 use sg_node::Node;
 use sg_sched::Step;
 use std::alloc::Global;
@@ -94,26 +93,26 @@ pub(crate) fn take_step<'p>(
         step,
         &mut step_result,
     )?;
-    let honest = honest_in(setting, nodes, step, &step_result.cast);
+    let honest = honest_in(setting, nodes, step, &step_result);
     history.put(kept, honest, step_result);
     Ok(())
 }
 
-// The honest roles of the cast of the session that a step starts, or that its frame joined with this cast. It takes no memory.
+// The honest roles of the cast of the session that a step starts, or that its frame joined. It takes no memory.
 fn honest_in<'p>(
     setting: &Setting<'p>,
     nodes: &IndexMap<Name, Node<'p>>,
     step: &Step,
-    cast: &Option<SharedCast>,
+    step_result: &StepResult<'p>,
 ) -> RoleSet
     requires { IsNamed (length setting.now.sessions) (step_of step.now) }
-    ensures { IsHonestIn setting.now.sessions (names_of nodes.now.entries) (step_of step.now) cast.now result }
+    ensures { IsHonestIn setting.now.sessions (names_of nodes.now.entries) (step_of step.now) step_result.now.cast result }
 {
     let honest = Principals { nodes };
     if let Step::Start { session, .. } = step {
         return honest_roles(&honest, &setting.cast(*session));
     }
-    match cast {
+    match &step_result.cast {
         Some(cast) => honest_roles(&honest, cast.get()),
         None => RoleSet::empty(),
     }

@@ -15,11 +15,11 @@ use Rattle.sg_world.proofs.call.abandon.Goals as goal
 pub returns-in-Ok : goal.returns-in-Ok
 returns-in-Ok c = λ number past represents.
     let is = c.in-Ok.ensures.answer past represents in
-    results_quiet number c.args.node.now c.abandon.new.self past (Abandon c.args.sid) Abandoned c.step_result.inside.cast c.step_result.inside.notes _ _ (c.step_result.view_is ∙ c.requires) c.set_outcome.ensures tt
-    (ap (reported_answer number) (sym is)) (ap frame_in (sym is)) (ap (λ a. graph_named a (graph_of_call real (node_of past) (Abandon c.args.sid))) (sym is)) (λ bs f call reads. absurd (cc)) (with_none c.step_result.inside.notes) (c.in-Ok.ensures.state past represents)
+    results_quiet number c.args.node.now c.abandon.new.self past (Abandon c.args.sid) Abandoned c.args.step_result.now.cast c.args.step_result.now.notes _ _ c.requires c.set_outcome.ensures tt
+    (ap (reported_answer number) (sym is)) (ap frame_in (sym is)) (ap (λ a. graph_named a (graph_of_call real (node_of past) (Abandon c.args.sid))) (sym is)) (λ bs f call reads. absurd (cc)) (with_none c.args.step_result.now.notes) (c.in-Ok.ensures.state past represents)
 
 pub returns-in-Err : goal.returns-in-Err
 returns-in-Err c = λ number past represents.
     let is = c.in-Err.ensures.answer past represents in
-    results_quiet number c.args.node.now c.abandon.new.self past (Abandon c.args.sid) NotAbandoned c.step_result.inside.cast c.step_result.inside.notes _ _ (c.step_result.view_is ∙ c.requires) c.set_outcome-in-Err.ensures tt
-    (ap (reported_answer number) (sym is)) (ap frame_in (sym is)) (ap (λ a. graph_named a (graph_of_call real (node_of past) (Abandon c.args.sid))) (sym is)) (λ bs f call reads. absurd (cc)) (with_none c.step_result.inside.notes) (c.in-Err.ensures.state past represents)
+    results_quiet number c.args.node.now c.abandon.new.self past (Abandon c.args.sid) NotAbandoned c.args.step_result.now.cast c.args.step_result.now.notes _ _ c.requires c.set_outcome-in-Err.ensures tt
+    (ap (reported_answer number) (sym is)) (ap frame_in (sym is)) (ap (λ a. graph_named a (graph_of_call real (node_of past) (Abandon c.args.sid))) (sym is)) (λ bs f call reads. absurd (cc)) (with_none c.args.step_result.now.notes) (c.in-Err.ensures.state past represents)

@@ -5,6 +5,9 @@ use Rattle.sg_world.proofs.Passing.{all_taken, of_run}
 use Rattle.sg_world.proofs.ShownSteps.{fits_entry, next_traces}
 use Rattle.sg_world.proofs.world.World.traces.Goals as goal
 
+pub loop-entry-init : goal.loop-entry-init
+loop-entry-init c = c.new-traces.ensures c.args.self.now.programs c.args.self.now.schedule
+
 pub add_entry-requires : goal.add_entry-requires
 add_entry-requires c =
     let h = of_run c.self.inside c.self.invariant c.args.self.now c.self.view_is c.entries-entries.result.now c.entries-entries.ensures c.requires in
