@@ -31,10 +31,8 @@ use Rattle.sg_sched.specs.declared.step.Step.{Step}
 use Rattle.sg_sched.specs.declared.step.Step.TheVariants as OfSchedule
 use Rattle.sg_walk.specs.Model.{event_of, values_of}
 use Rattle.sg_role.specs.Sending.{with_notes}
-use Rattle.sg_node.specs.Answers.{GoesOn, answer_of_delivery, answer_of_start, graph_named}
-use Rattle.sg_node.specs.Receipts.{Receipt, IsReceiptAt}
-use Rattle.sg_node.specs.declared.refusal.StartRefusal.{StartRefusal}
-use Rattle.sg_node.specs.declared.refusal.DeliveryRefusal.{DeliveryRefusal}
+use Rattle.sg_node.specs.Answers.{GoesOn, graph_named}
+use Rattle.sg_node.specs.Receipts.{IsReceiptAt}
 use Rattle.sg_node.specs.declared.answer.Happened.{Happened as Begun}
 use Rattle.sg_report.specs.Outcome.{graph_in, outcome_of}
 use Rattle.sg_report.specs.Reported.{reported_answer}

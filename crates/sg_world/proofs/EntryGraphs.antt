@@ -8,7 +8,6 @@ use Rattle.sg_model.specs.Names.{Name}
 use Rattle.sg_protocol.proofs.FirstSteps.{runs_go_on}
 use Rattle.sg_protocol.specs.Beginnings.{first_steps}
 use Rattle.sg_protocol.specs.Calls.{Call}
-use Rattle.sg_protocol.specs.Graph.{Graph}
 use Rattle.sg_protocol.specs.Keyring.{Program}
 use Rattle.sg_protocol.specs.Past.{Past, node_of}
 use Rattle.sg_protocol.specs.Run.{run}

@@ -13,7 +13,6 @@ use Rattle.sg_protocol.proofs.RealHash.{real_hash}
 use Rattle.sg_protocol.proofs.Sizes.{steps_add_little}
 use Rattle.sg_protocol.proofs.Steps.{runs_go_by_step}
 use Rattle.sg_protocol.specs.IsSchedule.{IsSchedule, IsStep}
-use Rattle.sg_protocol.specs.Graph.{Graph}
 use Rattle.sg_protocol.specs.Keyring.{Program}
 use Rattle.sg_protocol.specs.NodeStates.{NodeState}
 use Rattle.sg_protocol.specs.Run.{run, world_after}

@@ -1,6 +1,6 @@
 -- The entries of a record, gone through in order.
 use Rattle.std.proofs.Common.{◌≡◌, ℕ, zero, suc, ◌+◌, ◌-◌, ◌<◌, true, List, [], ◌∷◌, ◌++◌, map, length, take, drop, get_or, refl, sym, ◌∙◌, ap, subst, arith, append_assoc, append-nil}
-use Rattle.std.specs.Prelude.{Option, Some, None, slice_get}
+use Rattle.std.specs.Prelude.{Some, None, slice_get}
 use Rattle.std.specs.List.{AllZip, list_all}
 use Rattle.std.specs.Option.{option_to_list}
 use Rattle.sg_protocol.specs.Calls as Protocol
@@ -8,7 +8,6 @@ use Rattle.sg_protocol.specs.Calls.{events_of_answer}
 use Rattle.sg_protocol.specs.Run.{run, events_of_outcome}
 use Rattle.sg_protocol.specs.Schedule.{Step}
 use Rattle.sg_protocol.specs.Steps.{frame_number, is_taken}
-use Rattle.sg_protocol.specs.Texts.{real}
 use Rattle.sg_protocol.specs.World as Core
 use Rattle.sg_protocol.specs.World.{Logged}
 use Rattle.sg_certify.specs.Runs.{IsUnbroken}

@@ -1,5 +1,5 @@
 -- What an entry with an event has learnt is what the session's trace asks of it.
-use Rattle.std.proofs.Common.{◌≡◌, ℕ, zero, suc, ◌+◌, ◌-◌, ◌<◌, length, take, get_or, true, false, Bool, ◌||◌, List, [], ◌∷◌, ◌++◌, map, flat_map, Option, Some, None, option_map, option_and_then, slice_get, Ok, refl, sym, ◌∙◌, ap, subst, inl, inr}
+use Rattle.std.proofs.Common.{◌≡◌, ℕ, zero, suc, ◌+◌, ◌-◌, ◌<◌, length, take, get_or, true, false, Bool, ◌||◌, List, [], ◌∷◌, ◌++◌, map, Option, Some, None, option_map, option_and_then, slice_get, refl, sym, ◌∙◌, ap, subst, inl}
 use Rattle.std.specs.Prelude.{if◌then◌else◌, bytes_eq, find, Contains, IfSome}
 use Rattle.std.specs.List.{AllByRecursion, list_any}
 use Rattle.std.specs.Option.{option_to_list}
@@ -14,15 +14,14 @@ use Rattle.sg_protocol.proofs.RealHash.{real_hash}
 use Rattle.sg_protocol.specs.Acting.{answer}
 use Rattle.sg_protocol.specs.Beginnings.{first_steps}
 use Rattle.sg_protocol.specs.Calls.{Answer, Call, Deliver, Event, Happened, Sends, events_of_answer, role_of, sid_of}
-use Rattle.sg_protocol.specs.Evidence.{IsView, View}
+use Rattle.sg_protocol.specs.Evidence.{View}
 use Rattle.sg_protocol.specs.Explaining.{IsExample, IsShown, view_in}
-use Rattle.sg_protocol.specs.Frame.{Cast, Frame}
+use Rattle.sg_protocol.specs.Frame.{Cast}
 use Rattle.sg_protocol.specs.Graph.{Graph}
 use Rattle.sg_protocol.specs.Keyring.{Program}
 use Rattle.sg_protocol.specs.Named.{IsAnswered, IsNamed, IsOfOneGraph, graph_of_call, names_numbers, session_of_call}
 use Rattle.sg_protocol.specs.Notes.{session_of_frame}
 use Rattle.sg_protocol.specs.Past.{Past, node_of}
-use Rattle.sg_protocol.specs.Reading.{read}
 use Rattle.sg_protocol.specs.Run.{cast_in, cast_of_session, events_of, events_of_outcome, run}
 use Rattle.sg_protocol.specs.Schedule.{Schedule, graph_with}
 use Rattle.sg_protocol.specs.Session.{Session, origin}

@@ -7,6 +7,7 @@ use Rattle.std.specs.Fmt.{decimal}
 use Rattle.sg_text.specs.Sessions.{KnownSessions}
 use Rattle.sg_protocol.specs.Graph.{Graph}
 use Rattle.sg_protocol.specs.Schedule.{who_of}
+use Rattle.sg_node.specs.declared.refusal.ActRefusal.{ActRefusal}
 use Rattle.sg_node.specs.declared.refusal.ActRefusal.TheVariants.{BadValues}
 use Rattle.sg_report.proofs.NamedAnswers.{reported-anywhere, text-anywhere}
 use Rattle.sg_report.specs.Lines.{by_whom, graph_or_none, line_text, reported_text}
@@ -87,6 +88,15 @@ module _ (gs : List Graph) (o : Outcome) (x : ℕ) (g : Bor Graph) (is : o ≡ O
 -- of any other outcome the line is by its own graph
 pub not_refused : (gs : List Graph) (o : Outcome) → variable_refused (outcome_of o) ≡ None → IsRenamed gs o None
 not_refused gs o none = inl (ap (λ (z : Option ℕ). option_map_or (λ x. find (λ (h : Graph). nat_lt x (length h.variables)) (option_to_list (graph_in o) ++ gs)) z (graph_in o)) none)
+
+-- none but an act is refused for a variable, and an act for bad values alone
+pub not_an_act : (o : Outcome) → ((why : ActRefusal) → o ≡ OfStep.NotActed why → ⊥) → variable_refused (outcome_of o) ≡ None
+not_an_act (OfStep.NotActed why) never = absurd (never why refl)
+not_an_act other never = refl
+
+pub no_bad_values : (why : ActRefusal) → ((x : ℕ) (g : Bor Graph) → why ≡ BadValues x g → ⊥) → variable_refused (outcome_of (OfStep.NotActed why)) ≡ None
+no_bad_values (BadValues x g) never = absurd (never x g refl)
+no_bad_values other never = refl
 
 -- what is written of a step is its line
 pub entry_written : {A E : Type 0} (res : Result A E) (m : KnownSessions) (d : Setting) (k : ℕ) (e : TakenStep) (who sid : Option (List ℕ)) (name session : List ℕ) (graph : Option Graph) (old new : List ℕ)

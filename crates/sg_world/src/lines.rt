@@ -112,12 +112,24 @@ fn renamed<'a>(outcome: &Outcome<'_>, graphs: &'a [Graph]) -> Option<Outcome<'a>
     ensures { IsRenamed graphs.now outcome.now result }
 {
     match outcome {
-        Outcome::NotActed(ActRefusal::BadValues { var, graph }) => {
+        Outcome::NotActed(refusal) => renamed_act(refusal, graphs),
+        _ => None,
+    }
+}
+
+// The same of an act that was refused.
+fn renamed_act<'a>(refusal: &ActRefusal<'_>, graphs: &'a [Graph]) -> Option<Outcome<'a>>
+    ensures { IsRenamed graphs.now (Outcome.NotActed refusal.now) result }
+{
+    match refusal {
+        ActRefusal::BadValues { var, graph } => {
             if has(graph, *var) {
                 return None;
             }
-            let graph = first_with(graphs, *var)?;
-            Some(Outcome::NotActed(ActRefusal::BadValues { var: *var, graph }))
+            match first_with(graphs, *var) {
+                Some(graph) => Some(Outcome::NotActed(ActRefusal::BadValues { var: *var, graph })),
+                None => None,
+            }
         }
         _ => None,
     }

@@ -2,7 +2,7 @@ use Rattle.std.proofs.Common.{◌≡◌, ◌∙◌, ◌++◌, List, None, Some, 
 use Rattle.std.specs.Prelude.{OnOk}
 use Rattle.sg_protocol.specs.Graph.{Graph}
 use Rattle.sg_report.specs.Lines.{graph_or_none, line_text}
-use Rattle.sg_report.specs.Outcome.{graph_in, outcome_of}
+use Rattle.sg_report.specs.Outcome.{graph_in}
 use Rattle.sg_report.specs.Report.{line}
 use Rattle.sg_report.specs.Reported.{Reported}
 use Rattle.sg_sched.specs.Format.StepsHeld.{step_of}

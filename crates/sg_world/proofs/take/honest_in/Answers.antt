@@ -1,4 +1,4 @@
-use Rattle.std.proofs.Common.{◌≡◌, Option, IfSome, sym, ◌∙◌, ap, subst}
+use Rattle.std.proofs.Common.{Option, IfSome, sym, ◌∙◌, ap, subst}
 use Rattle.sg_certify.specs.Adding.{AreHonestIn}
 use Rattle.sg_protocol.specs.Frame.{Cast}
 use Rattle.sg_sched.specs.Format.StepsHeld.{step_of}

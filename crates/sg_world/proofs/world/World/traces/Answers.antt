@@ -1,6 +1,5 @@
-use Rattle.std.proofs.Common.{arith, subst, sym}
-use Rattle.sg_certify.specs.Runs.{AreTraces, IsUnbroken}
-use Rattle.sg_world.specs.Replay.{Replay}
+use Rattle.std.proofs.Common.{arith, subst}
+use Rattle.sg_certify.specs.Runs.{AreTraces}
 use Rattle.sg_world.proofs.Passing.{all_taken, of_run}
 use Rattle.sg_world.proofs.ShownSteps.{fits_entry, next_traces}
 use Rattle.sg_world.proofs.world.World.traces.Goals as goal
