@@ -1,5 +1,5 @@
 -- What a keeper holds before a call, once its node was asked, once the join is kept, and once the turn was played.
-use Rattle.std.proofs.Common.{◌≡◌, ◌⊎◌, ℕ, List, [], ◌++◌, false, length, Option, Some, None, option_and_then, IfSome, Result, Ok, Err, OnOk, refl, sym, ap, ◌∙◌, subst}
+use Rattle.std.proofs.Common.{◌≡◌, ◌⊎◌, ℕ, List, [], ◌++◌, false, length, Option, Some, None, IfSome, Result, Ok, Err, OnOk, refl, sym, ap, ◌∙◌, subst}
 use Rattle.std.proofs.lemmas.List.{append-nil}
 use Rattle.sg_report.specs.Outcome.{outcome_of}
 use Rattle.sg_report.specs.declared.outcome.Outcome.{Outcome}
@@ -87,7 +87,7 @@ module _ (k : Keeper) (may_leave : List ℕ → Type 0) (o : Outcome) (h : HasAs
   pub is_new : IfSome (join_reported (outcome_of o)) (IsNew k.ledger.joins)
   is_new = by (join_reported (outcome_of o)) refl
     where
-      by : (o : Option Join) → o ≡ join_reported (outcome_of o) → IfSome o (IsNew k.ledger.joins)
+      by : (r : Option Join) → r ≡ join_reported (outcome_of o) → IfSome r (IsNew k.ledger.joins)
       by None e = tt
       by (Some j) e = subst (λ (l : OpenLedger). IsNew l.joins j) (sym h.ledger) ((any_call real (node_of h.past) h.call h.range).1 j (sym (join_is (Some j) e)))
 

@@ -1,5 +1,5 @@
 -- What a player represents once it has reported the outcome of a call.
-use Rattle.std.proofs.Common.{◌≡◌, ℕ, ◌+◌, Bool, true, false, if◌then◌else◌, List, [], ◌∷◌, ◌++◌, map, flat_map, length, Option, Some, None, refl, sym, ap, ◌∙◌, subst, arith}
+use Rattle.std.proofs.Common.{◌≡◌, ℕ, ◌+◌, Bool, true, false, if◌then◌else◌, List, [], ◌∷◌, ◌++◌, map, flat_map, length, Option, None, refl, sym, ap, ◌∙◌, subst, arith}
 use Rattle.std.specs.Fmt.{decimal}
 use Rattle.std.specs.Option.{option_map_or}
 use Rattle.std.proofs.lemmas.List.{append-nil, length-append, map-append}
@@ -17,10 +17,10 @@ use Rattle.sg_protocol.specs.NodeStates.{NodeState}
 use Rattle.sg_protocol.specs.Named.{graph_of_call, names_numbers}
 use Rattle.sg_protocol.specs.Past.{AnsweredCall, node_of, past_after}
 use Rattle.sg_protocol.specs.Texts.{real}
-use Rattle.sg_report.proofs.NamedAnswers.{text-anywhere}
+use Rattle.sg_report.proofs.NamedAnswers.{reported-without_numbers, text-anywhere}
 use Rattle.sg_report.specs.Lines.{by_whom, graph_or_none, line_text, reported_text}
 use Rattle.sg_report.specs.Outcome.{graph_in}
-use Rattle.sg_report.specs.Reported.{CanBeReported, Reported, reported_answer, session_reported, sid_left, sid_reported}
+use Rattle.sg_report.specs.Reported.{Reported, reported_answer, session_reported, sid_left, sid_reported}
 use Rattle.sg_report.specs.declared.outcome.Outcome.{Outcome}
 use Rattle.sg_play.specs.declared.player.Player.{Player}
 use Rattle.sg_play.specs.Asking.{IsAsked, IsAskedWithFrames, sealed_in}
@@ -132,21 +132,13 @@ known_with p c = sym (known_after p.past.calls (record { call = c; answer = answ
 pub reported_rest : (old known : Player) (number : ℕ) → known ≡ record old { names = known.names } → number ≡ known.steps + 1 → record known { steps = number } ≡ record old { names = known.names; steps = old.steps + 1 }
 reported_rest old known number is next = (λ i. record (is i) { steps = next i }) ∙ (λ i. record old { names = known.names; steps = (is i).steps + 1 })
 
--- what names nothing is reported without a graph
-unnamed : (k : ℕ) (a : Answer) → names_numbers a ≡ false → CanBeReported None (reported_answer k a)
-unnamed k (Protocol.Happened e) h = (let q : true ≡ false = h in absurd (cc))
-unnamed k (Protocol.Sends e to f) h = (let q : true ≡ false = h in absurd (cc))
-unnamed k (Protocol.NotActed (Protocol.ActFault.Send (Protocol.SendFault.BadValues x))) h = (let q : true ≡ false = h in absurd (cc))
-unnamed k (Protocol.NotDelivered (Protocol.Refusal.BadOpening x)) h = (let q : true ≡ false = h in absurd (cc))
-unnamed k other h = tt
-
--- so its text is that by the graph of the call
+-- what names nothing has the same text by the graph of the call
 text_by : (session : List ℕ) (k : ℕ) (a : Answer) (g : Option Graph) → reported_text session (graph_or_none (graph_named a g)) (reported_answer k a) ≡ reported_text session (graph_or_none g) (reported_answer k a)
 text_by session k a g = by (names_numbers a) refl
   where
     by : (b : Bool) → names_numbers a ≡ b → reported_text session (graph_or_none (if b then g else None)) (reported_answer k a) ≡ reported_text session (graph_or_none g) (reported_answer k a)
     by true e = refl
-    by false e = text-anywhere session (graph_or_none None) (graph_or_none g) (reported_answer k a) (unnamed k a e)
+    by false e = text-anywhere session (graph_or_none None) (graph_or_none g) (reported_answer k a) (reported-without_numbers None k a e)
 
 -- the line is that of the step
 pub line_is : (pl : Player) (p : Play) (c : Call) (o : Outcome) (left : Option (List ℕ)) (made : List (Addr × List ℕ)) (line : List ℕ) → HasAsked pl p c o made → left ≡ sid_left c

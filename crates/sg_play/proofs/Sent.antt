@@ -8,6 +8,7 @@ use Rattle.sg_report.specs.declared.outcome.Outcome.TheVariants as held
 use Rattle.sg_node.specs.declared.answer.Happened.{Happened as Begun}
 use Rattle.sg_report.specs.Outcome.{outcome_of}
 use Rattle.sg_report.specs.Reported.{Reported, Sends, reported_answer}
+use Rattle.sg_walk.specs.Model.{event_of}
 use Rattle.sg_play.specs.Turns.{is_sent}
 
 -- a frame was sent
@@ -29,8 +30,8 @@ reported_so : (k : ℕ) (a : Answer) (t : Reported) → t ≡ reported_answer k 
 reported_so k a t e = ap tells_sent e ∙ answer_sent k a
 
 pub was_sent : (o : Outcome) (sent : Begun) (to : Name) (frame k : ℕ) (a : Answer) → o ≡ held.Sent sent to frame → outcome_of o ≡ reported_answer k a → true ≡ is_sent a
-was_sent o sent to frame k a is e = reported_so k a _ (subst (λ (z : Outcome). outcome_of z ≡ reported_answer k a) is e)
+was_sent o sent to frame k a is e = reported_so k a (Sends (event_of sent.event) to frame) (subst (λ (z : Outcome). outcome_of z ≡ reported_answer k a) is e)
 
 pub was_not : (o : Outcome) (k : ℕ) (a : Answer) → ((sent : Begun) (to : Name) (frame : ℕ) → o ≡ held.Sent sent to frame → ⊥) → outcome_of o ≡ reported_answer k a → false ≡ is_sent a
 was_not (held.Sent sent to frame) k a never e = absurd (never sent to frame refl)
-was_not other k a never e = reported_so k a _ e
+was_not other k a never e = reported_so k a (outcome_of other) e

@@ -1,5 +1,5 @@
 -- What a server holds before a call, once its node was asked, and once the join is kept.
-use Rattle.std.proofs.Common.{◌≡◌, ◌⊎◌, ⊎_elim, inl, inr, ℕ, List, [], true, false, Option, Some, None, is_some, option_and_then, IfSome, Result, Ok, Err, OnOk, refl, sym, ap, ◌∙◌, subst}
+use Rattle.std.proofs.Common.{◌≡◌, ◌⊎◌, ⊎_elim, inl, inr, ℕ, List, [], true, false, Option, Some, None, is_some, IfSome, Result, Ok, Err, OnOk, refl, sym, ap, ◌∙◌, subst}
 use Rattle.sg_base.specs.declared.address.Addr.{Addr}
 use Rattle.sg_keep.proofs.NewJoins.{any_call, joins_of_node, joins_with}
 use Rattle.sg_keep.specs.Joins.{IsNew, join_in, join_reported, joins_made, with_join}
@@ -15,10 +15,11 @@ use Rattle.sg_play.specs.declared.player.Player.{Player}
 use Rattle.sg_protocol.specs.Acting.{answer}
 use Rattle.sg_protocol.specs.Calls as Protocol
 use Rattle.sg_protocol.specs.Calls.{Call, Answer}
-use Rattle.sg_protocol.specs.Graph.{Graph}
 use Rattle.sg_protocol.specs.Past.{Past, node_of, past_after}
 use Rattle.sg_protocol.specs.Texts.{real}
-use Rattle.sg_report.specs.Reported.{Reported, reported_answer}
+use Rattle.sg_report.specs.Outcome.{outcome_of}
+use Rattle.sg_report.specs.declared.outcome.Outcome.{Outcome}
+use Rattle.sg_report.specs.Reported.{reported_answer}
 use Rattle.sg_serve.specs.declared.server.Server.{Server}
 use Rattle.sg_serve.specs.Served.{images_if, joins_kept, joins_of}
 use Rattle.sg_serve.specs.Serving.{Serving, Reply}
@@ -51,6 +52,7 @@ has_called sv pl s c o h is is_asked = record {
   is_frame = ap (addressed s.play.past.keys) (is_asked 0).is_sealed;
   programs = h.programs;
   graphs = h.graphs;
+  enough = h.enough;
   last = h.last;
 }
 

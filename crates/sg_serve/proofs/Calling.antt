@@ -20,7 +20,8 @@ use Rattle.sg_protocol.specs.Calls.{Abandon, Act, Call, Start}
 use Rattle.sg_protocol.specs.Graph.{Graph}
 use Rattle.sg_protocol.specs.Keyring.{Program}
 use Rattle.sg_sched_text.specs.Adding.{is_twice, known_values}
-use Rattle.sg_report.specs.Reported.{Reported, sid_left}
+use Rattle.sg_report.specs.declared.outcome.Outcome.{Outcome}
+use Rattle.sg_report.specs.Reported.{sid_left}
 use Rattle.sg_sched.specs.Format.LineContents.{Assignment}
 use Rattle.sg_script.specs.Script.{Start as ScriptStart}
 use Rattle.sg_serve.specs.declared.fault.ServeFault.{ServeFault}
@@ -39,6 +40,7 @@ called_made sv pl s c o frame st asked is = record {
   is_frame = is;
   programs = st.programs;
   graphs = st.graphs;
+  enough = st.enough;
   last = st.last;
 }
 
@@ -76,6 +78,7 @@ less_represents sv n s st = record {
   };
   programs = st.programs;
   graphs = st.graphs;
+  enough = st.enough;
   last = st.last;
 }
 

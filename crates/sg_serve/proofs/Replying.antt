@@ -9,10 +9,9 @@ use Rattle.sg_base.specs.declared.address.Addr.{Addr}
 use Rattle.sg_model.specs.Names.{Name}
 use Rattle.sg_play.specs.Steps.{Step}
 use Rattle.sg_protocol.specs.Calls.{Call}
-use Rattle.sg_protocol.specs.Graph.{Graph}
 use Rattle.sg_protocol.specs.Past.{node_of, past_after}
 use Rattle.sg_protocol.specs.Texts.{real}
-use Rattle.sg_report.specs.Reported.{Reported}
+use Rattle.sg_report.specs.declared.outcome.Outcome.{Outcome}
 use Rattle.sg_serve.specs.declared.fault.ServeFault.{ServeFault}
 use Rattle.sg_serve.specs.declared.server.Server.{Server}
 use Rattle.sg_serve.specs.Served.{images_if, joins_kept, joins_of}
@@ -66,4 +65,4 @@ module _ (sv : Server) (may_leave : List ℕ → Type 0) (s : Serving) (c : Call
 
   -- the server with another ledger has called the same
   pub called_with : (m : Server) → m ≡ record sv { ledger = m.ledger } → HasCalled m s c o frame
-  called_with m rest = subst (λ (x : Server). HasCalled x s c o frame) (sym rest) (record { asked = h.asked; answered_before = h.answered_before; is_frame = h.is_frame; programs = h.programs; graphs = h.graphs; last = h.last })
+  called_with m rest = subst (λ (x : Server). HasCalled x s c o frame) (sym rest) (record { asked = h.asked; answered_before = h.answered_before; is_frame = h.is_frame; programs = h.programs; graphs = h.graphs; enough = h.enough; last = h.last })

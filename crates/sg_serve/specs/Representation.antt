@@ -1,5 +1,5 @@
 -- What a server represents: how far it has come, and the joins that it keeps.
-use Rattle.std.specs.Prelude.{◌≡◌, ◌⊎◌, ◌≤◌, ℕ, Bool, true, false, List, [], ◌∷◌, ◌++◌, map, Option, Some, None, is_some, Result, Ok, Err, OnOk, OnErr}
+use Rattle.std.specs.Prelude.{◌≡◌, ◌⊎◌, ◌≤◌, ℕ, Bool, true, false, List, [], ◌∷◌, ◌++◌, map, length, Option, Some, None, is_some, Result, Ok, Err, OnOk, OnErr}
 use Rattle.sg_base.specs.declared.address.Addr.{Addr}
 use Rattle.sg_base.specs.Outside.{Appends, AppendsPrefix, HasRisen}
 use Rattle.sg_input.specs.Lines.{Line, Whole, TooLong}
@@ -14,7 +14,6 @@ use Rattle.sg_play.specs.Representation.{HasAsked, RepresentsPlay}
 use Rattle.sg_play.specs.Steps.{Step}
 use Rattle.sg_protocol.specs.Acting.{answer}
 use Rattle.sg_protocol.specs.Calls.{Call}
-use Rattle.sg_protocol.specs.Graph.{Graph}
 use Rattle.sg_protocol.specs.NodeStates.{RepresentsPast}
 use Rattle.sg_protocol.specs.Past.{Past, node_of, past_after}
 use Rattle.sg_protocol.specs.Ranges.{IsCallInRange}
@@ -27,13 +26,15 @@ use Rattle.sg_serve.specs.declared.server.Server.{Server}
 use Rattle.sg_serve.specs.Lines.{Run, asks_quit, given, gives, receipt, until_quit, with_line, with_lines}
 use Rattle.sg_serve.specs.Served.{Outside, Agrees, EndedAt, RepresentBetween, images_if, joins_of}
 use Rattle.sg_wait.specs.declared.coming.Coming.{Coming}
-use Rattle.sg_serve.specs.Serving.{Serving, Reply}
+use Rattle.sg_serve.specs.Serving.{Serving, Reply, sids_of}
 
 -- the server has the player of the state, its graphs and its last frames
 pub record RepresentsServing (sv : Server) (s : Serving) : Type 0 where
   pub player : RepresentsPlay sv.player s.play
   pub programs : s.play.past.programs ≡ sv.programs.now
   pub graphs : sv.graphs ≡ s.graphs
+  -- each session that had an event has one
+  pub enough : length (sids_of s.play) ≤ length sv.graphs
   pub last : sv.last ≡ s.last
 
 -- the node represents a valid past; and the ledger, if there is one, works and has the node's joins, which each image represents
@@ -67,6 +68,8 @@ pub record HasCalled (sv : Server) (s : Serving) (c : Call) (outcome : Outcome) 
   pub is_frame : frame ≡ addressed s.play.past.keys (sealed_in (answer_in s.play c))
   pub programs : s.play.past.programs ≡ sv.programs.now
   pub graphs : sv.graphs ≡ s.graphs
+  -- each session that had an event has one
+  pub enough : length (sids_of s.play) ≤ length sv.graphs
   pub last : sv.last ≡ s.last
 
 -- the server represents the state of a reply, and this is its answer

@@ -1,6 +1,5 @@
 use Rattle.std.proofs.Common.{refl}
 use Rattle.sg_protocol.specs.Calls.{Deliver}
-use Rattle.sg_report.specs.Outcome.{outcome_of}
 use Rattle.sg_play.specs.Ends.{Outside}
 use Rattle.sg_play.specs.Played.{with_turn}
 use Rattle.sg_keep.specs.declared.keeper.Keeper.{Keeper}
@@ -35,7 +34,7 @@ returns-in-Ok-clause-more g c =
     let leaves = g.D.Disk.may_leave c.args.disk.now in
     let k : Keeper = record c.args.self.now { player = c.ask_deliver.new.self } in
     let asked = asked_node c.args.self.now c.ask_deliver.new.self leaves (Deliver c.args.bytes.now) c.in-Ok.outcome h (c.in-Ok.ensures.is_asked 0 h.past h.represents) in
-    let more = asked_more k leaves (outcome_of c.in-Ok.outcome) asked in
+    let more = asked_more k leaves c.in-Ok.outcome asked in
     more_on_ok c.report.result k.ledger.joins k.player.node.joins c.report.new.self.ledger.joins more c.report.ensures.joins
 
 pub returns-in-Ok-clause-any_moment : goal.returns-in-Ok-clause-any_moment
@@ -44,7 +43,7 @@ returns-in-Ok-clause-any_moment g c =
     let leaves = g.D.Disk.may_leave c.args.disk.now in
     let k : Keeper = record c.args.self.now { player = c.ask_deliver.new.self } in
     let asked = asked_node c.args.self.now c.ask_deliver.new.self leaves (Deliver c.args.bytes.now) c.in-Ok.outcome h (c.in-Ok.ensures.is_asked 0 h.past h.represents) in
-    let more = asked_more k leaves (outcome_of c.in-Ok.outcome) asked in
+    let more = asked_more k leaves c.in-Ok.outcome asked in
     either_more g.D.Disk.moment g.D.Disk.left_since c.args.disk.now c.report.new.disk k.ledger.joins k.player.node.joins more c.report.ensures.any_moment
 
 pub returns-in-Err-clause-any_moment : goal.returns-in-Err-clause-any_moment

@@ -1,4 +1,4 @@
-use Rattle.std.proofs.Common.{◌∙◌, Ok, Err, option_and_then, refl, ap}
+use Rattle.std.proofs.Common.{◌∙◌, Ok, Err, refl, ap}
 use Rattle.sg_report.specs.Reported.{sid_reported}
 use Rattle.sg_ledger.specs.Format.{OpenLedger}
 use Rattle.sg_play.specs.Ends.{Outside}

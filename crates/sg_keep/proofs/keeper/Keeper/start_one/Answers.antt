@@ -1,6 +1,5 @@
 use Rattle.std.proofs.Common.{◌≡◌, length, refl, subst}
 use Rattle.sg_protocol.specs.Calls.{Start}
-use Rattle.sg_report.specs.Outcome.{outcome_of}
 use Rattle.sg_play.specs.Ends.{Outside}
 use Rattle.sg_play.specs.Played.{Play, cast_of_start, starts, with_turn, without}
 use Rattle.sg_play.proofs.Running.{start_is, without_one}
@@ -45,7 +44,7 @@ returns-in-Ok-clause-more g c =
     let leaves = g.D.Disk.may_leave c.args.disk.now in
     let k : Keeper = record c.args.self.now { player = c.ask_start.new.self } in
     let asked = asked_node c.args.self.now c.ask_start.new.self leaves (Start (cast_of_start c.args.self.now.player.programs.now c.args.start_of.now c.next-nonce.result)) c.in-Ok.outcome h (c.in-Ok.ensures.is_asked 0 h.past h.represents) in
-    let more = asked_more k leaves (outcome_of c.in-Ok.outcome) asked in
+    let more = asked_more k leaves c.in-Ok.outcome asked in
     more_on_ok c.report.result k.ledger.joins k.player.node.joins c.report.new.self.ledger.joins more c.report.ensures.joins
 
 pub returns-in-Ok-clause-any_moment : goal.returns-in-Ok-clause-any_moment
@@ -54,7 +53,7 @@ returns-in-Ok-clause-any_moment g c =
     let leaves = g.D.Disk.may_leave c.args.disk.now in
     let k : Keeper = record c.args.self.now { player = c.ask_start.new.self } in
     let asked = asked_node c.args.self.now c.ask_start.new.self leaves (Start (cast_of_start c.args.self.now.player.programs.now c.args.start_of.now c.next-nonce.result)) c.in-Ok.outcome h (c.in-Ok.ensures.is_asked 0 h.past h.represents) in
-    let more = asked_more k leaves (outcome_of c.in-Ok.outcome) asked in
+    let more = asked_more k leaves c.in-Ok.outcome asked in
     either_more g.D.Disk.moment g.D.Disk.left_since c.args.disk.now c.report.new.disk k.ledger.joins k.player.node.joins more c.report.ensures.any_moment
 
 pub returns-in-Err-clause-any_moment : goal.returns-in-Err-clause-any_moment

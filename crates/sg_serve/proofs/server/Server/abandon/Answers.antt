@@ -1,6 +1,4 @@
 use Rattle.std.proofs.Common.{◌∙◌, sym}
-use Rattle.std.specs.Option.{option_copied}
-use Rattle.sg_report.specs.Outcome.{outcome_of}
 use Rattle.sg_serve.proofs.Calling.{abandoned}
 use Rattle.sg_serve.proofs.server.Server.abandon.Goals as goal
 

@@ -1,7 +1,5 @@
 use Rattle.std.proofs.Common.{◌∙◌, length, sym}
 use Rattle.std.proofs.lemmas.List.{length-map}
-use Rattle.std.specs.Option.{option_copied}
-use Rattle.sg_report.specs.Outcome.{outcome_of}
 use Rattle.sg_walk.specs.Model.{values_of}
 use Rattle.sg_serve.proofs.Calling.{acted}
 use Rattle.sg_serve.proofs.server.Server.act_with.Goals as goal

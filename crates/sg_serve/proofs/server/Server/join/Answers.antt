@@ -1,7 +1,5 @@
 use Rattle.std.proofs.Common.{None}
-use Rattle.std.specs.Option.{option_copied}
 use Rattle.sg_play.specs.Steps.{Step}
-use Rattle.sg_report.specs.Outcome.{outcome_of}
 use Rattle.sg_serve.specs.Served.{images_if}
 use Rattle.sg_serve.specs.Serving.{calls}
 use Rattle.sg_serve.specs.Representation.{HasReplied}

@@ -1,6 +1,5 @@
 use Rattle.std.proofs.Common.{◌≡◌, ◌⊎◌, ◌∙◌, ℕ, List, Some, is_some, option_and_then, inl, inr, ⊎_elim, sym, ap, subst}
 use Rattle.sg_ledger.specs.Format.{OpenLedger, Represents}
-use Rattle.sg_report.specs.Outcome.{outcome_of}
 use Rattle.sg_keep.specs.Joins.{join_reported}
 use Rattle.sg_serve.specs.Served.{joins_kept}
 use Rattle.sg_serve.proofs.Asking.{holds_after, holds_none, is_new, unkept}

@@ -1,12 +1,10 @@
 use Rattle.std.proofs.Common.{find, refl, ap, ◌∙◌}
 use Rattle.std.specs.Prelude.{is_some, not}
-use Rattle.std.specs.Option.{option_copied}
 use Rattle.sg_answers.specs.Answers.{wrong_text}
 use Rattle.sg_answers.specs.declared.line.Wrong.TheVariants.{Unknown}
 use Rattle.sg_play.specs.Played.{cast_of_start}
 use Rattle.sg_program.specs.Together.{is_named}
 use Rattle.sg_protocol.specs.Calls.{Start}
-use Rattle.sg_report.specs.Outcome.{outcome_of}
 use Rattle.sg_script.specs.Script.{Start as ScriptStart}
 use Rattle.sg_serve.specs.Served.{images_if}
 use Rattle.sg_serve.specs.Serving.{calls, less, starts}

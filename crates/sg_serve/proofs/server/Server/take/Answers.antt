@@ -1,9 +1,7 @@
 use Rattle.std.proofs.Common.{refl, sym, ap, ◌∙◌}
 use Rattle.std.specs.Prelude.{is_some, option_map}
-use Rattle.std.specs.Option.{option_copied}
 use Rattle.sg_answers.specs.Answers.{quiet_text}
 use Rattle.sg_protocol.specs.Calls.{Deliver}
-use Rattle.sg_report.specs.Outcome.{outcome_of}
 use Rattle.sg_serve.specs.Served.{images_if}
 use Rattle.sg_serve.specs.Serving.{calls, takes}
 use Rattle.sg_serve.proofs.Asking.{asked_node, has_called, holds_all, ledger_has}
