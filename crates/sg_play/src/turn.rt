@@ -103,8 +103,7 @@ impl<'p> Player<'p> {
     }
 
     // Asks for the act by the first choice for a node of a graph that has uses left, if there is one: the outcome, and the frame that was
-    // made, with the address of its receiver. The act takes one use off the choice,
-    // whether it is refused or not.
+    // made, with the address of its receiver. The act takes one use off the choice, whether it is refused or not.
     fn try_act<R: Fresh>(
         &mut self,
         sid: Sid,
