@@ -26,5 +26,4 @@ mod Gathered
 mod StepLaws
 pub mod EntryCalls
 pub mod Passing
-mod Followed
 mod ShownSteps

@@ -6,9 +6,8 @@ use Rattle.std.specs.Option.{option_to_list}
 use Rattle.std.specs.Result.{result_ok}
 use Rattle.std.proofs.lemmas.Slice.Eq.{bytes_eq-Decides}
 use Rattle.sg_model.specs.Lists.{has_text}
-use Rattle.sg_law.proofs.Members.{in_right}
-use Rattle.sg_law.proofs.Take.{contains_from_in}
-use Rattle.sg_law.proofs.Upto.{In}
+use Rattle.sg_model.proofs.Members.{In, contains_from_in, in_right}
+use Rattle.sg_protocol.proofs.ExplainingWalks.{origins_are_last_labels}
 use Rattle.sg_protocol.proofs.NamedRuns.{entries_are_answered, entries_are_named, entries_have_one_graph}
 use Rattle.sg_protocol.proofs.RealHash.{real_hash}
 use Rattle.sg_protocol.specs.Acting.{answer}
@@ -45,7 +44,6 @@ use Rattle.sg_walk.specs.Model.{event_of}
 use Rattle.sg_world.specs.EntriesOfRun.{FitsEntry, IsEntryAdded, IsOutcomeAdded}
 use Rattle.sg_world.specs.RecordModel.{IfReceived, IsLearnt, TakenStep}
 use Rattle.sg_world.specs.Replay.{Replay, run_of}
-use Rattle.sg_world.proofs.Followed.{frames_follow_labels}
 use Rattle.sg_world.proofs.Passing.{AreOfRun, IsAt, entry_there, reported_event}
 
 -- the graph beside an event is the one by which its numbers have names
@@ -162,7 +160,8 @@ module _ (programs : List Program) (s : Schedule) (u : IsUnbroken programs s) (b
             let program : r.program ≡ t.program = ap (λ (z : Program × Session). z.0) both in
             let session : at.session ≡ t.session = ap (λ (z : Program × Session). z.1) both in
             let follows : origin at.session ≡ (view_in (events_of (sid_of ev) before) f).origin =
-            frames_follow_labels real real_hash programs s (sid_of ev) t.session.cast g before l after bs f r.program at.session u.compiled u.schedule u.premises its_cast (its_graph t.session.cast its_cast) parts is_call reads outcome same at_node at.is_session in
+                subst (λ (sid : List ℕ). origin at.session ≡ (view_in (events_of sid before) f).origin) same
+                (origins_are_last_labels real real_hash programs s before l after bs f r.program at.session u.compiled u.schedule u.premises parts is_call reads outcome at_node at.is_session) in
             let role : r.program.role ≡ f.receiver = ap (λ (p : Program). p.role) program ∙ sym t.is_role ∙ sym its.1 ∙ its_role in
             subst (λ (z : Graph). IsExample z f.receiver (view_in (events_of (sid_of ev) before) f) walk) (ap (λ (p : Program). p.graph) program ∙ sym graph_is)
             (subst (λ k. IsExample r.program.graph k (view_in (events_of (sid_of ev) before) f) walk) role
