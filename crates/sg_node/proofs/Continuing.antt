@@ -7,7 +7,7 @@ use Rattle.std.proofs.lemmas.Bool.{eqb-true}
 use Rattle.indexmap.specs.IndexMap.{set_value_at}
 use Rattle.sg_model.proofs.Small.{and_right, and_true, and_false}
 use Rattle.sg_model.specs.Lists.{first_some}
-use Rattle.sg_protocol.specs.Calls.{Happened, NotDelivered, UnknownSession, NotWaiting}
+use Rattle.sg_protocol.specs.Calls.{Happened, NotDelivered, UnknownSession, NotWaiting, Refusal}
 use Rattle.sg_protocol.specs.Frame.{Cast, Frame}
 use Rattle.sg_protocol.specs.Keyring.{Keyring, Program}
 use Rattle.sg_protocol.specs.Node.{Node, session_for}
@@ -107,7 +107,7 @@ module _ (n : Inside) (h : HoldsNode n) (f : Frame) where
       version_is = sym (eqb-true (t.held.cast).version f.version (and_right (bytes_eq t.held.sid f.sid && (t.held.role == f.receiver)) ((t.held.cast).version == f.version) (its_passes n h (is_held_for f) (is_for f) tests i (Waiting t) e there)))
 
       module _ (j : f.join ≡ None) (m : Node) (st : RepresentsNode (node_state n) m) where
-        it : Its m.programs (Waiting t) (session_for m.live f)
+        pub it : Its m.programs (Waiting t) (session_for m.live f)
         it = session_here n h (is_held_for f) (is_for f) tests i (Waiting t) e there m st (session_for m.live f) (represents_if m st)
 
         its_rows : first_some (rows real m f) ≡ first_some (rows_of_session real n.keys t.program it.session f)

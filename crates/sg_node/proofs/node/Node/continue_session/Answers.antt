@@ -196,7 +196,7 @@ returns-in-Err-clause-graph c =
     let e = index_for c.frame-frame.result.now f c.self.inside.sessions.slots (Some c.in-Some.index) c.frame-frame.ensures.frame c.in-Some.ensures in
     let there = sym c.in-Some-Waiting.ensures ∙ ap (λ z. Some z) c.in-Some-Waiting.field-0-is in
     λ m st. same_graph c.refused.result _ (option_map (λ (x : Program × Session). x.0.graph) (session_of_frame m f)) c.refused.ensures.graph
-    (ap (λ (g : Graph). Some g) (c.graph-graph.ensures ∙ ap (λ (p : Program). p.graph) c.program.ensures ∙ ap (λ (s : RoleState). s.program.graph) c.before-kept.ensures.before)
+    (ap (λ (g : Graph). Some g) (c.graph-graph.ensures.graph ∙ ap (λ (p : Program). p.graph) c.program.ensures ∙ ap (λ (s : RoleState). s.program.graph) c.before-kept.ensures.before)
     ∙ ap (option_map (λ (x : Program × Session). x.0.graph)) (sym (session_of c.self.inside c.self.invariant f c.in-Some.index c.in-Some-Waiting.wait e there c.requires.continues m (subst (λ (z : NodeState). RepresentsNode z m) (sym c.self.view_is) st))))
 
 pub returns-in-Err-clause-shown : goal.returns-in-Err-clause-shown

@@ -1,5 +1,5 @@
-use Rattle.std.proofs.Common.{◌≡◌, ◌++◌, [], ◌∷◌, ◌<◌, ◌&&◌, nat_lt, Contains, length, map, true, is_ok, Some, None, Ok, Err, refl, sym, ◌∙◌, ap, subst}
-use Rattle.std.specs.Prelude.{option_map, slice_get}
+use Rattle.std.proofs.Common.{◌≡◌, ◌≢◌, ◌++◌, [], ◌∷◌, ◌<◌, ◌&&◌, nat_lt, Contains, length, map, true, is_ok, Some, None, Ok, Err, refl, sym, ◌∙◌, ap, subst}
+use Rattle.std.specs.Prelude.{Option, option_map, slice_get}
 use Rattle.std.specs.List.{AllByRecursion}
 use Rattle.std.proofs.lemmas.Option.{slice_get_within}
 use Rattle.sg_model.proofs.Small.{clash}
@@ -29,7 +29,7 @@ use Rattle.sg_node.specs.Receipts.{Receipt, IsReceiptAt}
 use Rattle.sg_node.specs.Slots.{Slot, held_in, slot_of, left_after}
 use Rattle.sg_node.specs.Invariant.{IsSlot}
 use Rattle.sg_node.proofs.Starts.{first_state, with_text}
-use Rattle.sg_node.proofs.Receipts.{all_refused, if_memory, never_received, never_taken, not_memory, refused_by, same_graph}
+use Rattle.sg_node.proofs.Receipts.{all_refused, if_memory, in_err, never_received, never_taken, not_memory, refused_by, same_graph}
 use Rattle.sg_node.proofs.Continuing.{AcceptedBy}
 use Rattle.sg_node.proofs.Entering.{other_session, hindered, no_graph, free_pair, no_slot_yet, its_graph, its_count, its_version, its_bound, not_starter, refused, session_of, shown, taken, noted_taken, noted_refused, join_slots, join_state}
 use Rattle.sg_node.proofs.node.Node.join_in.Goals as goal
@@ -61,7 +61,9 @@ returns-in-Some-clause-answer c =
 
 pub returns-in-Some-clause-graph : goal.returns-in-Some-clause-graph
 returns-in-Some-clause-graph c =
-    λ m st. subst (λ w. graph_of_delivery (Err w) ≡ graph_named (answer_of_delivery (Err w)) _) (sym c.refusal_of.ensures) (no_graph c.in-Some.obstacle _)
+    λ m st.
+    let its : Option Graph = option_map (λ (x : Program × Session). x.0.graph) (session_of_frame m c.args.read.now.frame) in
+    subst (λ w. graph_of_delivery (Err w) ≡ graph_named (answer_of_delivery (Err w)) its) (sym c.refusal_of.ensures) (no_graph c.in-Some.obstacle its)
 
 pub returns-in-Some-clause-notes : goal.returns-in-Some-clause-notes
 returns-in-Some-clause-notes c =
@@ -202,8 +204,8 @@ invariant_of-self-in-Ok c =
     (record { rows = c.in-Ok.ensures.accepted; program = c.in-Ok.ensures.program; before = c.in-Ok.ensures.before; after = c.in-Ok.ensures.after; event = c.in-Ok.ensures.event })) in
     record { programs = c.self.invariant.programs; slots = subst (λ js. AllByRecursion (IsSlot c.self.inside.programs.now js) c.join_session.new.sessions.slots) (sym (c.join_session.ensures.joins ∙ ap (λ z. z ++ (c.in_ok-before.before.held.sid, c.in_ok-before.before.held.role) ∷ []) c.make_room.ensures.joins ∙ ap (λ (s : RoleState). c.self.inside.joins.pairs ++ (s.held.sid, s.held.role) ∷ []) c.in_ok-before.ensures)) (subst (AllByRecursion (IsSlot c.self.inside.programs.now (c.self.inside.joins.pairs ++ (session_id real c.args.cast, c.args.program.now.role) ∷ []))) (sym (c.join_session.ensures.slots ∙ ap (λ z. z ++ slot_of (c.in_ok-before.before.held.sid, c.in_ok-before.before.held.role) (left_after c.in-Ok.accepted)) c.make_room.ensures.sessions ∙ ap (λ (s : RoleState). c.self.inside.sessions.slots ++ slot_of (s.held.sid, s.held.role) (left_after c.in-Ok.accepted)) c.in_ok-before.ensures)) (join_slots c.self.inside c.self.invariant f c.args.cast c.requires.joins c.args.program.now found right covered sid c.frame-frame.ensures.reading.spelled.is_frame c.in-Ok.accepted d)) }
 
-pub invariant_of-self-in_err-make_room : goal.invariant_of-self-in_err-make_room
-invariant_of-self-in_err-make_room c =
+pub invariant_of-self : goal.invariant_of-self
+invariant_of-self c =
     record { programs = c.self.invariant.programs; slots = subst (λ js. AllByRecursion (IsSlot c.self.inside.programs.now js) c.make_room.new.sessions.slots) (sym c.make_room.ensures.joins) (subst (AllByRecursion (IsSlot c.self.inside.programs.now c.self.inside.joins.pairs)) (sym c.make_room.ensures.sessions) c.self.invariant.slots) }
 
 pub invariant_of-self-in_err-before : goal.invariant_of-self-in_err-before
@@ -216,11 +218,11 @@ invariant_of-self-in-Err c =
 
 pub returns-in_err-make_room-clause-memory : goal.returns-in_err-make_room-clause-memory
 returns-in_err-make_room-clause-memory c =
-    (ap (λ js. record { keys = c.self.inside.keys; programs = c.self.inside.programs.now; joins = js; live = held_in c.make_room.new.sessions.slots }) c.make_room.ensures.joins ∙ ap (λ ss. record { keys = c.self.inside.keys; programs = c.self.inside.programs.now; joins = c.self.inside.joins.pairs; live = held_in ss }) c.make_room.ensures.sessions ∙ c.self.view_is, refl)
+    in_err _ c.from_residual-in_err-make_room.result (ap (λ js. record { keys = c.self.inside.keys; programs = c.self.inside.programs.now; joins = js; live = held_in c.make_room.new.sessions.slots }) c.make_room.ensures.joins ∙ ap (λ ss. record { keys = c.self.inside.keys; programs = c.self.inside.programs.now; joins = c.self.inside.joins.pairs; live = held_in ss }) c.make_room.ensures.sessions ∙ c.self.view_is, refl)
 
 pub returns-in_err-before-clause-memory : goal.returns-in_err-before-clause-memory
 returns-in_err-before-clause-memory c =
-    (ap (λ js. record { keys = c.self.inside.keys; programs = c.self.inside.programs.now; joins = js; live = held_in c.make_room.new.sessions.slots }) c.make_room.ensures.joins ∙ ap (λ ss. record { keys = c.self.inside.keys; programs = c.self.inside.programs.now; joins = c.self.inside.joins.pairs; live = held_in ss }) c.make_room.ensures.sessions ∙ c.self.view_is, refl)
+    in_err _ c.from_residual-in_err-before.result (ap (λ js. record { keys = c.self.inside.keys; programs = c.self.inside.programs.now; joins = js; live = held_in c.make_room.new.sessions.slots }) c.make_room.ensures.joins ∙ ap (λ ss. record { keys = c.self.inside.keys; programs = c.self.inside.programs.now; joins = c.self.inside.joins.pairs; live = held_in ss }) c.make_room.ensures.sessions ∙ c.self.view_is, refl)
 
 pub returns-in-Ok-clause-answer : goal.returns-in-Ok-clause-answer
 returns-in-Ok-clause-answer c =
@@ -307,8 +309,8 @@ returns-in-Ok-clause-notes c =
     (subst (λ (z : Frame). (x : Session) → RepresentsBefore c.in_ok-before.before.program.graph c.in_ok-before.before.held x → c.examine.new.notes ≡ with_notes c.args.notes.now (notes_in_session real c.self.inside.keys c.in_ok-before.before.program x z (row_number (first_some (rows_of_session real c.self.inside.keys c.in_ok-before.before.program x z))))) c.frame-frame.ensures.frame
     (λ x b. c.in-Ok.ensures.notes x b (λ q. clash true refl (ap is_ok q))))) c.in-Ok.accepted d
 
-pub returns-in-Err-clause-answer : goal.returns-in-Err-clause-answer
-returns-in-Err-clause-answer c =
+pub returns-clause-answer : goal.returns-clause-answer
+returns-clause-answer c =
     let f = c.args.read.now.frame in
     let found = subst (λ (z : NodeState). program_for z.programs c.args.cast.graph f.receiver ≡ Some c.args.program.now) (sym c.self.view_is) c.requires.program in
     let right = subst (λ (z : NodeState). (is_cast z.keys c.args.program.now.graph c.args.cast f.receiver && nat_lt f.sender (length c.args.cast.names)) ≡ true) (sym c.self.view_is) c.requires.cast in
@@ -321,8 +323,8 @@ returns-in-Err-clause-answer c =
     (subst (λ (s : RoleState). (x : Session) → RepresentsBefore s.program.graph s.held x → Refuses (first_some (rows_of_session real c.self.inside.keys s.program x f)) c.in-Err.refusal) c.in_ok-before.ensures
     (subst (λ (z : Frame). (x : Session) → RepresentsBefore c.in_ok-before.before.program.graph c.in_ok-before.before.held x → Refuses (first_some (rows_of_session real c.self.inside.keys c.in_ok-before.before.program x z)) c.in-Err.refusal) c.frame-frame.ensures.frame c.in-Err.ensures.refused)))
 
-pub returns-in-Err-clause-graph : goal.returns-in-Err-clause-graph
-returns-in-Err-clause-graph c =
+pub returns-clause-graph : goal.returns-clause-graph
+returns-clause-graph c =
     let f = c.args.read.now.frame in
     let found = subst (λ (z : NodeState). program_for z.programs c.args.cast.graph f.receiver ≡ Some c.args.program.now) (sym c.self.view_is) c.requires.program in
     let right = subst (λ (z : NodeState). (is_cast z.keys c.args.program.now.graph c.args.cast f.receiver && nat_lt f.sender (length c.args.cast.names)) ≡ true) (sym c.self.view_is) c.requires.cast in
@@ -331,23 +333,23 @@ returns-in-Err-clause-graph c =
     let sid = subst (λ (z : Frame). z.sid ≡ session_id real c.args.cast) same (c.if-not-is_session.ensures.0 refl ∙ c.requires.session) in
     let free = ap (λ (z : Frame). obstacle_to c.self.inside.joins.pairs (length (held_in c.self.inside.sessions.slots)) z.sid z.receiver) (sym same) ∙ sym c.first_obstacle.ensures ∙ c.in_default.is in
     λ m st. same_graph c.refused.result _ (option_map (λ (x : Program × Session). x.0.graph) (session_of_frame m f)) c.refused.ensures.graph
-    (ap (λ (g : Graph). Some g) c.graph.ensures ∙ ap (option_map (λ (x : Program × Session). x.0.graph)) (sym (session_of c.self.inside c.self.invariant f c.args.cast c.requires.joins c.args.program.now found right covered sid m (subst (λ (z : NodeState). RepresentsNode z m) (sym c.self.view_is) st) free)))
+    (ap (λ (g : Graph). Some g) c.graph.ensures.graph ∙ ap (option_map (λ (x : Program × Session). x.0.graph)) (sym (session_of c.self.inside c.self.invariant f c.args.cast c.requires.joins c.args.program.now found right covered sid m (subst (λ (z : NodeState). RepresentsNode z m) (sym c.self.view_is) st) free)))
 
-pub returns-in-Err-clause-shown : goal.returns-in-Err-clause-shown
-returns-in-Err-clause-shown c =
+pub returns-clause-shown : goal.returns-clause-shown
+returns-clause-shown c =
     let f = c.args.read.now.frame in
     λ m st. never_received (λ x. IsReceiptAt m f x × (x.cast ≡ f.join)) c.refused.result c.refused.ensures.refused
 
-pub returns-in-Err-clause-taken : goal.returns-in-Err-clause-taken
-returns-in-Err-clause-taken c =
+pub returns-clause-taken : goal.returns-clause-taken
+returns-clause-taken c =
     never_taken _ c.refused.result c.refused.ensures.refused
 
-pub returns-in-Err-clause-refused : goal.returns-in-Err-clause-refused
-returns-in-Err-clause-refused c =
+pub returns-clause-refused : goal.returns-clause-refused
+returns-clause-refused c =
     all_refused _ c.refused.result (ap (λ js. record { keys = c.self.inside.keys; programs = c.self.inside.programs.now; joins = js; live = held_in c.make_room.new.sessions.slots }) c.make_room.ensures.joins ∙ ap (λ ss. record { keys = c.self.inside.keys; programs = c.self.inside.programs.now; joins = c.self.inside.joins.pairs; live = held_in ss }) c.make_room.ensures.sessions ∙ c.self.view_is)
 
-pub returns-in-Err-clause-notes : goal.returns-in-Err-clause-notes
-returns-in-Err-clause-notes c =
+pub returns-clause-notes : goal.returns-clause-notes
+returns-clause-notes c =
     let f = c.args.read.now.frame in
     let found = subst (λ (z : NodeState). program_for z.programs c.args.cast.graph f.receiver ≡ Some c.args.program.now) (sym c.self.view_is) c.requires.program in
     let right = subst (λ (z : NodeState). (is_cast z.keys c.args.program.now.graph c.args.cast f.receiver && nat_lt f.sender (length c.args.cast.names)) ≡ true) (sym c.self.view_is) c.requires.cast in
@@ -362,6 +364,6 @@ returns-in-Err-clause-notes c =
     (subst (λ (s : RoleState). (x : Session) → RepresentsBefore s.program.graph s.held x → Refuses (first_some (rows_of_session real c.self.inside.keys s.program x f)) c.in-Err.refusal) c.in_ok-before.ensures
     (subst (λ (z : Frame). (x : Session) → RepresentsBefore c.in_ok-before.before.program.graph c.in_ok-before.before.held x → Refuses (first_some (rows_of_session real c.self.inside.keys c.in_ok-before.before.program x z)) c.in-Err.refusal) c.frame-frame.ensures.frame c.in-Err.ensures.refused)) told)
 
-pub returns-in-Err-clause-memory : goal.returns-in-Err-clause-memory
-returns-in-Err-clause-memory c =
+pub returns-clause-memory : goal.returns-clause-memory
+returns-clause-memory c =
     if_memory _ c.in-Err.refusal c.refused.result c.refused.ensures.refused c.refused.ensures.refusal (λ q. (ap (λ js. record { keys = c.self.inside.keys; programs = c.self.inside.programs.now; joins = js; live = held_in c.make_room.new.sessions.slots }) c.make_room.ensures.joins ∙ ap (λ ss. record { keys = c.self.inside.keys; programs = c.self.inside.programs.now; joins = c.self.inside.joins.pairs; live = held_in ss }) c.make_room.ensures.sessions ∙ c.self.view_is, c.in-Err.ensures.memory (ap Err q)))

@@ -46,13 +46,13 @@ take-requires c =
     let at = sym c.in-Some.ensures in
     (first_at c.self.inside c.self.invariant c.args.sid c.in-Some.index at).within
 
-pub keep-requires-clause-empty : goal.keep-requires-clause-empty
-keep-requires-clause-empty c =
+pub keep-event-requires-clause-empty : goal.keep-event-requires-clause-empty
+keep-event-requires-clause-empty c =
     let at = sym c.in-Some.ensures in
     ap (λ z. live_at z c.in-Some.index) c.take.ensures.slots ∙ at_set c.self.inside.sessions.slots c.in-Some.index None (first_at c.self.inside c.self.invariant c.args.sid c.in-Some.index at).within
 
-pub keep-requires-clause-within : goal.keep-requires-clause-within
-keep-requires-clause-within c =
+pub keep-event-requires-clause-within : goal.keep-event-requires-clause-within
+keep-event-requires-clause-within c =
     let at = sym c.in-Some.ensures in
     subst (λ k. c.in-Some.index < k) (sym (ap length c.take.ensures.slots ∙ length_set c.self.inside.sessions.slots c.in-Some.index None)) (first_at c.self.inside c.self.invariant c.args.sid c.in-Some.index at).within
 
@@ -111,7 +111,7 @@ returns-in-Ok-clause-graph c =
     let at = sym c.in-Some.ensures in
     let there = sym c.take.ensures.taken ∙ c.in-Some-AtTurn.is ∙ ap (λ z. Some z) c.in-Some-AtTurn.field-0-is in
     λ past st.
-    let same = ap (λ (g : Graph). Some g) (c.graph-graph.ensures ∙ ap (λ (p : Program). p.graph) c.program.ensures) ∙ sym (graph_with_sid c.self.inside c.self.invariant (node_of past) (subst (λ (z : NodeState). RepresentsPast z past) (sym c.self.view_is) st) c.args.sid c.in-Some.index (AtTurn c.in-Some-AtTurn.turn) at there) in
+    let same = ap (λ (g : Graph). Some g) (c.graph-graph.ensures.graph ∙ ap (λ (p : Program). p.graph) c.program.ensures) ∙ sym (graph_with_sid c.self.inside c.self.invariant (node_of past) (subst (λ (z : NodeState). RepresentsPast z past) (sym c.self.view_is) st) c.args.sid c.in-Some.index (AtTurn c.in-Some-AtTurn.turn) at there) in
     same ∙ ap (λ a. graph_named a (graph_of_call real (node_of past) (Act c.args.sid c.args.label (values_of c.args.values.now) c.args.confounders.now)))
     (sym (act_answer c.self.inside c.self.invariant (node_of past) (subst (λ (z : NodeState). RepresentsPast z past) (sym c.self.view_is) st) c.args.sid c.args.label (values_of c.args.values.now) c.args.confounders.now c.in-Some.index at c.in-Some-AtTurn.turn there c.facts_of_values.ensures c.in-Ok.sent (record { accepted = c.in-Ok.ensures.accepted; state = c.in-Ok.ensures.state })
     (record { event = (c.keep-event.result).0; graph = c.graph-graph.result }, (c.keep-event.result).1) (c.keep-event.ensures.event ∙ c.in-Ok.ensures.event) (λ s q. c.keep-event.ensures.frame ∙ c.in-Ok.ensures.frame s q)).1)
@@ -141,7 +141,7 @@ returns-in-Err-clause-graph c =
     let there = sym c.take.ensures.taken ∙ c.in-Some-AtTurn.is ∙ ap (λ z. Some z) c.in-Some-AtTurn.field-0-is in
     λ past st. graph_beside c.not_sent.result c.not_sent.ensures.refused (answer real (node_of past) (Act c.args.sid c.args.label (values_of c.args.values.now) c.args.confounders.now)) _ (graph_of_call real (node_of past) (Act c.args.sid c.args.label (values_of c.args.values.now) c.args.confounders.now))
     (refused_act c.not_sent.result c.not_sent.ensures.refused c.in-Err.fault c.not_sent.ensures.refusal (answer real (node_of past) (Act c.args.sid c.args.label (values_of c.args.values.now) c.args.confounders.now)) (not_sent_by c.self.inside c.self.invariant (node_of past) (subst (λ (z : NodeState). RepresentsPast z past) (sym c.self.view_is) st) c.args.sid c.args.label (values_of c.args.values.now) c.args.confounders.now c.in-Some.index at c.in-Some-AtTurn.turn there c.in-Err.fault c.in-Err.ensures.refused)) c.not_sent.ensures.graph
-    (ap (λ (g : Graph). Some g) (c.graph-graph.ensures ∙ ap (λ (p : Program). p.graph) c.program.ensures) ∙ sym (graph_with_sid c.self.inside c.self.invariant (node_of past) (subst (λ (z : NodeState). RepresentsPast z past) (sym c.self.view_is) st) c.args.sid c.in-Some.index (AtTurn c.in-Some-AtTurn.turn) at there))
+    (ap (λ (g : Graph). Some g) (c.graph-graph.ensures.graph ∙ ap (λ (p : Program). p.graph) c.program.ensures) ∙ sym (graph_with_sid c.self.inside c.self.invariant (node_of past) (subst (λ (z : NodeState). RepresentsPast z past) (sym c.self.view_is) st) c.args.sid c.in-Some.index (AtTurn c.in-Some-AtTurn.turn) at there))
 
 pub returns-in-Err-clause-state : goal.returns-in-Err-clause-state
 returns-in-Err-clause-state c =
