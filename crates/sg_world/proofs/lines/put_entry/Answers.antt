@@ -28,10 +28,10 @@ pub returns-in-Some : goal.returns-in-Some
 returns-in-Some c = λ m e.
     let kept : TakenStep = record { step = step_of c.entry.inside.step; outcome = c.entry.inside.outcome; honest = c.entry.inside.honest } in
     let is = subst (λ (gs : List Graph). IsRenamed gs c.entry.inside.outcome (Some c.in-Some.outcome)) c.graphs.ensures c.in-Some.ensures in
-    let written = subst (λ (t : Reported). OnOk c.put_line.result (c.put_line.new.out ≡ c.args.out.now ++ line_text c.bytes_of-2.result.now (graph_or_none (graph_in c.in-Some.outcome)) c.args.number c.bytes_of.result.now t)) is.0 c.put_line.ensures.ok in
+    let written = subst (λ (t : Reported). OnOk c.put_line.result (c.put_line.new.out ≡ c.args.out.now ++ line_text c.bytes_of-in-Some.result.now (graph_or_none (graph_in c.in-Some.outcome)) c.args.number c.bytes_of.result.now t)) is.0 c.put_line.ensures.ok in
     subst (λ (t : TakenStep). OnOk c.put_line.result (c.put_line.new.out ≡ c.args.out.now ++ line m c.args.number (line_kept c.args.setting.now t))) c.entry.view_is
-    (entry_written c.put_line.result m c.args.setting.now c.args.number kept c.who-caller.result c.session_for-sid.result c.bytes_of.result.now c.bytes_of-2.result.now (graph_in c.in-Some.outcome) c.args.out.now c.put_line.new.out
-    c.who-caller.ensures c.bytes_of.ensures c.session_for-sid.ensures (c.bytes_of-2.ensures ∙ c.name_in-session.ensures m e) (other_text c.args.setting.now.graphs c.entry.inside.outcome c.in-Some.outcome is) written)
+    (entry_written c.put_line.result m c.args.setting.now c.args.number kept c.who-caller.result c.session_for-sid.result c.bytes_of.result.now c.bytes_of-in-Some.result.now (graph_in c.in-Some.outcome) c.args.out.now c.put_line.new.out
+    c.who-caller.ensures c.bytes_of.ensures c.session_for-sid.ensures (c.bytes_of-in-Some.ensures ∙ c.name_in-session.ensures m e) (other_text c.args.setting.now.graphs c.entry.inside.outcome c.in-Some.outcome is) written)
 
 -- the outcome itself has them
 pub returns-in-None : goal.returns-in-None
