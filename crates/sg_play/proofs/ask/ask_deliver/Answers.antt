@@ -1,4 +1,4 @@
-use Rattle.std.proofs.Common.{◌≡◌, sym, ap, ◌∙◌}
+use Rattle.std.proofs.Common.{sym, ap, ◌∙◌}
 use Rattle.sg_protocol.specs.Calls.{Deliver}
 use Rattle.sg_protocol.specs.Named.{graph_of_call}
 use Rattle.sg_protocol.specs.Past.{node_of}

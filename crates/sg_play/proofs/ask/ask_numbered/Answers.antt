@@ -1,4 +1,4 @@
-use Rattle.std.proofs.Common.{◌≡◌, sym, ap}
+use Rattle.std.proofs.Common.{sym, ap}
 use Rattle.sg_protocol.specs.Calls.{Act}
 use Rattle.sg_protocol.specs.Run.{frame_in}
 use Rattle.sg_report.specs.Reported.{reported_answer}
