@@ -21,6 +21,7 @@ ghost use Rattle.sg_node.specs.Faults.{delivery_refusal, role_refusal};
 ghost use Rattle.sg_node.specs.Joining.{refusal_for};
 ghost use Rattle.sg_node.specs.Receipts.{IsReceiptAt};
 ghost use Rattle.sg_node.specs.Slots.{left_after};
+ghost use Rattle.sg_node.specs.Taking.{TakesFrame};
 ghost use Rattle.sg_node.specs.declared.sessions.Live.TheVariants.{Waiting};
 
 use crate::cast::{is_cast, program_for};
@@ -95,14 +96,7 @@ impl<'p> Node<'p> {
         read: &ReadFrame<'_>,
         notes: &mut Notes,
     ) -> Result<Result<Receipt<'p>, DeliveryRefusal<'p>>, OutOfMemory>
-        ensures answer { (n : DefinedNode) → RepresentsNode self.old n → IfOk result (λ r. verdict_on real n (Ok read.now.frame) ≡ answer_of_delivery r) }
-        ensures graph { (n : DefinedNode) → RepresentsNode self.old n
-            → IfOk result (λ r. graph_of_delivery r ≡ graph_named (answer_of_delivery r) (option_map (λ x. x.0.graph) (session_of_frame n read.now.frame))) }
-        ensures shown { (n : DefinedNode) → RepresentsNode self.old n → IfOk result (λ r. IfOk r (λ x. IsReceiptAt n read.now.frame x × (x.cast ≡ read.now.frame.join))) }
-        ensures taken { IfOk result (λ r. OnOk r (self.new ≡ state_taking self.old (Ok read.now.frame))) }
-        ensures refused { IfOk result (λ r. OnErr r (self.new ≡ self.old)) }
-        ensures notes { (n : DefinedNode) → RepresentsNode self.old n → OnOk result (notes.new ≡ with_notes notes.old (notes_of_read real n (Ok read.now.frame))) }
-        ensures memory { OnErr result ((self.new ≡ self.old) × (notes.new ≡ notes.old)) }
+        ensures takes { TakesFrame self.old self.new notes.old notes.old notes.new read.now.frame result }
         ensures early { (n : DefinedNode) → RepresentsNode self.old n → OnErr result (may_take_memory (verdict_on real n (Ok read.now.frame)) ≡ true) }
     {
         let frame = read.frame();
@@ -119,14 +113,7 @@ impl<'p> Node<'p> {
         notes: &mut Notes,
     ) -> Result<Result<Receipt<'p>, DeliveryRefusal<'p>>, OutOfMemory>
         requires continues { read.now.frame.join ≡ None }
-        ensures answer { (n : DefinedNode) → RepresentsNode self.old n → IfOk result (λ r. verdict_on real n (Ok read.now.frame) ≡ answer_of_delivery r) }
-        ensures graph { (n : DefinedNode) → RepresentsNode self.old n
-            → IfOk result (λ r. graph_of_delivery r ≡ graph_named (answer_of_delivery r) (option_map (λ x. x.0.graph) (session_of_frame n read.now.frame))) }
-        ensures shown { (n : DefinedNode) → RepresentsNode self.old n → IfOk result (λ r. IfOk r (λ x. IsReceiptAt n read.now.frame x × (x.cast ≡ read.now.frame.join))) }
-        ensures taken { IfOk result (λ r. OnOk r (self.new ≡ state_taking self.old (Ok read.now.frame))) }
-        ensures refused { IfOk result (λ r. OnErr r (self.new ≡ self.old)) }
-        ensures notes { (n : DefinedNode) → RepresentsNode self.old n → OnOk result (notes.new ≡ with_notes notes.old (notes_of_read real n (Ok read.now.frame))) }
-        ensures memory { OnErr result ((self.new ≡ self.old) × (notes.new ≡ notes.old)) }
+        ensures takes { TakesFrame self.old self.new notes.old notes.old notes.new read.now.frame result }
         ensures early { (n : DefinedNode) → RepresentsNode self.old n → OnErr result (may_take_memory (verdict_on real n (Ok read.now.frame)) ≡ true) }
     {
         let frame = read.frame();
@@ -156,14 +143,7 @@ impl<'p> Node<'p> {
         notes: &mut Notes,
     ) -> Result<Result<Receipt<'p>, DeliveryRefusal<'p>>, OutOfMemory>
         requires joins { read.now.frame.join ≡ Some cast }
-        ensures answer { (n : DefinedNode) → RepresentsNode self.old n → IfOk result (λ r. verdict_on real n (Ok read.now.frame) ≡ answer_of_delivery r) }
-        ensures graph { (n : DefinedNode) → RepresentsNode self.old n
-            → IfOk result (λ r. graph_of_delivery r ≡ graph_named (answer_of_delivery r) (option_map (λ x. x.0.graph) (session_of_frame n read.now.frame))) }
-        ensures shown { (n : DefinedNode) → RepresentsNode self.old n → IfOk result (λ r. IfOk r (λ x. IsReceiptAt n read.now.frame x × (x.cast ≡ read.now.frame.join))) }
-        ensures taken { IfOk result (λ r. OnOk r (self.new ≡ state_taking self.old (Ok read.now.frame))) }
-        ensures refused { IfOk result (λ r. OnErr r (self.new ≡ self.old)) }
-        ensures notes { (n : DefinedNode) → RepresentsNode self.old n → OnOk result (notes.new ≡ with_notes notes.old (notes_of_read real n (Ok read.now.frame))) }
-        ensures memory { OnErr result ((self.new ≡ self.old) × (notes.new ≡ notes.old)) }
+        ensures takes { TakesFrame self.old self.new notes.old notes.old notes.new read.now.frame result }
         ensures early { (n : DefinedNode) → RepresentsNode self.old n → OnErr result (may_take_memory (verdict_on real n (Ok read.now.frame)) ≡ true) }
     {
         let frame = read.frame();
@@ -191,14 +171,7 @@ impl<'p> Node<'p> {
         requires program { program_for self.old.programs cast.graph read.now.frame.receiver ≡ Some program.now }
         requires cast { (is_cast self.old.keys program.now.graph cast read.now.frame.receiver && nat_lt read.now.frame.sender (length cast.names)) ≡ true }
         requires covered { stranger self.old.keys cast ≡ None }
-        ensures answer { (n : DefinedNode) → RepresentsNode self.old n → IfOk result (λ r. verdict_on real n (Ok read.now.frame) ≡ answer_of_delivery r) }
-        ensures graph { (n : DefinedNode) → RepresentsNode self.old n
-            → IfOk result (λ r. graph_of_delivery r ≡ graph_named (answer_of_delivery r) (option_map (λ x. x.0.graph) (session_of_frame n read.now.frame))) }
-        ensures shown { (n : DefinedNode) → RepresentsNode self.old n → IfOk result (λ r. IfOk r (λ x. IsReceiptAt n read.now.frame x × (x.cast ≡ read.now.frame.join))) }
-        ensures taken { IfOk result (λ r. OnOk r (self.new ≡ state_taking self.old (Ok read.now.frame))) }
-        ensures refused { IfOk result (λ r. OnErr r (self.new ≡ self.old)) }
-        ensures notes { (n : DefinedNode) → RepresentsNode self.old n → OnOk result (notes.new ≡ with_notes notes.old (notes_of_read real n (Ok read.now.frame))) }
-        ensures memory { OnErr result ((self.new ≡ self.old) × (notes.new ≡ notes.old)) }
+        ensures takes { TakesFrame self.old self.new notes.old notes.old notes.new read.now.frame result }
     {
         let counts = notes.counts();
         let sid = session_id(&cast);
@@ -224,16 +197,7 @@ impl<'p> Node<'p> {
         requires cast { (is_cast self.old.keys program.now.graph cast read.now.frame.receiver && nat_lt read.now.frame.sender (length cast.names)) ≡ true }
         requires covered { stranger self.old.keys cast ≡ None }
         requires session { sid ≡ session_id real cast }
-        ensures answer { (n : DefinedNode) → RepresentsNode self.old n → IfOk result (λ r. verdict_on real n (Ok read.now.frame) ≡ answer_of_delivery r) }
-        ensures graph { (n : DefinedNode) → RepresentsNode self.old n
-            → IfOk result (λ r. graph_of_delivery r ≡ graph_named (answer_of_delivery r) (option_map (λ x. x.0.graph) (session_of_frame n read.now.frame))) }
-        ensures shown { (n : DefinedNode) → RepresentsNode self.old n → IfOk result (λ r. IfOk r (λ x. IsReceiptAt n read.now.frame x × (x.cast ≡ read.now.frame.join))) }
-        ensures taken { IfOk result (λ r. OnOk r (self.new ≡ state_taking self.old (Ok read.now.frame))) }
-        ensures refused { IfOk result (λ r. OnErr r (self.new ≡ self.old)) }
-        ensures notes { (n : DefinedNode) (first : Notes) → RepresentsNode self.old n
-            → notes.old ≡ record first { hashed = first.hashed ++ session_text_of cast ∷ [] }
-            → OnOk result (notes.new ≡ with_notes first (notes_of_read real n (Ok read.now.frame))) }
-        ensures memory { OnErr result ((self.new ≡ self.old) × (notes.new ≡ notes.old)) }
+        ensures takes { (first : Notes) → notes.old ≡ record first { hashed = first.hashed ++ session_text_of cast ∷ [] } → TakesFrame self.old self.new first notes.old notes.new read.now.frame result }
     {
         let frame = read.frame();
         if !is_session(&frame.sid, &sid) {
