@@ -1,5 +1,5 @@
 -- A frame that continues a session of a node.
-use Rattle.std.specs.Prelude.{◌≡◌, ℕ, ◌==◌, ◌&&◌, Bool, true, false, List, [], ◌∷◌, find, map, slice_get, bytes_eq, refl, Option, Some, None, option_map, Ok}
+use Rattle.std.specs.Prelude.{◌≡◌, ℕ, ◌==◌, ◌&&◌, Bool, true, false, List, [], ◌∷◌, find, map, slice_get, bytes_eq, refl, ◌≢◌, Option, Some, None, option_map, Result, Ok, IsErr, IfOk, IfErr, MatchResult}
 use Rattle.std.specs.Option.{option_map_or}
 use Rattle.std.specs.List.{AllByRecursion}
 use Rattle.std.proofs.Common.{sym, ◌∙◌, ap, subst}
@@ -9,9 +9,10 @@ use Rattle.sg_model.proofs.Small.{and_right, and_true, and_false}
 use Rattle.sg_model.specs.Lists.{first_some}
 use Rattle.sg_protocol.specs.Calls.{Happened, NotDelivered, UnknownSession, NotWaiting, Refusal}
 use Rattle.sg_protocol.specs.Frame.{Cast, Frame}
+use Rattle.sg_protocol.specs.Graph.{Graph}
 use Rattle.sg_protocol.specs.Keyring.{Keyring, Program}
 use Rattle.sg_protocol.specs.Node.{Node, session_for}
-use Rattle.sg_protocol.specs.NodeStates.{RepresentsNode, RepresentsIf, is_held_for, unless_spent, still_held, with_live, with_join, joined_by, state_taking}
+use Rattle.sg_protocol.specs.NodeStates.{NodeState, RepresentsNode, RepresentsIf, is_held_for, unless_spent, still_held, with_live, with_join, joined_by, state_taking}
 use Rattle.sg_protocol.specs.Notes.{Notes, no_notes, row_number, notes_in_session, notes_of_read, session_of_frame}
 use Rattle.sg_protocol.specs.Session.{Session, Took, origin}
 use Rattle.sg_protocol.specs.Spelling.{HasSpelling}
@@ -27,17 +28,21 @@ use Rattle.sg_role.specs.Faults.{Refuses}
 use Rattle.sg_role.specs.Sending.{with_notes}
 use Rattle.sg_role.specs.Model.{RoleState}
 use Rattle.sg_role.specs.declared.fault.Refusal.{Refusal as RoleRefusal}
-use Rattle.sg_node.specs.Answers.{may_take_memory}
+use Rattle.sg_role.specs.declared.fault.Refusal.TheVariants as role
+use Rattle.sg_node.specs.Answers.{answer_of_delivery, graph_named, graph_of_delivery, may_take_memory}
+use Rattle.sg_node.specs.declared.refusal.DeliveryRefusal.{DeliveryRefusal}
 use Rattle.sg_node.specs.Receipts.{Receipt, IsReceiptAt}
 use Rattle.sg_node.specs.declared.node.Node.TheInside.{Inside}
 use Rattle.sg_node.specs.declared.sessions.Live.TheVariants.{AtTurn, Waiting}
-use Rattle.sg_node.specs.Faults.{role_refusal}
+use Rattle.sg_node.specs.Faults.{delivery_refusal, role_refusal}
+use Rattle.sg_node.specs.Taking.{TakesFrame}
 use Rattle.sg_node.specs.Slots.{Slot, state_in, held_at, held_in, is_for, first_index, left_after}
 use Rattle.sg_node.specs.Invariant.{IsSlot, HoldsNode, node_state}
 use Rattle.sg_node.proofs.Indices.{live_at, Tests, First, held_first}
 use Rattle.sg_node.proofs.InSlots.{Its, AtIndex, none_here, its_slot, replaced, its_program, its_passes, session_here}
 use Rattle.sg_node.proofs.Memory.{by_session}
 use Rattle.sg_node.proofs.Receipts.{role_refused, early, no_text, no_session, not_waiting, next_rows_waiting, next_notes, session_is, unless_left, left_live}
+use Rattle.sg_node.proofs.Takings.{refused_by_role}
 
 turned : (v a b : Bool) → (v && a && b) ≡ (a && b && v)
 turned true a b = sym (and_true (a && b))
@@ -61,16 +66,36 @@ module _ (f : Frame) (ps : List Program) (js : List (List ℕ × ℕ)) where
 pub index_for : (f g : Frame) (ss : List Slot) (o : Option ℕ) → f ≡ g → o ≡ first_index (is_for f) ss → first_index (is_for g) ss ≡ o
 index_for f g ss o same found = ap (λ z. first_index (is_for z) ss) (sym same) ∙ sym found
 
--- an acceptance of a frame by a role that kept this
-pub record AcceptedBy (keys : Keyring) (t : RoleState) (f : Frame) (a : Acceptance) : Type 0 where
+-- what a role that kept this notes of a frame
+abbrev pub Noted : Keyring → RoleState → Frame → Notes → Notes → Type 0
+Noted keys t f before after = (s : Session) → RepresentsBefore t.program.graph t.held s → after ≡ with_notes before (notes_in_session real keys t.program s f (row_number (first_some (rows_of_session real keys t.program s f))))
+
+-- it accepts the frame
+pub record AcceptedBy (keys : Keyring) (t : RoleState) (f : Frame) (a : Acceptance) (old new : Notes) : Type 0 where
   pub rows : (s : Session) → RepresentsBefore t.program.graph t.held s → first_some (rows_of_session real keys t.program s f) ≡ None
   pub program : a.program ≡ t.program
   pub before : a.before ≡ t.held
   pub after : a.after ≡ held_after t.program.graph t.held (Took f)
   pub event : a.event ≡ receipt f
+  pub view : slice_get t.program.views a.view ≡ Some (record { origin = t.held.kept.origin; items = map seen f.items })
+  pub notes : Noted keys t f old new
 
-pub same_state : (keys : Keyring) (t : RoleState) (f : Frame) (a : Acceptance) → AcceptedBy keys t f a → state_after a ≡ record { program = t.program; held = held_after t.program.graph t.held (Took f) }
-same_state keys t f a d = λ i. record { program = d.program i; held = d.after i }
+-- it refuses the frame
+pub record RefusedBy (keys : Keyring) (t : RoleState) (f : Frame) (q : RoleRefusal) (old new : Notes) : Type 0 where
+  pub rows : (s : Session) → RepresentsBefore t.program.graph t.held s → Refuses (first_some (rows_of_session real keys t.program s f)) q
+  pub notes : q ≢ role.OutOfMemory → Noted keys t f old new
+  pub memory : q ≡ role.OutOfMemory → new ≡ old
+
+-- so does the same role the same frame
+module _ {keys : Keyring} {s t : RoleState} {g f : Frame} {before after : Notes} (e : s ≡ t) (k : g ≡ f) where
+  pub accepted_by : {a : Acceptance} → AcceptedBy keys s g a before after → AcceptedBy keys t f a before after
+  accepted_by {a = a} d = subst (λ (z : RoleState). AcceptedBy keys z f a before after) e (subst (λ (z : Frame). AcceptedBy keys s z a before after) k d)
+
+  pub refused_by : {q : RoleRefusal} → RefusedBy keys s g q before after → RefusedBy keys t f q before after
+  refused_by {q = q} d = subst (λ (z : RoleState). RefusedBy keys z f q before after) e (subst (λ (z : Frame). RefusedBy keys s z q before after) k d)
+
+pub same_state : {keys : Keyring} {t : RoleState} {f : Frame} {a : Acceptance} {before after : Notes} → AcceptedBy keys t f a before after → state_after a ≡ record { program = t.program; held = held_after t.program.graph t.held (Took f) }
+same_state d = λ i. record { program = d.program i; held = d.after i }
 
 module _ (n : Inside) (h : HoldsNode n) (f : Frame) where
   pub tests : AllByRecursion (Tests (is_held_for f) (is_for f)) n.sessions.slots
@@ -80,11 +105,10 @@ module _ (n : Inside) (h : HoldsNode n) (f : Frame) where
   represents_if m st = (node_states_represent real real_hash).finds_for_frame m.programs (held_in n.sessions.slots) m.live f st.live
 
   -- no session is there for the frame
-  module _ (j : f.join ≡ None) (m : Node) (st : RepresentsNode (node_state n) m) where
-    pub unknown : first_index (is_for f) n.sessions.slots ≡ None → (verdict_on real m (Ok f) ≡ NotDelivered UnknownSession) × (notes_of_read real m (Ok f) ≡ no_notes)
-    unknown e =
-        let r = no_session m f j (none_here n h (is_held_for f) (is_for f) tests e m.programs (session_for m.live f) (represents_if m st)) in
-        (ap (decided (receipt f)) r, early m f UnknownSession r refl refl refl ∙ ap (λ h. record { made = []; found = []; hashed = h }) (no_text m f j 9))
+  pub unknown : f.join ≡ None → first_index (is_for f) n.sessions.slots ≡ None → (m : Node) → RepresentsNode (node_state n) m → (verdict_on real m (Ok f) ≡ NotDelivered UnknownSession) × (notes_of_read real m (Ok f) ≡ no_notes)
+  unknown j e m st =
+      let r = no_session m f j (none_here n h (is_held_for f) (is_for f) tests e m.programs (session_for m.live f) (represents_if m st)) in
+      (ap (decided (receipt f)) r, early m f UnknownSession r refl refl refl ∙ ap (λ h. record { made = []; found = []; hashed = h }) (no_text m f j 9))
 
   -- the slot of the session for the frame
   pub first_for : (i : ℕ) → first_index (is_for f) n.sessions.slots ≡ Some i → First (is_held_for f) (is_for f) n.sessions.slots i
@@ -113,15 +137,15 @@ module _ (n : Inside) (h : HoldsNode n) (f : Frame) where
         its_rows : first_some (rows real m f) ≡ first_some (rows_of_session real n.keys t.program it.session f)
         its_rows = next_rows_waiting m f j it.session t.program it.is it.program it.represents.waits ∙ ap (λ k. first_some (rows_of_session real k t.program it.session f)) (sym st.keys)
 
-        pub refused : (r : RoleRefusal) → ((s : Session) → RepresentsBefore t.program.graph t.held s → Refuses (first_some (rows_of_session real n.keys t.program s f)) r) → (o : Refusal) → role_refusal r ≡ Some o → verdict_on real m (Ok f) ≡ NotDelivered o
-        refused r g o k = role_refused (receipt f) (first_some (rows real m f)) r o (subst (λ x. Refuses x r) (sym its_rows) (g it.session it.represents.before)) k
+        verdict_is : {q : RoleRefusal} {before after : Notes} → RefusedBy n.keys t f q before after → (o : Refusal) → role_refusal q ≡ Some o → verdict_on real m (Ok f) ≡ NotDelivered o
+        verdict_is {q = q} d o k = role_refused (receipt f) (first_some (rows real m f)) q o (subst (λ x. Refuses x q) (sym its_rows) (d.rows it.session it.represents.before)) k
 
         -- its session, with its program
-        pub session_of : session_of_frame m f ≡ Some (t.program, it.session)
+        session_of : session_of_frame m f ≡ Some (t.program, it.session)
         session_of = session_is m f j it.session t.program it.is it.program
 
         -- a receipt of this view is of its session
-        pub shown : (r : Receipt) → r.program ≡ t.program → slice_get t.program.views r.view ≡ Some (record { origin = t.held.kept.origin; items = map seen f.items }) → IsReceiptAt m f r
+        shown : (r : Receipt) → r.program ≡ t.program → slice_get t.program.views r.view ≡ Some (record { origin = t.held.kept.origin; items = map seen f.items }) → IsReceiptAt m f r
         shown r is v = record {
           session = it.session;
           is_session = session_of ∙ ap (λ p. Some (p, it.session)) (sym is);
@@ -132,17 +156,15 @@ module _ (n : Inside) (h : HoldsNode n) (f : Frame) where
         pub may_take : may_take_memory (verdict_on real m (Ok f)) ≡ true
         may_take = ap (λ x. may_take_memory (decided (receipt f) x)) its_rows ∙ by_session (receipt f) n.keys t.program it.session f
 
-        pub taken : (a : Acceptance) → AcceptedBy n.keys t f a → verdict_on real m (Ok f) ≡ Happened (receipt f)
-        taken a d = ap (decided (receipt f)) (its_rows ∙ d.rows it.session it.represents.before)
+        happened : {a : Acceptance} {before after : Notes} → AcceptedBy n.keys t f a before after → verdict_on real m (Ok f) ≡ Happened (receipt f)
+        happened d = ap (decided (receipt f)) (its_rows ∙ d.rows it.session it.represents.before)
 
-        pub noted : (old new : Notes) →
-            ((s : Session) → RepresentsBefore t.program.graph t.held s → new ≡ with_notes old (notes_in_session real n.keys t.program s f (row_number (first_some (rows_of_session real n.keys t.program s f))))) →
-            new ≡ with_notes old (notes_of_read real m (Ok f))
-        noted old new g =
+        noted : (before after : Notes) → Noted n.keys t f before after → after ≡ with_notes before (notes_of_read real m (Ok f))
+        noted before after g =
             g it.session it.represents.before
-            ∙ ap (with_notes old) (sym (next_notes m f j it.session t.program it.is it.program it.represents.waits ∙ ap (λ k. notes_in_session real k t.program it.session f (row_number (first_some (rows_of_session real k t.program it.session f)))) (sym st.keys)))
+            ∙ ap (with_notes before) (sym (next_notes m f j it.session t.program it.is it.program it.represents.waits ∙ ap (λ k. notes_in_session real k t.program it.session f (row_number (first_some (rows_of_session real k t.program it.session f)))) (sym st.keys)))
 
-      module _ (sp : HasSpelling f) (a : Acceptance) (d : AcceptedBy n.keys t f a) where
+      module _ (sp : HasSpelling f) (a : Acceptance) {before after : Notes} (d : AcceptedBy n.keys t f a before after) where
         reachable : IsReachableAtTurn real t.program (held_after t.program.graph t.held (Took f))
         reachable =
             let b : IsReachableWaiting real t.program t.held = at.live.reachable in
@@ -150,15 +172,39 @@ module _ (n : Inside) (h : HoldsNode n) (f : Frame) where
             laws.takes n.keys t.program t.held b.session f (its_program n h (is_held_for f) (is_for f) tests i (Waiting t) e there) (laws.before t.program t.held b) b.represents.before sp version_is (d.rows b.session b.represents.before)
 
         pub next_slots : AllByRecursion (IsSlot n.programs.now n.joins.pairs) (set_value_at n.sessions.slots i (left_after a))
-        next_slots = at.put (left_after a) (left_live t.program (held_after t.program.graph t.held (Took f)) reachable a (same_state n.keys t f a d) n.programs.now (at.key).0 (at.key).1 at.live.sid at.live.role at.live.program)
+        next_slots = at.put (left_after a) (left_live t.program (held_after t.program.graph t.held (Took f)) reachable a (same_state d) n.programs.now (at.key).0 (at.key).1 at.live.sid at.live.role at.live.program)
 
         still : still_held n.programs.now t.held (Took f) ≡ held_at (left_after a)
         still =
             ap (λ (o : Option Program). option_map_or (λ p. unless_spent p (held_after p.graph t.held (Took f))) o []) at.live.program
-            ∙ unless_left t.program (held_after t.program.graph t.held (Took f)) reachable a (same_state n.keys t f a d)
+            ∙ unless_left t.program (held_after t.program.graph t.held (Took f)) reachable a (same_state d)
 
-        pub next_state : f.join ≡ None → record { keys = n.keys; programs = n.programs.now; joins = n.joins.pairs; live = held_in (set_value_at n.sessions.slots i (left_after a)) } ≡ state_taking (node_state n) (Ok f)
+        next_state : f.join ≡ None → record { keys = n.keys; programs = n.programs.now; joins = n.joins.pairs; live = held_in (set_value_at n.sessions.slots i (left_after a)) } ≡ state_taking (node_state n) (Ok f)
         next_state j =
             ap (λ hs. record { keys = n.keys; programs = n.programs.now; joins = n.joins.pairs; live = hs })
             (replaced n h (is_held_for f) (is_for f) tests i (Waiting t) e there (left_after a) (λ z. still_held n.programs.now z (Took f)) still)
             ∙ ap (λ (o : Option Cast). option_map_or (λ c. with_join (node_state n) f.sid f.receiver (joined_by n.programs.now f c)) o (with_live (node_state n) (is_held_for f) (λ z. still_held n.programs.now z (Took f)))) (sym j)
+
+        -- the node takes the frame
+        pub takes : {E : Type 0} {st : NodeState} → node_state n ≡ st → f.join ≡ None → (slots : List Slot) → slots ≡ set_value_at n.sessions.slots i (left_after a)
+            → (r : Receipt) → r ≡ record { event = a.event; program = a.program; view = a.view; cast = None }
+            → TakesFrame {E = E} st (record { keys = n.keys; programs = n.programs.now; joins = n.joins.pairs; live = held_in slots }) before before after f (Ok (Ok r))
+        takes {E = E} is j slots left r got = subst (λ (z : NodeState). TakesFrame {E = E} z (record { keys = n.keys; programs = n.programs.now; joins = n.joins.pairs; live = held_in slots }) before before after f (Ok (Ok r))) is (record {
+          answer = λ m st. happened j m st d ∙ ap Happened (sym d.event) ∙ ap (λ (r : Receipt). Happened r.event) (sym got);
+          graph = λ m st. ap (λ (r : Receipt). Some r.program.graph) got ∙ ap (λ (p : Program). Some p.graph) d.program ∙ ap (option_map (λ (x : Program × Session). x.0.graph)) (sym (session_of j m st));
+          shown = λ m st. subst (λ (r : Receipt). IsReceiptAt m f r × (r.cast ≡ f.join)) (sym got) (shown j m st (record { event = a.event; program = a.program; view = a.view; cast = None }) d.program d.view, sym j);
+          taken = ap (λ ss. record { keys = n.keys; programs = n.programs.now; joins = n.joins.pairs; live = held_in ss }) left ∙ next_state j;
+          refused = tt;
+          notes = λ m st. noted j m st before after d.notes;
+          memory = tt;
+        })
+
+      -- the node refuses the frame, or memory runs out
+      pub refuses : {E : Type 0} {st : NodeState} {q : RoleRefusal} {before after : Notes} {g : Graph} → node_state n ≡ st → f.join ≡ None → RefusedBy n.keys t f q before after → g ≡ t.program.graph
+          → (res : Result (Result Receipt DeliveryRefusal) E) → IfOk res (λ r. IsErr r) → MatchResult res (λ r. IfErr r (λ why. role_refusal q ≡ Some (delivery_refusal why))) (λ e. q ≡ role.OutOfMemory)
+          → IfOk res (λ r. graph_of_delivery r ≡ graph_named (answer_of_delivery r) (Some g)) → TakesFrame st st before before after f res
+      refuses {q = q} {before = before} {after = after} is j d same res e w k = refused_by_role q res is refl e w k
+          (λ m st. verdict_is j m st d)
+          (λ m st. ap (λ (g : Graph). Some g) same ∙ ap (option_map (λ (x : Program × Session). x.0.graph)) (sym (session_of j m st)))
+          (λ m st told. noted j m st before after (d.notes told))
+          d.memory

@@ -15,6 +15,7 @@ pub mod Joined
 pub mod Memory
 pub mod Starts
 pub mod Receipts
+pub mod Takings
 pub mod Continuing
 pub mod Entering
 pub mod Taking

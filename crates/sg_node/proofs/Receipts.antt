@@ -1,12 +1,12 @@
 -- What a node answers to a frame, and what is live after it.
-use Rattle.std.specs.Prelude.{◌≡◌, ◌≢◌, ℕ, ◌==◌, ◌&&◌, nat_lt, nat_le, not, Bool, true, false, if◌then◌else◌, List, [], ◌∷◌, ◌++◌, length, bytes_eq, refl, Option, Some, None, option_map, option_and_then, Result, Ok, Err, is_ok, IsOk, IsErr, IfOk, IfErr, MatchResult, OnOk, OnErr}
+use Rattle.std.specs.Prelude.{◌≡◌, ℕ, ◌==◌, ◌&&◌, nat_lt, nat_le, not, Bool, true, false, if◌then◌else◌, List, [], ◌∷◌, ◌++◌, length, bytes_eq, refl, Option, Some, None, option_map, option_and_then, Result, Ok, Err, is_ok, IsOk, IfOk, OnOk, OnErr}
 use Rattle.std.specs.Option.{option_map_or}
 use Rattle.std.specs.List.{list_any}
 use Rattle.std.proofs.Common.{sym, ◌∙◌, ap, subst, take, append-nil}
 use Rattle.std.proofs.Math.Seq.{take-append_seam, take-length}
 use Rattle.sg_model.proofs.Small.{clash}
 use Rattle.sg_model.specs.Lists.{first_some}
-use Rattle.sg_protocol.specs.Calls.{Event, Answer, Happened, NotDelivered, Refusal, UnknownGraph, BadCast, UnknownPeer, BadSession, Joined, CacheFull, SessionsFull, UnknownSession, NotWaiting}
+use Rattle.sg_protocol.specs.Calls.{Event, NotDelivered, Refusal, UnknownGraph, BadCast, UnknownPeer, BadSession, Joined, CacheFull, SessionsFull, UnknownSession, NotWaiting}
 use Rattle.sg_protocol.specs.Frame.{Cast, Frame}
 use Rattle.sg_protocol.specs.Keyring.{Keyring, Program, may_return}
 use Rattle.sg_protocol.specs.Node.{Node, program_for, session_for, is_cast, stranger, has_joined}
@@ -27,7 +27,7 @@ use Rattle.sg_node.specs.declared.refusal.DeliveryRefusal.{DeliveryRefusal}
 use Rattle.sg_node.specs.Answers.{answer_of_delivery, graph_named, graph_of_delivery, may_take_memory}
 use Rattle.sg_node.specs.Receipts.{Receipt}
 use Rattle.sg_node.specs.declared.sessions.Live.TheVariants.{AtTurn}
-use Rattle.sg_node.specs.Faults.{delivery_refusal, role_refusal}
+use Rattle.sg_node.specs.Faults.{role_refusal}
 use Rattle.sg_node.specs.Slots.{held_at, left_after}
 use Rattle.sg_node.specs.Invariant.{IfLive}
 use Rattle.sg_node.proofs.InSlots.{turn_held}
@@ -42,42 +42,11 @@ role_refused e x (role.BadEvidence item) o h k = ap (decided e) (h ∙ k)
 role_refused e x (role.BadOpening var) o h k = ap (decided e) (h ∙ k)
 role_refused e x role.OutOfMemory o h k = absurd (cc)
 
--- so it is beside the graph, or memory ran out
-pub refused_by : {E : Type 0} (a : Answer) (q : RoleRefusal) (res : Result (Result Receipt DeliveryRefusal) E) → IfOk res (λ r. IsErr r) → MatchResult res (λ r. IfErr r (λ why. role_refusal q ≡ Some (delivery_refusal why))) (λ e. q ≡ role.OutOfMemory)
-    → ((o : Refusal) → role_refusal q ≡ Some o → a ≡ NotDelivered o) → IfOk res (λ r. a ≡ answer_of_delivery r)
-refused_by a q (Ok (Err why)) e m g = g (delivery_refusal why) m
-refused_by a q (Ok (Ok x)) e m g = clash true refl (sym e)
-refused_by a q (Err y) e m g = tt
-
--- whatever holds if something was received holds of a refusal
-pub never_received : {E : Type 0} (P : Receipt → Type 0) (res : Result (Result Receipt DeliveryRefusal) E) → IfOk res (λ r. IsErr r) → IfOk res (λ r. IfOk r P)
-never_received P (Ok (Err why)) e = tt
-never_received P (Ok (Ok x)) e = clash true refl (sym e)
-never_received P (Err y) e = tt
-
-pub never_taken : {E : Type 0} (P : Type 0) (res : Result (Result Receipt DeliveryRefusal) E) → IfOk res (λ r. IsErr r) → IfOk res (λ r. OnOk r P)
-never_taken P (Ok (Err why)) e = tt
-never_taken P (Ok (Ok x)) e = clash true refl (sym e)
-never_taken P (Err y) e = tt
-
 -- whatever holds holds after a refusal
 pub all_refused : {A B E : Type 0} (P : Type 0) (res : Result (Result A B) E) → P → IfOk res (λ r. OnErr r P)
 all_refused P (Ok (Ok x)) p = tt
 all_refused P (Ok (Err why)) p = p
 all_refused P (Err y) p = tt
-
--- want of memory was the role's
-pub if_memory : {E : Type 0} (P : Type 0) (q : RoleRefusal) (res : Result (Result Receipt DeliveryRefusal) E) → IfOk res (λ r. IsErr r) → MatchResult res (λ r. IfErr r (λ why. role_refusal q ≡ Some (delivery_refusal why))) (λ e. q ≡ role.OutOfMemory)
-    → (q ≡ role.OutOfMemory → P) → OnErr res P
-if_memory P q (Ok x) e m g = tt
-if_memory P q (Err y) e m g = g m
-
--- a refusal is no want of memory, so the role's wasn't
-pub not_memory : {E : Type 0} (P : Type 0) (q : RoleRefusal) (res : Result (Result Receipt DeliveryRefusal) E) → IfOk res (λ r. IsErr r) → MatchResult res (λ r. IfErr r (λ why. role_refusal q ≡ Some (delivery_refusal why))) (λ e. q ≡ role.OutOfMemory)
-    → (q ≢ role.OutOfMemory → P) → OnOk res P
-not_memory P q (Ok (Err why)) e m g = g (λ w. let z : None ≡ Some (delivery_refusal why) = ap role_refusal (sym w) ∙ m in cc)
-not_memory P q (Ok (Ok x)) e m g = clash true refl (sym e)
-not_memory P q (Err y) e m g = tt
 
 -- the graph beside it is that of the session, if it names a variable
 pub same_graph : {E : Type 0} (res : Result (Result Receipt DeliveryRefusal) E) (g h : Option Graph) → IfOk res (λ r. graph_of_delivery r ≡ graph_named (answer_of_delivery r) g) → g ≡ h → IfOk res (λ r. graph_of_delivery r ≡ graph_named (answer_of_delivery r) h)
