@@ -113,7 +113,8 @@ behind_four x role.OutOfMemory h k = absurd (k refl)
 
 -- room leaves the node
 pub same_node : (n : Inside) {st : NodeState} {joins : List (List ℕ × ℕ)} {slots : List Slot} → node_state n ≡ st → joins ≡ n.joins.pairs → slots ≡ n.sessions.slots → record { keys = n.keys; programs = n.programs.now; joins = joins; live = held_in slots } ≡ st
-same_node n is js ss = (λ i. record { keys = n.keys; programs = n.programs.now; joins = js i; live = held_in (ss i) }) ∙ is
+same_node n {slots = slots} is js ss =
+    ap (λ z. record { keys = n.keys; programs = n.programs.now; joins = z; live = held_in slots }) js ∙ ap (λ z. record { keys = n.keys; programs = n.programs.now; joins = n.joins.pairs; live = held_in z }) ss ∙ is
 
 -- its cast is right, and all keys are there
 pub record Enters (n : Inside) (f : Frame) (c : Cast) (p : Program) : Type 0 where
@@ -339,7 +340,9 @@ module _ {n : Inside} {f : Frame} {c : Cast} {p : Program} (k : Enters n f c p) 
         answer = λ m st. happened m st none d ∙ ap Happened (sym d.event) ∙ ap (λ (r : Receipt). Happened r.event) (sym got);
         graph = λ m st. ap (λ (r : Receipt). Some r.program.graph) got ∙ ap (λ (p : Program). Some p.graph) d.program ∙ ap (option_map (λ (x : Program × Session). x.0.graph)) (sym (session_of m st none));
         shown = λ m st. subst (λ (r : Receipt). IsReceiptAt m f r × (r.cast ≡ f.join)) (sym got) (shown m st none (record { event = a.event; program = a.program; view = a.view; cast = shared }) d.program d.view, again);
-        taken = (λ i. record { keys = n.keys; programs = n.programs.now; joins = js i; live = held_in (ss i) }) ∙ join_state;
+        taken =
+            ap (λ z. record { keys = n.keys; programs = n.programs.now; joins = z; live = held_in slots }) js
+            ∙ ap (λ z. record { keys = n.keys; programs = n.programs.now; joins = n.joins.pairs ++ (session_id real c, p.role) ∷ []; live = held_in z }) ss ∙ join_state;
         refused = tt;
         notes = λ m st. noted_taken m st none first before after e d;
         memory = tt;

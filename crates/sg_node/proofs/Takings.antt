@@ -59,10 +59,10 @@ refused_by_role q (Ok (Ok x)) is same e w k a s n l = clash true refl (sym e)
 refused_by_role q (Err y) is same e w k a s n l = record { answer = λ m st. tt; graph = λ m st. tt; shown = λ m st. tt; taken = tt; refused = tt; notes = λ m st. tt; memory = (same, l w) }
 
 -- memory ran out
-pub out_of_memory : {E : Type 0} {Q : E → Type 0} {old new : NodeState} {first before after : Notes} {f : Frame} (res : Result (Result Receipt DeliveryRefusal) E) → IsErrAnd res Q → new ≡ old → after ≡ before
+pub out_of_memory : {E : Type 0} {old new : NodeState} {first before after : Notes} {f : Frame} (Q : E → Type 0) (res : Result (Result Receipt DeliveryRefusal) E) → IsErrAnd res Q → new ≡ old → after ≡ before
     → TakesFrame old new first before after f res
-out_of_memory (Ok r) h same e = absurd h
-out_of_memory (Err y) h same e = record { answer = λ m st. tt; graph = λ m st. tt; shown = λ m st. tt; taken = tt; refused = tt; notes = λ m st. tt; memory = (same, e) }
+out_of_memory Q (Ok r) h same e = absurd h
+out_of_memory Q (Err y) h same e = record { answer = λ m st. tt; graph = λ m st. tt; shown = λ m st. tt; taken = tt; refused = tt; notes = λ m st. tt; memory = (same, e) }
 
 -- ---- a frame that is taken after more was noted
 

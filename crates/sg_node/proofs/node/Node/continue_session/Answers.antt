@@ -112,7 +112,7 @@ returns-in-Ok-clause-takes c =
     } in
     let d : AcceptedBy c.self.inside.keys c.in-Some-Waiting.wait f c.in-Ok.accepted c.args.notes.now c.examine.new.notes = accepted_by c.before-kept.ensures.before c.frame-frame.ensures.frame its in
     takes c.self.inside c.self.invariant f c.in-Some.index c.in-Some-Waiting.wait e there c.frame-frame.ensures.reading.spelled.is_frame c.in-Ok.accepted d c.self.view_is c.requires.continues
-        c.take.new.sessions.slots c.take.ensures.slots c.take.result c.take.ensures.receipt
+    c.take.new.sessions.slots c.take.ensures.slots c.take.result c.take.ensures.receipt
 
 -- ---- or refuses it
 
@@ -128,8 +128,8 @@ returns-in-Err-clause-takes c =
     } in
     let d : RefusedBy c.self.inside.keys c.in-Some-Waiting.wait f c.in-Err.refusal c.args.notes.now c.examine.new.notes = refused_by c.before-kept.ensures.before c.frame-frame.ensures.frame its in
     refuses c.self.inside c.self.invariant f c.in-Some.index c.in-Some-Waiting.wait e there c.self.view_is c.requires.continues d
-        (c.graph-graph.ensures.graph ∙ ap (λ (p : Program). p.graph) c.program.ensures ∙ ap (λ (s : RoleState). s.program.graph) c.before-kept.ensures.before)
-        c.refused.result c.refused.ensures.refused c.refused.ensures.refusal c.refused.ensures.graph
+    (c.graph-graph.ensures.graph ∙ ap (λ (p : Program). p.graph) c.program.ensures ∙ ap (λ (s : RoleState). s.program.graph) c.before-kept.ensures.before)
+    c.refused.result c.refused.ensures.refused c.refused.ensures.refusal c.refused.ensures.graph
 
 pub returns-in-Err-clause-early : goal.returns-in-Err-clause-early
 returns-in-Err-clause-early c =

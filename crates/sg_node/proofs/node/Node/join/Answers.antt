@@ -35,7 +35,7 @@ returns-in-Some-covers-clause-takes c =
     let right : (is_cast c.self.inside.keys c.in-Some.program.now.graph c.args.cast f.receiver && nat_lt f.sender (length c.args.cast.names)) ≡ true =
     subst (λ (z : Frame). (is_cast c.self.inside.keys c.in-Some.program.now.graph c.args.cast z.receiver && nat_lt z.sender (length c.args.cast.names)) ≡ true) c.frame-frame.ensures.frame (sym c.if-not-fits.ensures) in
     refused_at_once (deliveries.UnknownPeer c.in-Some-covers.name) no_notes c.self.view_is (λ g. refl) (with_none c.args.notes.now)
-        (unknown_peer (node_state c.self.inside) f c.args.cast c.requires.joins c.in-Some.program.now found right c.in-Some-covers.name (sym c.covers.ensures ∙ c.in-Some-covers.is))
+    (unknown_peer (node_state c.self.inside) f c.args.cast c.requires.joins c.in-Some.program.now found right c.in-Some-covers.name (sym c.covers.ensures ∙ c.in-Some-covers.is))
 
 pub join_known-requires-clause-program : goal.join_known-requires-clause-program
 join_known-requires-clause-program c =

@@ -173,16 +173,16 @@ invariant_of-self-in-Err c =
 -- ---- memory runs out
 
 pub returns-in_err-shared : goal.returns-in_err-shared
-returns-in_err-shared c = record { takes = λ first e. out_of_memory c.from_residual.result c.from_residual.ensures.1 refl refl }
+returns-in_err-shared c = record { takes = λ first e. out_of_memory _ c.from_residual.result c.from_residual.ensures.1 refl refl }
 
 pub returns-in_err-make_room : goal.returns-in_err-make_room
 returns-in_err-make_room c = record {
-  takes = λ first e. out_of_memory c.from_residual-in_err-make_room.result c.from_residual-in_err-make_room.ensures.1 (same_node c.self.inside c.self.view_is c.make_room.ensures.joins c.make_room.ensures.sessions) refl;
+  takes = λ first e. out_of_memory _ c.from_residual-in_err-make_room.result c.from_residual-in_err-make_room.ensures.1 (same_node c.self.inside c.self.view_is c.make_room.ensures.joins c.make_room.ensures.sessions) refl;
 }
 
 pub returns-in_err-before : goal.returns-in_err-before
 returns-in_err-before c = record {
-  takes = λ first e. out_of_memory c.from_residual-in_err-before.result c.from_residual-in_err-before.ensures.1 (same_node c.self.inside c.self.view_is c.make_room.ensures.joins c.make_room.ensures.sessions) refl;
+  takes = λ first e. out_of_memory _ c.from_residual-in_err-before.result c.from_residual-in_err-before.ensures.1 (same_node c.self.inside c.self.view_is c.make_room.ensures.joins c.make_room.ensures.sessions) refl;
 }
 
 -- ---- the node takes the frame

@@ -7,7 +7,7 @@ use Rattle.sg_node.proofs.node.Node.join_known.Goals as goal
 
 -- the session's text isn't noted
 pub returns-in_err-note_session : goal.returns-in_err-note_session
-returns-in_err-note_session c = record { takes = out_of_memory c.from_residual.result c.from_residual.ensures.1 refl c.in_err-note_session.ensures.err }
+returns-in_err-note_session c = record { takes = out_of_memory _ c.from_residual.result c.from_residual.ensures.1 refl c.in_err-note_session.ensures.err }
 
 -- it was received or refused: the notes are those after the session's text
 pub returns-else-is_err : goal.returns-else-is_err
