@@ -14,7 +14,7 @@ use Rattle.sg_protocol.specs.Keyring.{Keyring, Program}
 use Rattle.sg_protocol.specs.Node.{Node, session_for}
 use Rattle.sg_protocol.specs.NodeStates.{NodeState, RepresentsNode, RepresentsIf, is_held_for, unless_spent, still_held, with_live, with_join, joined_by, state_taking}
 use Rattle.sg_protocol.specs.Notes.{Notes, no_notes, row_number, notes_in_session, notes_of_read, session_of_frame}
-use Rattle.sg_protocol.specs.Session.{Session, Took, origin}
+use Rattle.sg_protocol.specs.Session.{Session, Took}
 use Rattle.sg_protocol.specs.Spelling.{HasSpelling}
 use Rattle.sg_protocol.specs.Representation.{Held, RepresentsBefore, held_after}
 use Rattle.sg_protocol.specs.Reachable.{IsReachableAtTurn, IsReachableWaiting}
@@ -88,8 +88,11 @@ pub record RefusedBy (keys : Keyring) (t : RoleState) (f : Frame) (q : RoleRefus
 
 -- so does the same role the same frame
 module _ {keys : Keyring} {s t : RoleState} {g f : Frame} {before after : Notes} (e : s ≡ t) (k : g ≡ f) where
-  pub accepted_by : {a : Acceptance} → AcceptedBy keys s g a before after → AcceptedBy keys t f a before after
-  accepted_by {a = a} d = subst (λ (z : RoleState). AcceptedBy keys z f a before after) e (subst (λ (z : Frame). AcceptedBy keys s z a before after) k d)
+  pub accepted_by : {a : Acceptance} → ((x : Session) → RepresentsBefore s.program.graph s.held x → first_some (rows_of_session real keys s.program x g) ≡ None) → a.program ≡ s.program → a.before ≡ s.held
+      → a.after ≡ held_after s.program.graph s.held (Took g) → a.event ≡ receipt g → slice_get s.program.views a.view ≡ Some (record { origin = s.held.kept.origin; items = map seen g.items }) → Noted keys s g before after
+      → AcceptedBy keys t f a before after
+  accepted_by {a = a} r p b h v w n = subst (λ (z : RoleState). AcceptedBy keys z f a before after) e
+      (subst (λ (z : Frame). AcceptedBy keys s z a before after) k (record { rows = r; program = p; before = b; after = h; event = v; view = w; notes = n }))
 
   pub refused_by : {q : RoleRefusal} → RefusedBy keys s g q before after → RefusedBy keys t f q before after
   refused_by {q = q} d = subst (λ (z : RoleState). RefusedBy keys z f q before after) e (subst (λ (z : Frame). RefusedBy keys s z q before after) k d)

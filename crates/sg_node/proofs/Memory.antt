@@ -1,5 +1,5 @@
 -- Which answers may take memory.
-use Rattle.std.specs.Prelude.{◌≡◌, ℕ, nat_le, nat_lt, ◌+◌, ◌<◌, ◌⊎◌, length, not, Result, Ok, Err, is_ok, IsErr, Bool, true, false, if◌then◌else◌, List, [], ◌∷◌, refl, Option, Some, None, option_map, option_and_then, find, position}
+use Rattle.std.specs.Prelude.{◌≡◌, ℕ, nat_le, nat_lt, ◌+◌, ◌<◌, ◌⊎◌, length, not, Result, Ok, Err, is_ok, IsErr, Bool, true, false, if◌then◌else◌, List, [], ◌∷◌, refl, Option, Some, None, option_map, find, position}
 use Rattle.std.proofs.Common.{ap, ◌∙◌, inl, inr, arith}
 use Rattle.std.proofs.lemmas.Bool.{cases_Bool}
 use Rattle.std.proofs.lemmas.Bool.Decides.{nat_tests}

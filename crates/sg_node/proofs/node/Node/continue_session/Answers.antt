@@ -78,16 +78,8 @@ invariant_of-self c =
     let f = c.args.read.now.frame in
     let e = index_for c.frame-frame.result.now f c.self.inside.sessions.slots (Some c.in-Some.index) c.frame-frame.ensures.frame c.in-Some.ensures in
     let there = sym c.in-Some-Waiting.ensures ∙ ap (λ z. Some z) c.in-Some-Waiting.field-0-is in
-    let its : AcceptedBy c.self.inside.keys c.before-kept.result.now c.frame-frame.result.now c.in-Ok.accepted c.args.notes.now c.examine.new.notes = record {
-      rows = c.in-Ok.ensures.accepted;
-      program = c.in-Ok.ensures.program;
-      before = c.in-Ok.ensures.before;
-      after = c.in-Ok.ensures.after;
-      event = c.in-Ok.ensures.event;
-      view = c.in-Ok.ensures.view;
-      notes = λ x b. c.in-Ok.ensures.notes x b (λ q. clash true refl (ap is_ok q));
-    } in
-    let d : AcceptedBy c.self.inside.keys c.in-Some-Waiting.wait f c.in-Ok.accepted c.args.notes.now c.examine.new.notes = accepted_by c.before-kept.ensures.before c.frame-frame.ensures.frame its in
+    let d : AcceptedBy c.self.inside.keys c.in-Some-Waiting.wait f c.in-Ok.accepted c.args.notes.now c.examine.new.notes = accepted_by c.before-kept.ensures.before c.frame-frame.ensures.frame
+    c.in-Ok.ensures.accepted c.in-Ok.ensures.program c.in-Ok.ensures.before c.in-Ok.ensures.after c.in-Ok.ensures.event c.in-Ok.ensures.view (λ x b. c.in-Ok.ensures.notes x b (λ q. clash true refl (ap is_ok q))) in
     record {
       programs = c.self.invariant.programs;
       slots = subst (AllByRecursion (IsSlot c.self.inside.programs.now c.self.inside.joins.pairs)) (sym c.take.ensures.slots)
@@ -101,16 +93,8 @@ returns-in-Ok-clause-takes c =
     let f = c.args.read.now.frame in
     let e = index_for c.frame-frame.result.now f c.self.inside.sessions.slots (Some c.in-Some.index) c.frame-frame.ensures.frame c.in-Some.ensures in
     let there = sym c.in-Some-Waiting.ensures ∙ ap (λ z. Some z) c.in-Some-Waiting.field-0-is in
-    let its : AcceptedBy c.self.inside.keys c.before-kept.result.now c.frame-frame.result.now c.in-Ok.accepted c.args.notes.now c.examine.new.notes = record {
-      rows = c.in-Ok.ensures.accepted;
-      program = c.in-Ok.ensures.program;
-      before = c.in-Ok.ensures.before;
-      after = c.in-Ok.ensures.after;
-      event = c.in-Ok.ensures.event;
-      view = c.in-Ok.ensures.view;
-      notes = λ x b. c.in-Ok.ensures.notes x b (λ q. clash true refl (ap is_ok q));
-    } in
-    let d : AcceptedBy c.self.inside.keys c.in-Some-Waiting.wait f c.in-Ok.accepted c.args.notes.now c.examine.new.notes = accepted_by c.before-kept.ensures.before c.frame-frame.ensures.frame its in
+    let d : AcceptedBy c.self.inside.keys c.in-Some-Waiting.wait f c.in-Ok.accepted c.args.notes.now c.examine.new.notes = accepted_by c.before-kept.ensures.before c.frame-frame.ensures.frame
+    c.in-Ok.ensures.accepted c.in-Ok.ensures.program c.in-Ok.ensures.before c.in-Ok.ensures.after c.in-Ok.ensures.event c.in-Ok.ensures.view (λ x b. c.in-Ok.ensures.notes x b (λ q. clash true refl (ap is_ok q))) in
     takes c.self.inside c.self.invariant f c.in-Some.index c.in-Some-Waiting.wait e there c.frame-frame.ensures.reading.spelled.is_frame c.in-Ok.accepted d c.self.view_is c.requires.continues
     c.take.new.sessions.slots c.take.ensures.slots c.take.result c.take.ensures.receipt
 

@@ -110,16 +110,8 @@ join_session-requires-clause-waits c =
     let k : Enters c.self.inside c.args.read.now.frame c.args.cast c.args.program.now = entering c.self.view_is c.self.invariant c.requires.joins c.requires.program c.requires.cast c.requires.covered in
     let same = c.frame.view_is ∙ c.frame-frame.ensures.frame in
     let sid = subst (λ (z : Frame). z.sid ≡ session_id real c.args.cast) same (c.if-not-is_session.ensures.0 refl ∙ c.requires.session) in
-    let its : AcceptedBy c.self.inside.keys c.in_ok-before.before c.frame-frame.result.now c.in-Ok.accepted c.args.notes.now c.examine.new.notes = record {
-      rows = c.in-Ok.ensures.accepted;
-      program = c.in-Ok.ensures.program;
-      before = c.in-Ok.ensures.before;
-      after = c.in-Ok.ensures.after;
-      event = c.in-Ok.ensures.event;
-      view = c.in-Ok.ensures.view;
-      notes = λ x b. c.in-Ok.ensures.notes x b (λ q. clash true refl (ap is_ok q));
-    } in
-    let d : AcceptedBy c.self.inside.keys (first_state c.args.program.now c.args.cast) c.args.read.now.frame c.in-Ok.accepted c.args.notes.now c.examine.new.notes = accepted_by c.in_ok-before.ensures c.frame-frame.ensures.frame its in
+    let d : AcceptedBy c.self.inside.keys (first_state c.args.program.now c.args.cast) c.args.read.now.frame c.in-Ok.accepted c.args.notes.now c.examine.new.notes = accepted_by c.in_ok-before.ensures c.frame-frame.ensures.frame
+    c.in-Ok.ensures.accepted c.in-Ok.ensures.program c.in-Ok.ensures.before c.in-Ok.ensures.after c.in-Ok.ensures.event c.in-Ok.ensures.view (λ x b. c.in-Ok.ensures.notes x b (λ q. clash true refl (ap is_ok q))) in
     subst (λ (s : RoleState). role_at (shape s.program.graph) 0 ≢ s.held.role) (sym c.in_ok-before.ensures) (not_starter k sid c.frame-frame.ensures.reading.spelled.is_frame c.in-Ok.accepted d)
 
 pub join_session-requires-clause-origin : goal.join_session-requires-clause-origin
@@ -139,16 +131,8 @@ invariant_of-self-in-Ok c =
     let k : Enters c.self.inside c.args.read.now.frame c.args.cast c.args.program.now = entering c.self.view_is c.self.invariant c.requires.joins c.requires.program c.requires.cast c.requires.covered in
     let same = c.frame.view_is ∙ c.frame-frame.ensures.frame in
     let sid = subst (λ (z : Frame). z.sid ≡ session_id real c.args.cast) same (c.if-not-is_session.ensures.0 refl ∙ c.requires.session) in
-    let its : AcceptedBy c.self.inside.keys c.in_ok-before.before c.frame-frame.result.now c.in-Ok.accepted c.args.notes.now c.examine.new.notes = record {
-      rows = c.in-Ok.ensures.accepted;
-      program = c.in-Ok.ensures.program;
-      before = c.in-Ok.ensures.before;
-      after = c.in-Ok.ensures.after;
-      event = c.in-Ok.ensures.event;
-      view = c.in-Ok.ensures.view;
-      notes = λ x b. c.in-Ok.ensures.notes x b (λ q. clash true refl (ap is_ok q));
-    } in
-    let d : AcceptedBy c.self.inside.keys (first_state c.args.program.now c.args.cast) c.args.read.now.frame c.in-Ok.accepted c.args.notes.now c.examine.new.notes = accepted_by c.in_ok-before.ensures c.frame-frame.ensures.frame its in
+    let d : AcceptedBy c.self.inside.keys (first_state c.args.program.now c.args.cast) c.args.read.now.frame c.in-Ok.accepted c.args.notes.now c.examine.new.notes = accepted_by c.in_ok-before.ensures c.frame-frame.ensures.frame
+    c.in-Ok.ensures.accepted c.in-Ok.ensures.program c.in-Ok.ensures.before c.in-Ok.ensures.after c.in-Ok.ensures.event c.in-Ok.ensures.view (λ x b. c.in-Ok.ensures.notes x b (λ q. clash true refl (ap is_ok q))) in
     let js = c.join_session.ensures.joins ∙ ap (λ z. z ++ (c.in_ok-before.before.held.sid, c.in_ok-before.before.held.role) ∷ []) c.make_room.ensures.joins ∙ ap (λ (s : RoleState). c.self.inside.joins.pairs ++ (s.held.sid, s.held.role) ∷ []) c.in_ok-before.ensures in
     let ss = c.join_session.ensures.slots ∙ ap (λ z. z ++ slot_of (c.in_ok-before.before.held.sid, c.in_ok-before.before.held.role) (left_after c.in-Ok.accepted)) c.make_room.ensures.sessions ∙ ap (λ (s : RoleState). c.self.inside.sessions.slots ++ slot_of (s.held.sid, s.held.role) (left_after c.in-Ok.accepted)) c.in_ok-before.ensures in
     record {
@@ -193,16 +177,8 @@ returns-in-Ok c =
     let same = c.frame.view_is ∙ c.frame-frame.ensures.frame in
     let sid = subst (λ (z : Frame). z.sid ≡ session_id real c.args.cast) same (c.if-not-is_session.ensures.0 refl ∙ c.requires.session) in
     let free = ap (λ (z : Frame). obstacle_to c.self.inside.joins.pairs (length (held_in c.self.inside.sessions.slots)) z.sid z.receiver) (sym same) ∙ sym c.first_obstacle.ensures ∙ c.in_default.is in
-    let its : AcceptedBy c.self.inside.keys c.in_ok-before.before c.frame-frame.result.now c.in-Ok.accepted c.args.notes.now c.examine.new.notes = record {
-      rows = c.in-Ok.ensures.accepted;
-      program = c.in-Ok.ensures.program;
-      before = c.in-Ok.ensures.before;
-      after = c.in-Ok.ensures.after;
-      event = c.in-Ok.ensures.event;
-      view = c.in-Ok.ensures.view;
-      notes = λ x b. c.in-Ok.ensures.notes x b (λ q. clash true refl (ap is_ok q));
-    } in
-    let d : AcceptedBy c.self.inside.keys (first_state c.args.program.now c.args.cast) c.args.read.now.frame c.in-Ok.accepted c.args.notes.now c.examine.new.notes = accepted_by c.in_ok-before.ensures c.frame-frame.ensures.frame its in
+    let d : AcceptedBy c.self.inside.keys (first_state c.args.program.now c.args.cast) c.args.read.now.frame c.in-Ok.accepted c.args.notes.now c.examine.new.notes = accepted_by c.in_ok-before.ensures c.frame-frame.ensures.frame
+    c.in-Ok.ensures.accepted c.in-Ok.ensures.program c.in-Ok.ensures.before c.in-Ok.ensures.after c.in-Ok.ensures.event c.in-Ok.ensures.view (λ x b. c.in-Ok.ensures.notes x b (λ q. clash true refl (ap is_ok q))) in
     let js = c.join_session.ensures.joins ∙ ap (λ z. z ++ (c.in_ok-before.before.held.sid, c.in_ok-before.before.held.role) ∷ []) c.make_room.ensures.joins ∙ ap (λ (s : RoleState). c.self.inside.joins.pairs ++ (s.held.sid, s.held.role) ∷ []) c.in_ok-before.ensures in
     let ss = c.join_session.ensures.slots ∙ ap (λ z. z ++ slot_of (c.in_ok-before.before.held.sid, c.in_ok-before.before.held.role) (left_after c.in-Ok.accepted)) c.make_room.ensures.sessions ∙ ap (λ (s : RoleState). c.self.inside.sessions.slots ++ slot_of (s.held.sid, s.held.role) (left_after c.in-Ok.accepted)) c.in_ok-before.ensures in
     record {
