@@ -116,6 +116,10 @@ pub same_node : (n : Inside) {st : NodeState} {joins : List (List ℕ × ℕ)} {
 same_node n {slots = slots} is js ss =
     ap (λ z. record { keys = n.keys; programs = n.programs.now; joins = z; live = held_in slots }) js ∙ ap (λ z. record { keys = n.keys; programs = n.programs.now; joins = n.joins.pairs; live = held_in z }) ss ∙ is
 
+-- and what it keeps true
+pub still_slots : (n : Inside) {joins : List (List ℕ × ℕ)} {slots : List Slot} → HoldsNode n → joins ≡ n.joins.pairs → slots ≡ n.sessions.slots → AllByRecursion (IsSlot n.programs.now joins) slots
+still_slots n {slots = slots} h js ss = subst (λ z. AllByRecursion (IsSlot n.programs.now z) slots) (sym js) (subst (AllByRecursion (IsSlot n.programs.now n.joins.pairs)) (sym ss) h.slots)
+
 -- its cast is right, and all keys are there
 pub record Enters (n : Inside) (f : Frame) (c : Cast) (p : Program) : Type 0 where
   pub holds : HoldsNode n

@@ -18,7 +18,7 @@ use Rattle.sg_node.specs.Invariant.{IsSlot}
 use Rattle.sg_node.proofs.Starts.{first_state, with_text}
 use Rattle.sg_node.proofs.Takings.{out_of_memory, refused_at_once}
 use Rattle.sg_node.proofs.Continuing.{AcceptedBy, RefusedBy, accepted_by, refused_by}
-use Rattle.sg_node.proofs.Entering.{Enters, entering, same_node, first_text, other_session, hindered, no_graph, free_pair, no_slot_yet, its_graph, its_count, its_version, its_bound, not_starter, join_slots, takes, refuses}
+use Rattle.sg_node.proofs.Entering.{Enters, entering, same_node, still_slots, first_text, other_session, hindered, no_graph, free_pair, no_slot_yet, its_graph, its_count, its_version, its_bound, not_starter, join_slots, takes, refuses}
 use Rattle.sg_node.proofs.node.Node.join_in.Goals as goal
 
 pub returns-then-not-is_session : goal.returns-then-not-is_session
@@ -143,16 +143,13 @@ invariant_of-self-in-Ok c =
     }
 
 pub invariant_of-self : goal.invariant_of-self
-invariant_of-self c =
-    record { programs = c.self.invariant.programs; slots = subst (λ js. AllByRecursion (IsSlot c.self.inside.programs.now js) c.make_room.new.sessions.slots) (sym c.make_room.ensures.joins) (subst (AllByRecursion (IsSlot c.self.inside.programs.now c.self.inside.joins.pairs)) (sym c.make_room.ensures.sessions) c.self.invariant.slots) }
+invariant_of-self c = record { programs = c.self.invariant.programs; slots = still_slots c.self.inside c.self.invariant c.make_room.ensures.joins c.make_room.ensures.sessions }
 
 pub invariant_of-self-in_err-before : goal.invariant_of-self-in_err-before
-invariant_of-self-in_err-before c =
-    record { programs = c.self.invariant.programs; slots = subst (λ js. AllByRecursion (IsSlot c.self.inside.programs.now js) c.make_room.new.sessions.slots) (sym c.make_room.ensures.joins) (subst (AllByRecursion (IsSlot c.self.inside.programs.now c.self.inside.joins.pairs)) (sym c.make_room.ensures.sessions) c.self.invariant.slots) }
+invariant_of-self-in_err-before c = record { programs = c.self.invariant.programs; slots = still_slots c.self.inside c.self.invariant c.make_room.ensures.joins c.make_room.ensures.sessions }
 
 pub invariant_of-self-in-Err : goal.invariant_of-self-in-Err
-invariant_of-self-in-Err c =
-    record { programs = c.self.invariant.programs; slots = subst (λ js. AllByRecursion (IsSlot c.self.inside.programs.now js) c.make_room.new.sessions.slots) (sym c.make_room.ensures.joins) (subst (AllByRecursion (IsSlot c.self.inside.programs.now c.self.inside.joins.pairs)) (sym c.make_room.ensures.sessions) c.self.invariant.slots) }
+invariant_of-self-in-Err c = record { programs = c.self.invariant.programs; slots = still_slots c.self.inside c.self.invariant c.make_room.ensures.joins c.make_room.ensures.sessions }
 
 -- ---- memory runs out
 
