@@ -1,5 +1,5 @@
 -- What a node answers to a frame, and what is live after it.
-use Rattle.std.specs.Prelude.{◌≡◌, ℕ, ◌==◌, ◌&&◌, nat_lt, nat_le, not, Bool, true, false, if◌then◌else◌, List, [], ◌∷◌, ◌++◌, length, bytes_eq, refl, Option, Some, None, option_map, option_and_then, Result, Ok, Err, is_ok, IsOk, IfOk, OnOk, OnErr}
+use Rattle.std.specs.Prelude.{◌≡◌, ℕ, ◌==◌, ◌&&◌, nat_lt, nat_le, not, Bool, true, false, if◌then◌else◌, List, [], ◌∷◌, ◌++◌, length, bytes_eq, refl, Option, Some, None, option_map, option_and_then, Result, Ok, Err, is_ok, IfOk, OnOk, OnErr}
 use Rattle.std.specs.Option.{option_map_or}
 use Rattle.std.specs.List.{list_any}
 use Rattle.std.proofs.Common.{sym, ◌∙◌, ap, subst, take, append-nil}
@@ -55,10 +55,6 @@ same_graph (Err y) g h k e = tt
 
 -- ---- what a call gives that does not fail
 
-pub in_ok : {T E : Type 0} (P : Type 0) (r : Result T E) → P → OnOk r P
-in_ok P (Ok x) p = p
-in_ok P (Err y) p = tt
-
 pub in_err : {T E : Type 0} (P : Type 0) (r : Result T E) → P → OnErr r P
 in_err P (Ok x) p = tt
 in_err P (Err y) p = p
@@ -78,10 +74,6 @@ no_err P (Err y) k = clash true refl (sym k)
 pub err_gives : {T E : Type 0} (P : Type 0) (r : Result T E) → is_ok r ≡ false → OnErr r P → P
 err_gives P (Ok x) k p = clash true refl k
 err_gives P (Err y) k p = p
-
-pub ok_gives : {T E : Type 0} (P : Type 0) (r : Result T E) → IsOk r → OnOk r P → P
-ok_gives P (Ok x) k p = p
-ok_gives P (Err y) k p = clash true refl (sym k)
 
 -- ---- notes
 

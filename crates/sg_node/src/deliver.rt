@@ -1,5 +1,5 @@
 //! How a node takes a delivery.
-ghost use Rattle.std.specs.Prelude.{◌≡◌, ◌<◌, ◌++◌, ◌&&◌, ◌↔◌, ◌⊎◌, [], ◌∷◌, true, IsTrue, nat_lt, length, slice_get, option_and_then, option_map, Ok, Err, None, Some, IfErr, IfOk, IsErr, IsOk, OnErr, OnOk, MatchResult};
+ghost use Rattle.std.specs.Prelude.{◌≡◌, ◌<◌, ◌++◌, ◌&&◌, ◌↔◌, ◌⊎◌, [], ◌∷◌, true, IsTrue, nat_lt, length, slice_get, option_and_then, Ok, Err, None, Some, IfErr, IfOk, IsErr, IsOk, OnErr, OnOk, MatchResult};
 ghost use Rattle.std.specs.Option.{option_copied};
 ghost use Rattle.indexmap.specs.IndexMap.{set_value_at};
 ghost use Rattle.sg_model.specs.Limits.{most_frame_bytes};
@@ -7,8 +7,8 @@ ghost use Rattle.sg_protocol.specs.Acting.{answer};
 ghost use Rattle.sg_protocol.specs.Calls.{Deliver};
 ghost use Rattle.sg_protocol.specs.Frame.{Frame};
 ghost use Rattle.sg_protocol.specs.Node.{Node as DefinedNode, program_for, is_cast, stranger};
-ghost use Rattle.sg_protocol.specs.NodeStates.{RepresentsNode, RepresentsPast, state_taking};
-ghost use Rattle.sg_protocol.specs.Notes.{Notes, notes as noted_of, notes_of_read, session_of_frame};
+ghost use Rattle.sg_protocol.specs.NodeStates.{RepresentsNode, RepresentsPast};
+ghost use Rattle.sg_protocol.specs.Notes.{Notes, notes as noted_of};
 ghost use Rattle.sg_protocol.specs.Past.{Past, node_of};
 ghost use Rattle.sg_protocol.specs.Reading.{read, read_version};
 ghost use Rattle.sg_protocol.specs.Texts.{real, session_id, session_text_of};
@@ -197,7 +197,8 @@ impl<'p> Node<'p> {
         requires cast { (is_cast self.old.keys program.now.graph cast read.now.frame.receiver && nat_lt read.now.frame.sender (length cast.names)) ≡ true }
         requires covered { stranger self.old.keys cast ≡ None }
         requires session { sid ≡ session_id real cast }
-        ensures takes { (first : Notes) → notes.old ≡ record first { hashed = first.hashed ++ session_text_of cast ∷ [] } → TakesFrame self.old self.new first notes.old notes.new read.now.frame result }
+        ensures takes { (first : Notes) → notes.old ≡ record first { hashed = first.hashed ++ session_text_of cast ∷ [] }
+            → TakesFrame self.old self.new first notes.old notes.new read.now.frame result }
     {
         let frame = read.frame();
         if !is_session(&frame.sid, &sid) {
