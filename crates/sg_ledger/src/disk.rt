@@ -4,7 +4,10 @@
 //! the bytes elsewhere stay. After a sync that succeeds it leaves what a read gives. What a crash may leave are the images of the
 //! disk. Of a disk in memory its file and its images are known; of one of the system neither, so the clauses on them speak of what is
 //! known. The name of the file that it is bound to, each disk tells.
-ghost use Rattle.std.specs.Prelude.{◌≡◌, ℕ, ◌+◌, ◌<◌, ◌≤◌, ◌^◌, List, Option, Some, length, take, drop, IfOk, OnErr, OnOk};
+//!
+//! A call that answers that it failed has counted a fault, and any other has counted none. So none tries again what failed: after a sync
+//! that failed the system may have dropped the bytes, and one more that succeeds says nothing of them.
+ghost use Rattle.std.specs.Prelude.{◌≡◌, ◌≢◌, ℕ, ◌+◌, ◌<◌, ◌≤◌, ◌^◌, List, Option, Some, length, take, drop, IfOk, OnErr, OnOk};
 ghost use Rattle.sg_base.specs.Outside.{HasRisen};
 ghost use Rattle.sg_ledger.specs.Disk.{overlaid, Torn, Keeps, Follows, Elapses, IfSeen};
 
@@ -47,6 +50,7 @@ pub trait Disk {
     fn open(&mut self, name: &str) -> Result<(), Failed>
         ensures never_falls { faults self.old ≤ faults self.new }
         ensures failed { OnErr result (HasRisen (faults self.old) (faults self.new)) }
+        ensures no_fault { OnOk result (faults self.new ≡ faults self.old) }
         ensures binds { OnOk result (bound self.new ≡ Some name.now) }
         ensures kept_bound { OnErr result (bound self.new ≡ bound self.old) }
         ensures kept { seen self.new ≡ seen self.old }
@@ -57,6 +61,7 @@ pub trait Disk {
     fn size(&mut self) -> Result<u32, Failed>
         ensures never_falls { faults self.old ≤ faults self.new }
         ensures failed { OnErr result (HasRisen (faults self.old) (faults self.new)) }
+        ensures no_fault { OnOk result (faults self.new ≡ faults self.old) }
         ensures kept_bound { bound self.new ≡ bound self.old }
         ensures length { IfOk result (λ n. IfSeen (seen self.old) (λ file. n ≡ length file)) }
         ensures kept { seen self.new ≡ seen self.old }
@@ -68,6 +73,7 @@ pub trait Disk {
         requires { IfSeen (seen self.old) (λ file. at + count ≤ length file) }
         ensures never_falls { faults self.old ≤ faults self.new }
         ensures failed { result ≡ Err DiskFault.Failed → HasRisen (faults self.old) (faults self.new) }
+        ensures no_fault { result ≢ Err DiskFault.Failed → faults self.new ≡ faults self.old }
         ensures kept_bound { bound self.new ≡ bound self.old }
         ensures count { IfOk result (λ bytes. length bytes.items ≡ count) }
         ensures bytes { IfOk result (λ bytes. IfSeen (seen self.old) (λ file. bytes.items ≡ take count (drop at file))) }
@@ -81,15 +87,17 @@ pub trait Disk {
         requires begins { IfSeen (seen self.old) (λ file. at ≤ length file) }
         ensures never_falls { faults self.old ≤ faults self.new }
         ensures failed { OnErr result (HasRisen (faults self.old) (faults self.new)) }
+        ensures no_fault { OnOk result (faults self.new ≡ faults self.old) }
         ensures kept_bound { bound self.new ≡ bound self.old }
         ensures written { OnOk result (IfSeen (seen self.old) (λ file. seen self.new ≡ Some (overlaid file at bytes.now))) }
         ensures images { Follows (Torn at (length bytes.now)) (may_leave self.old) (may_leave self.new) }
         ensures time { Elapses (moment self.old) (moment self.new) (left_since self.old) (left_since self.new) (may_leave self.new) };
 
-    /// Brings to the disk what was written. After it a crash leaves what a read gives.
+    /// Brings to the disk what was written. After it a crash leaves what a read gives. If it fails, it isn't tried again.
     fn sync(&mut self) -> Result<(), Failed>
         ensures never_falls { faults self.old ≤ faults self.new }
         ensures failed { OnErr result (HasRisen (faults self.old) (faults self.new)) }
+        ensures no_fault { OnOk result (faults self.new ≡ faults self.old) }
         ensures kept_bound { bound self.new ≡ bound self.old }
         ensures durable { OnOk result ((image : List ℕ) → may_leave self.new image → seen self.new ≡ Some image) }
         ensures kept { seen self.new ≡ seen self.old }

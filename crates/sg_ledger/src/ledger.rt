@@ -96,6 +96,7 @@ impl Ledger {
         ensures never_falls { D.faults disk.old ≤ D.faults disk.new }
         ensures kept_bound { D.bound disk.new ≡ D.bound disk.old }
         ensures failed { result ≡ Err CreateFault.Failed → HasRisen (D.faults disk.old) (D.faults disk.new) }
+        ensures no_fault { result ≢ Err CreateFault.Failed → D.faults disk.new ≡ D.faults disk.old }
         ensures empty { OnOk result (IfSeen (D.seen disk.old) (λ file. file ≡ [])) }
         ensures not_empty { IfErr result (λ e. (size : ℕ) → e ≡ CreateFault.NotEmpty size → (0 < size) × IfSeen (D.seen disk.old) (λ file. length file ≡ size)) }
         ensures blank { OnOk result ((image : List ℕ) → D.may_leave disk.new image → IsBlank image) }
@@ -128,6 +129,7 @@ impl Ledger {
         ensures never_falls { D.faults disk.old ≤ D.faults disk.new }
         ensures kept_bound { D.bound disk.new ≡ D.bound disk.old }
         ensures failed { result ≡ Err OpenFault.Failed → HasRisen (D.faults disk.old) (D.faults disk.new) }
+        ensures no_fault { result ≢ Err OpenFault.Failed → D.faults disk.new ≡ D.faults disk.old }
         ensures not_failed { IfOk result (λ ledger. ledger.failed ≡ false) }
         ensures joins { IfOk result (λ ledger. IfSeen (D.seen disk.old) (λ file. Represents file ledger.joins)) }
         ensures refused { IfErr result (λ e. IfSeen (D.seen disk.old) (λ file. Refuses file e)) }
@@ -184,6 +186,7 @@ impl Ledger {
         ensures twice { (result ≡ Err AddJoinFault.Twice) ↔ Contains self.old.joins (sid, role) }
         ensures full { (result ≡ Err AddJoinFault.Full) ↔ ((¬ Contains self.old.joins (sid, role)) × (length self.old.joins ≡ most_joins)) }
         ensures failed { result ≡ Err AddJoinFault.Failed → HasRisen (D.faults disk.old) (D.faults disk.new) }
+        ensures no_fault { result ≢ Err AddJoinFault.Failed → D.faults disk.new ≡ D.faults disk.old }
         ensures added { OnOk result (self.new ≡ record { joins = self.old.joins ++ (sid, role) ∷ []; failed = false }) }
         ensures broken { result ≡ Err AddJoinFault.Failed → self.new ≡ record { joins = self.old.joins; failed = true } }
         ensures same { IfErr result (λ e. e ≢ AddJoinFault.Failed → (self.new ≡ self.old) × (disk.new ≡ disk.old)) }
@@ -244,6 +247,7 @@ fn read_file<D: Disk>(alloc: Global, disk: &mut D) -> Result<Vec<u8>, OpenFault>
     ensures never_falls { D.faults disk.old ≤ D.faults disk.new }
     ensures kept_bound { D.bound disk.new ≡ D.bound disk.old }
     ensures failed { result ≡ Err OpenFault.Failed → HasRisen (D.faults disk.old) (D.faults disk.new) }
+    ensures no_fault { result ≢ Err OpenFault.Failed → D.faults disk.new ≡ D.faults disk.old }
     ensures length { IfOk result (λ file. length file.items ≡ 2228232) }
     ensures seen { IfOk result (λ file. IfSeen (D.seen disk.old) (λ seen. file.items ≡ seen)) }
     ensures refused { IfErr result (λ e. IfSeen (D.seen disk.old) (λ seen. Refuses seen e)) }
@@ -281,6 +285,7 @@ fn write_join<D: Disk>(
     ensures never_falls { D.faults disk.old ≤ D.faults disk.new }
     ensures kept_bound { D.bound disk.new ≡ D.bound disk.old }
     ensures failed { OnErr result (HasRisen (D.faults disk.old) (D.faults disk.new)) }
+    ensures no_fault { OnOk result (D.faults disk.new ≡ D.faults disk.old) }
     ensures acknowledged { OnOk result ((image : List ℕ) → D.may_leave disk.new image → Represents image (joins.now.keys ++ join ∷ [])) }
     ensures any_moment { LeavesOnly D.moment D.left_since disk.old disk.new (RepresentsOneOf joins.now.keys join) }
 {
@@ -307,6 +312,7 @@ fn write_through<D: Disk>(disk: &mut D, at: u32, bytes: &[u8]) -> Result<(), Fai
     ensures never_falls { D.faults disk.old ≤ D.faults disk.new }
     ensures kept_bound { D.bound disk.new ≡ D.bound disk.old }
     ensures failed { OnErr result (HasRisen (D.faults disk.old) (D.faults disk.new)) }
+    ensures no_fault { OnOk result (D.faults disk.new ≡ D.faults disk.old) }
     ensures written { OnOk result (IfSeen (D.seen disk.old) (λ file. D.seen disk.new ≡ Some (overlaid file at bytes.now))) }
     ensures durable { OnOk result ((image : List ℕ) → D.may_leave disk.new image → (file : List ℕ) × (D.seen disk.old ≡ Some file) × (image ≡ overlaid file at bytes.now)) }
     ensures any_moment { LeavesOnly D.moment D.left_since disk.old disk.new (λ image. (from : List ℕ) × D.may_leave disk.old from × Torn at (length bytes.now) from image) }
