@@ -1,5 +1,5 @@
 -- What is written of claims of a graph, which claims are suggested, and how the program ends by it.
-use Rattle.std.specs.Prelude.{◌≡◌, ◌≢◌, ℕ, ◌⊎◌, Bool, true, false, ◌&&◌, if◌then◌else◌, List, [], ◌∷◌, ◌++◌, All, Err, Option, Some, None, is_none, codes, length, ⊤}
+use Rattle.std.specs.Prelude.{◌≡◌, ◌≢◌, ℕ, ◌⊎◌, Bool, true, ◌&&◌, if◌then◌else◌, List, [], ◌∷◌, ◌++◌, All, Err, Option, Some, None, is_none, codes, length, ⊤}
 use Rattle.sg_claims.specs.Breaks.{IsFirstBreak}
 use Rattle.sg_claims.specs.Suggestions.{AreSuggested}
 use Rattle.sg_claims.specs.declared.claim.NamedClaim.{NamedClaim}
