@@ -1,11 +1,11 @@
 -- The expansion of parts is a graph.
-use Rattle.std.proofs.Common.{◌≡◌, ℕ, zero, suc, ◌+◌, ◌-◌, ◌<◌, ◌≤◌, nat_lt, Bool, true, false, not, ◌&&◌, ◌||◌, if◌then◌else◌, inl, inr, List, [], ◌∷◌, ◌++◌, map, length, get_or, Option, Some, None, Ok, Err, refl, sym, ap, ◌∙◌, subst, arith, length-append}
+use Rattle.std.proofs.Common.{◌≡◌, ℕ, suc, ◌+◌, ◌-◌, ◌<◌, ◌≤◌, nat_lt, Bool, true, false, not, ◌&&◌, ◌||◌, if◌then◌else◌, inl, inr, List, [], ◌∷◌, ◌++◌, map, length, get_or, Option, Some, None, Ok, Err, refl, sym, ap, ◌∙◌, subst, arith, length-append}
 use Rattle.std.specs.Prelude.{All, slice_get}
 use Rattle.std.specs.List.{list_all, list_any}
 use Rattle.std.proofs.lemmas.Bool.{and_parts, cases_lt, or_parts}
 use Rattle.std.proofs.lemmas.Bool.Decides.{nat_tests}
 use Rattle.std.proofs.lemmas.List.{get_or_past, map-append}
-use Rattle.std.proofs.lemmas.List.Elements.{All-append}
+use Rattle.std.proofs.lemmas.List.Elements.{All-append, All-map}
 use Rattle.sg_compose.specs.Expansion.{all_used, clashes, end_of, expanded, expansion, expansions, extended, graph_at, has_long, inner_name, inside, is_inside, is_long, last_graph, new_edge, new_edges, new_node, new_nodes, new_variable, new_variables, player, players, replaced, roles_fit, shifted, too_large, with_use, with_use_to}
 use Rattle.sg_compose.specs.declared.fault.ComposeFault.{ComposeFault}
 use Rattle.sg_compose.specs.declared.fault.ComposeFault.TheVariants.{BadPart, BadRoles, Clash, LongName, TooLarge}
@@ -16,6 +16,7 @@ use Rattle.sg_compose.proofs.Renaming.{set_of-numbers, set_of-some}
 use Rattle.sg_compose.proofs.Steps.{extended-keeps}
 use Rattle.sg_graph.specs.Adding.{no_parts}
 use Rattle.sg_graph.specs.Parts.{edge_names, node_names, variable_names}
+use Rattle.sg_graph.proofs.FirstIndex.{list_any-map}
 use Rattle.sg_graph.proofs.Growth.{All-one}
 use Rattle.sg_graph.proofs.Sets.{number_below, numbers_within}
 use Rattle.sg_model.specs.Lists.{all_differ, has_text}
@@ -24,7 +25,7 @@ use Rattle.sg_model.proofs.Small.{length_map}
 use Rattle.sg_parse.specs.Parts.{AreParts, IsPart, IsUse, Part, Use, use_names}
 use Rattle.sg_protocol.specs.Graph.{AreNames, AreNumbers, Edge, Graph, IsGraph, Name, Node, Variable, is_name, node_name, reserved, shape}
 use Rattle.sg_ending.proofs.OneEnding.{one_ok, ok_or_err}
-use Rattle.sg_design.proofs.Renamed.{any-map, named-so, names-added, some-nodes}
+use Rattle.sg_design.proofs.Renamed.{named-so, names-added, some-nodes}
 
 -- ---- small facts
 
@@ -33,12 +34,6 @@ three-false a b c h = (let p = or_parts (a || b) c h in let q = or_parts a b p.0
 
 at-most : (a b : ℕ) → nat_lt a b ≡ false → b ≤ a
 at-most a b h = grind (arith, nat_tests)
-
--- what holds of what is made of each element
-All-made : {A B : Type 0} (P : B → Type 0) (f : A → B) (xs : List A) → All (λ x. P (f x)) xs → All P (map f xs)
-All-made P f [] h k d l = absurd (omega (arith, l))
-All-made P f (x ∷ xs) h zero d l = h 0 x (omega arith)
-All-made P f (x ∷ xs) h (suc k) d l = All-made P f xs (λ j e m. h (suc j) e (omega (arith, m))) k d (omega (arith, l))
 
 -- ---- one use
 
@@ -102,8 +97,8 @@ module _ (g inner : Graph) (u : Use) (m before : ℕ) (is : IsGraph g) (inner_is
       ∙ ap (λ l. variable_names g ++ l) (named-so (new_variable u) (λ (v : Variable). v.name) (λ (v : Variable). v.name) (inner_name u) (λ v. refl) inner.variables) in
       subst AreNames (sym same)
       (names-added u named (variable_names g) (variable_names inner) is.variable_names inner_is.variable_names
-      (any-map (λ n. is_long (inner_name u n)) (λ (v : Variable). v.name) inner.variables ∙ short.0)
-      (any-map (λ n. has_text (inner_name u n) (variable_names g)) (λ (v : Variable). v.name) inner.variables ∙ new.0))
+      (list_any-map (λ n. is_long (inner_name u n)) (λ (v : Variable). v.name) inner.variables ∙ short.0)
+      (list_any-map (λ n. has_text (inner_name u n) (variable_names g)) (λ (v : Variable). v.name) inner.variables ∙ new.0))
 
   nodes-named : AreNames (node_names (with_use g inner u m))
   nodes-named =
@@ -112,8 +107,8 @@ module _ (g inner : Graph) (u : Use) (m before : ℕ) (is : IsGraph g) (inner_is
       ∙ ap (λ l. node_names g ++ l) (named-so (new_node inner u) (node_name inner) (λ (n : Node). n.name) (inner_name u) (λ x. refl) (inside inner m)) in
       subst AreNames (sym same)
       (names-added u named (node_names g) names is.node_names (some-nodes inner (is_inside m) inner_is.node_names)
-      (any-map (λ n. is_long (inner_name u n)) (node_name inner) (inside inner m) ∙ short.1)
-      (any-map (λ n. has_text (inner_name u n) (node_names g)) (node_name inner) (inside inner m) ∙ new.1))
+      (list_any-map (λ n. is_long (inner_name u n)) (node_name inner) (inside inner m) ∙ short.1)
+      (list_any-map (λ n. has_text (inner_name u n) (node_names g)) (node_name inner) (inside inner m) ∙ new.1))
 
   edges-named : AreNames (edge_names (with_use g inner u m))
   edges-named =
@@ -121,8 +116,8 @@ module _ (g inner : Graph) (u : Use) (m before : ℕ) (is : IsGraph g) (inner_is
       ∙ ap (λ l. edge_names g ++ l) (named-so (new_edge (length g.variables) (length g.nodes) u m) (λ (e : Edge). e.name) (λ (e : Edge). e.name) (inner_name u) (λ e. refl) inner.edges) in
       subst AreNames (sym same)
       (names-added u named (edge_names g) (edge_names inner) is.edge_names inner_is.edge_names
-      (any-map (λ n. is_long (inner_name u n)) (λ (e : Edge). e.name) inner.edges ∙ short.2)
-      (any-map (λ n. has_text (inner_name u n) (edge_names g)) (λ (e : Edge). e.name) inner.edges ∙ new.2))
+      (list_any-map (λ n. is_long (inner_name u n)) (λ (e : Edge). e.name) inner.edges ∙ short.2)
+      (list_any-map (λ n. has_text (inner_name u n) (edge_names g)) (λ (e : Edge). e.name) inner.edges ∙ new.2))
 
   -- numbers
   writers-there : (rs : List ℕ) → 0 < length rs → AreNumbers (length g.roles) (players u rs) × (0 < length (players u rs))
@@ -154,12 +149,12 @@ module _ (g inner : Graph) (u : Use) (m before : ℕ) (is : IsGraph g) (inner_is
         variable_names = variables-named;
         node_names = nodes-named;
         edge_names = edges-named;
-        writers = All-append P g.variables (new_variables inner u) is.writers (All-made P (new_variable u) inner.variables (λ j d l. (let w = inner_is.writers j d l in writers-there _ w.1)));
-        roles = All-append Q g.nodes (new_nodes inner u m) is.roles (All-made Q (new_node inner u) (inside inner m) (λ j d l. player-there (role_at (shape inner) (get_or (inside inner m) j d))));
+        writers = All-append P g.variables (new_variables inner u) is.writers (All-map P (new_variable u) inner.variables (λ j d l. (let w = inner_is.writers j d l in writers-there _ w.1)));
+        roles = All-append Q g.nodes (new_nodes inner u m) is.roles (All-map Q (new_node inner u) (inside inner m) (λ j d l. player-there (role_at (shape inner) (get_or (inside inner m) j d))));
         ends = All-append R g.edges (new_edges g inner u m) (λ j d l. (let e = is.ends j d l in (omega (arith, e.0, nodes-count), omega (arith, e.1, nodes-count))))
-            (All-made R (new_edge (length g.variables) (length g.nodes) u m) inner.edges (λ j d l. (let e = inner_is.ends j d l in (node-there _ e.0, node-there _ e.1))));
+            (All-map R (new_edge (length g.variables) (length g.nodes) u m) inner.edges (λ j d l. (let e = inner_is.ends j d l in (node-there _ e.0, node-there _ e.1))));
         variables = All-append S g.edges (new_edges g inner u m) (λ j d l. (let e = is.variables j d l in (numbers_within _ _ (get_or g.edges j d).writes wider e.0, numbers_within _ _ (get_or g.edges j d).reads wider e.1)))
-            (All-made S (new_edge (length g.variables) (length g.nodes) u m) inner.edges (λ j d l. (let e = inner_is.variables j d l in (shifted-there _ e.0, shifted-there _ e.1))));
+            (All-map S (new_edge (length g.variables) (length g.nodes) u m) inner.edges (λ j d l. (let e = inner_is.variables j d l in (shifted-there _ e.0, shifted-there _ e.1))));
         sizes = (
           is.sizes.0,
           (let r = at-most 32 (length g.variables + length inner.variables) room.0 in omega (arith, r, variables-count)),

@@ -1,5 +1,5 @@
 -- Names as a use gives them: names that differ, also from those that are there.
-use Rattle.std.proofs.Common.{◌≡◌, ℕ, suc, ◌+◌, ◌<◌, nat_le, Bool, true, false, not, ◌&&◌, ◌||◌, if◌then◌else◌, inl, inr, List, [], ◌∷◌, ◌++◌, map, filter, length, get_or, bytes_eq, refl, sym, ap, ◌∙◌, subst, arith}
+use Rattle.std.proofs.Common.{◌≡◌, ℕ, suc, ◌+◌, ◌<◌, nat_le, Bool, true, false, not, ◌&&◌, inl, inr, List, [], ◌∷◌, ◌++◌, map, filter, length, get_or, bytes_eq, refl, sym, ap, ◌∙◌, subst, arith}
 use Rattle.std.specs.List.{list_all, list_any}
 use Rattle.std.proofs.lemmas.Bool.{cases_Bool, and_parts, and_from, or_parts, or_from, not-true, not_from_false, false_from_ne_true}
 use Rattle.std.proofs.lemmas.Bool.Decides.{nat_tests}
@@ -7,28 +7,23 @@ use Rattle.std.proofs.lemmas.List.Folds.{list_all-append}
 use Rattle.std.proofs.lemmas.Slice.Eq.{bytes_eq-Decides}
 use Rattle.sg_compose.specs.Expansion.{inner_name, is_long}
 use Rattle.sg_compose.proofs.Renaming.{inner-free}
+use Rattle.sg_graph.proofs.FirstIndex.{list_any-map}
 use Rattle.sg_model.specs.Lists.{all_differ, below, has_text, range_from}
 use Rattle.sg_model.specs.Names.{is_letter, is_name_byte}
 use Rattle.sg_model.proofs.Differ.{no_text_both}
 use Rattle.sg_model.proofs.Small.{bytes_eq-flip, contradicts, tails}
 use Rattle.sg_parse.specs.Parts.{Use}
+use Rattle.sg_parse.proofs.Scanning.{letter_in_name}
 use Rattle.sg_protocol.specs.Graph.{AreNames, Graph, Name, Node, is_name, node_name, reserved}
 
 -- ---- one name
-
-letter-byte : (c : ℕ) → is_letter c ≡ true → is_name_byte c ≡ true
-letter-byte c h = either (nat_le 48 c && nat_le c 57) (if nat_le 95 c && nat_le c 95 then true else is_letter c) (either (nat_le 95 c && nat_le c 95) (is_letter c) h)
-  where
-    either : (b x : Bool) → x ≡ true → (if b then true else x) ≡ true
-    either true x h = refl
-    either false x h = h
 
 name-bytes : (n : Name) → is_name n ≡ true → list_all is_name_byte n ≡ true
 name-bytes [] h = refl
 name-bytes (c ∷ cs) h =
     let a = and_parts (is_letter c && list_all is_name_byte cs) (nat_le (length cs) 31) h in
     let b = and_parts (is_letter c) (list_all is_name_byte cs) a.0 in
-    and_from (is_name_byte c) (list_all is_name_byte cs) (letter-byte c b.0) b.1
+    and_from (is_name_byte c) (list_all is_name_byte cs) (letter_in_name c b.0) b.1
 
 -- two names with _ between them are a name, if that isn't too long
 joined-name : (a n : Name) → is_name a ≡ true → is_name n ≡ true → is_long (a ++ 95 ∷ n) ≡ false → is_name (a ++ 95 ∷ n) ≡ true
@@ -69,11 +64,6 @@ differ-both (x ∷ xs) ys a b none =
     and_from (not (has_text x (xs ++ ys))) (all_differ (xs ++ ys))
     (not_from_false (has_text x (xs ++ ys)) (no_text_both x xs ys (not-true (has_text x xs) p.0) s.0)) (differ-both xs ys p.1 b s.1)
 
--- what is true of what is made of an element
-pub any-map : {A B : Type 0} (p : B → Bool) (f : A → B) (xs : List A) → list_any p (map f xs) ≡ list_any (λ x. p (f x)) xs
-any-map p f [] = refl
-any-map p f (x ∷ xs) = ap (λ b. p (f x) || b) (any-map p f xs)
-
 -- ---- the names of what a use adds
 
 module _ (u : Use) (named : is_name u.name ≡ true) where
@@ -112,7 +102,7 @@ module _ (u : Use) (named : is_name u.name ≡ true) where
       let b = and_parts (list_all p ns) (all_differ ns) those in
       let all : list_all p (olds ++ news) ≡ true = list_all-append p olds news ∙ and_from (list_all p olds) (list_all p news) a.0 (all-renamed ns b.0 short) in
       and_from (list_all p (olds ++ news)) (all_differ (olds ++ news)) all
-      (differ-both olds news a.1 (differ-renamed ns b.1) (any-map (λ n. has_text n olds) (inner_name u) ns ∙ new))
+      (differ-both olds news a.1 (differ-renamed ns b.1) (list_any-map (λ n. has_text n olds) (inner_name u) ns ∙ new))
 
 -- what is made of each element has the name that is made of its name
 pub named-so : {A B : Type 0} (f : A → B) (p : A → Name) (q : B → Name) (r : Name → Name) → ((x : A) → q (f x) ≡ r (p x)) → (xs : List A) → map q (map f xs) ≡ map r (map p xs)
