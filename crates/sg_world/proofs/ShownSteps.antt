@@ -160,8 +160,8 @@ module _ (programs : List Program) (s : Schedule) (u : IsUnbroken programs s) (b
             let program : r.program ≡ t.program = ap (λ (z : Program × Session). z.0) both in
             let session : at.session ≡ t.session = ap (λ (z : Program × Session). z.1) both in
             let follows : origin at.session ≡ (view_in (events_of (sid_of ev) before) f).origin =
-                subst (λ (sid : List ℕ). origin at.session ≡ (view_in (events_of sid before) f).origin) same
-                (origins_are_last_labels real real_hash programs s before l after bs f r.program at.session u.compiled u.schedule u.premises parts is_call reads outcome at_node at.is_session) in
+            subst (λ (sid : List ℕ). origin at.session ≡ (view_in (events_of sid before) f).origin) same
+            (origins_are_last_labels real real_hash programs s before l after bs f r.program at.session u.compiled u.schedule u.premises parts is_call reads outcome at_node at.is_session) in
             let role : r.program.role ≡ f.receiver = ap (λ (p : Program). p.role) program ∙ sym t.is_role ∙ sym its.1 ∙ its_role in
             subst (λ (z : Graph). IsExample z f.receiver (view_in (events_of (sid_of ev) before) f) walk) (ap (λ (p : Program). p.graph) program ∙ sym graph_is)
             (subst (λ k. IsExample r.program.graph k (view_in (events_of (sid_of ev) before) f) walk) role
