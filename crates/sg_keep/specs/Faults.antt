@@ -1,6 +1,6 @@
--- The counts of faults of what a play acts on.
-use Rattle.std.specs.Prelude.{◌≡◌, ◌≤◌, ℕ, Result, Err}
-use Rattle.sg_base.specs.Outside.{HasRisen}
+-- The counts of faults of what a play over a ledger acts on.
+use Rattle.std.specs.Prelude.{ℕ, Result}
+use Rattle.sg_play.specs.Faults.{CountsFault, CountsFaultAlone}
 use Rattle.sg_play.specs.declared.fault.PlayFault.TheVariants.{LinkFailed, WriteFailed}
 use Rattle.sg_keep.specs.declared.fault.KeepFault.{KeepFault}
 use Rattle.sg_keep.specs.declared.fault.KeepFault.TheVariants.{Played, DiskFailed}
@@ -11,11 +11,8 @@ pub record Counts : Type 0 where
   pub out : ℕ
   pub disk : ℕ
 
--- no count falls, and a fault of one of them is answered only if its count rose
+-- a fault of one of them is answered only if its count rose, and those of the sink and of the disk rise only then
 pub record CountsFaults {A : Type 0} (old new : Counts) (result : Result A KeepFault) : Type 0 where
-  pub link_falls : old.link ≤ new.link
-  pub out_falls : old.out ≤ new.out
-  pub disk_falls : old.disk ≤ new.disk
-  pub link_failed : result ≡ Err (Played LinkFailed) → HasRisen old.link new.link
-  pub write_failed : result ≡ Err (Played WriteFailed) → HasRisen old.out new.out
-  pub disk_failed : result ≡ Err DiskFailed → HasRisen old.disk new.disk
+  pub link : CountsFault (Played LinkFailed) old.link new.link result
+  pub out : CountsFaultAlone (Played WriteFailed) old.out new.out result
+  pub disk : CountsFaultAlone DiskFailed old.disk new.disk result

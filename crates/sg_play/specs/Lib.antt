@@ -1,3 +1,4 @@
+pub mod Faults
 pub mod Choosing
 pub mod Queues
 pub mod Steps

@@ -1,7 +1,7 @@
 //! One principal who plays a script.
 ghost use Rattle.std.specs.Prelude.{◌≡◌, ◌≤◌, ◌+◌, ℕ, List, [], Some, None, Err, IfOk, IfErr, OnOk, unwrap_or};
 ghost use Rattle.std.specs.Option.{option_map_or};
-ghost use Rattle.sg_base.specs.Outside.{HasRisen};
+ghost use Rattle.sg_play.specs.Faults.{CountsFaults};
 ghost use Rattle.sg_base.specs.declared.address.Addr.{Addr};
 ghost use Rattle.sg_text.specs.Sessions.{KnownSessions, naming, session_name};
 ghost use Rattle.sg_protocol.specs.Calls.{Call, Start, Deliver};
@@ -110,10 +110,7 @@ impl<'p> Player<'p> {
         out: &mut O,
     ) -> Result<Option<Sid>, PlayFault>
         ensures link_bound { L.bound link.new ≡ L.bound link.old }
-        ensures link_falls { L.faults link.old ≤ L.faults link.new }
-        ensures out_falls { O.faults out.old ≤ O.faults out.new }
-        ensures link_failed { result ≡ Err PlayFault.LinkFailed → HasRisen (L.faults link.old) (L.faults link.new) }
-        ensures write_failed { result ≡ Err PlayFault.WriteFailed → HasRisen (O.faults out.old) (O.faults out.new) }
+        ensures faults { CountsFaults (record { link = L.faults link.old; out = O.faults out.old }) (record { link = L.faults link.new; out = O.faults out.new }) result }
         ensures deliveries { L.deliveries link.new ≡ L.deliveries link.old }
         ensures progress { (p : Play) (start : Outside) → RepresentsPlay self.old p → Whole start (record { written = O.written out.old; sent = L.sent link.old }) p.steps
             → ProgressedOnItsWay start (record { written = O.written out.new; sent = L.sent link.new }) self.new (called p (Start cast)) (done result) }
@@ -132,10 +129,7 @@ impl<'p> Player<'p> {
         out: &mut O,
     ) -> Result<Option<Sid>, PlayFault>
         ensures link_bound { L.bound link.new ≡ L.bound link.old }
-        ensures link_falls { L.faults link.old ≤ L.faults link.new }
-        ensures out_falls { O.faults out.old ≤ O.faults out.new }
-        ensures link_failed { result ≡ Err PlayFault.LinkFailed → HasRisen (L.faults link.old) (L.faults link.new) }
-        ensures write_failed { result ≡ Err PlayFault.WriteFailed → HasRisen (O.faults out.old) (O.faults out.new) }
+        ensures faults { CountsFaults (record { link = L.faults link.old; out = O.faults out.old }) (record { link = L.faults link.new; out = O.faults out.new }) result }
         ensures deliveries { L.deliveries link.new ≡ L.deliveries link.old }
         ensures progress { (p : Play) (start : Outside) → RepresentsPlay self.old p → Whole start (record { written = O.written out.old; sent = L.sent link.old }) p.steps
             → ProgressedOnItsWay start (record { written = O.written out.new; sent = L.sent link.new }) self.new (called p (Deliver bytes.now)) (done result) }
@@ -154,10 +148,7 @@ impl<'p> Player<'p> {
         out: &mut O,
     ) -> Result<(), PlayFault>
         ensures link_bound { L.bound link.new ≡ L.bound link.old }
-        ensures link_falls { L.faults link.old ≤ L.faults link.new }
-        ensures out_falls { O.faults out.old ≤ O.faults out.new }
-        ensures link_failed { result ≡ Err PlayFault.LinkFailed → HasRisen (L.faults link.old) (L.faults link.new) }
-        ensures write_failed { result ≡ Err PlayFault.WriteFailed → HasRisen (O.faults out.old) (O.faults out.new) }
+        ensures faults { CountsFaults (record { link = L.faults link.old; out = O.faults out.old }) (record { link = L.faults link.new; out = O.faults out.new }) result }
         ensures deliveries { L.deliveries link.new ≡ L.deliveries link.old }
         ensures progress { (p : Play) (start : Outside) → RepresentsPlay self.old p → Whole start (record { written = O.written out.old; sent = L.sent link.old }) p.steps
             → ProgressedOnItsWay start (record { written = O.written out.new; sent = L.sent link.new }) self.new (abandons sid p) result }
@@ -178,10 +169,7 @@ impl<'p> Player<'p> {
         out: &mut O,
     ) -> Result<(), PlayFault>
         ensures link_bound { L.bound link.new ≡ L.bound link.old }
-        ensures link_falls { L.faults link.old ≤ L.faults link.new }
-        ensures out_falls { O.faults out.old ≤ O.faults out.new }
-        ensures link_failed { result ≡ Err PlayFault.LinkFailed → HasRisen (L.faults link.old) (L.faults link.new) }
-        ensures write_failed { result ≡ Err PlayFault.WriteFailed → HasRisen (O.faults out.old) (O.faults out.new) }
+        ensures faults { CountsFaults (record { link = L.faults link.old; out = O.faults out.old }) (record { link = L.faults link.new; out = O.faults out.new }) result }
         ensures deliveries { L.deliveries link.new ≡ L.deliveries link.old }
         ensures progress { (p : Play) (c : Call) (start : Outside) → HasAsked self.old p c outcome.now (frames_made frame) → left ≡ sid_left c
             → Whole start (record { written = O.written out.old; sent = L.sent link.old }) p.steps

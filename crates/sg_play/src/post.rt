@@ -1,6 +1,7 @@
 //! What a step gives the outside: first its frame, then its line.
 ghost use Rattle.std.specs.Prelude.{◌≡◌, ◌≢◌, ◌≤◌, ℕ, List, [], ◌∷◌, Err, OnErr, OnOk, Option, Some, None};
 ghost use Rattle.sg_base.specs.Outside.{HasRisen, Appends, AppendsPrefix};
+ghost use Rattle.sg_play.specs.Faults.{CountsFaults};
 ghost use Rattle.sg_play.specs.Posting.{frames_made};
 
 use crate::PlayFault;
@@ -19,10 +20,7 @@ pub(crate) fn post<L: Link, O: Sink>(
     out: &mut O,
 ) -> Result<(), PlayFault>
     ensures link_bound { L.bound link.new ≡ L.bound link.old }
-    ensures link_falls { L.faults link.old ≤ L.faults link.new }
-    ensures out_falls { O.faults out.old ≤ O.faults out.new }
-    ensures link_failed { result ≡ Err PlayFault.LinkFailed → HasRisen (L.faults link.old) (L.faults link.new) }
-    ensures write_failed { result ≡ Err PlayFault.WriteFailed → HasRisen (O.faults out.old) (O.faults out.new) }
+    ensures faults { CountsFaults (record { link = L.faults link.old; out = O.faults out.old }) (record { link = L.faults link.new; out = O.faults out.new }) result }
     ensures no_memory { result ≢ Err PlayFault.OutOfMemory }
     ensures deliveries { L.deliveries link.new ≡ L.deliveries link.old }
     ensures line { OnOk result (Appends (O.written out.old) (O.written out.new) made.line.items) }

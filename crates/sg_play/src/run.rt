@@ -1,7 +1,7 @@
 //! A play: the starts of a script, and then deliveries.
 ghost use Rattle.std.specs.Prelude.{◌≡◌, ◌≤◌, ℕ, List, Err, Some, take, drop, OnOk, IfOk, IfErr};
 ghost use Rattle.std.specs.Option.{option_map_or};
-ghost use Rattle.sg_base.specs.Outside.{HasRisen};
+ghost use Rattle.sg_play.specs.Faults.{CountsFaults};
 ghost use Rattle.sg_protocol.specs.Calls.{Deliver};
 ghost use Rattle.sg_protocol.specs.NodeStates.{new_state};
 ghost use Rattle.sg_play.specs.Ends.{Ended, Outside, Whole};
@@ -27,10 +27,7 @@ impl<'p> Player<'p> {
         out: &mut O,
     ) -> Result<(), PlayFault>
         ensures link_bound { L.bound link.new ≡ L.bound link.old }
-        ensures link_falls { L.faults link.old ≤ L.faults link.new }
-        ensures out_falls { O.faults out.old ≤ O.faults out.new }
-        ensures link_failed { result ≡ Err PlayFault.LinkFailed → HasRisen (L.faults link.old) (L.faults link.new) }
-        ensures write_failed { result ≡ Err PlayFault.WriteFailed → HasRisen (O.faults out.old) (O.faults out.new) }
+        ensures faults { CountsFaults (record { link = L.faults link.old; out = O.faults out.old }) (record { link = L.faults link.new; out = O.faults out.new }) result }
         ensures deliveries { L.deliveries link.new ≡ L.deliveries link.old }
         ensures progress { (p : Play) (start : Outside) → RepresentsPlay self.old p → R.random fresh.old ≡ Some p.random → Whole start (record { written = O.written out.old; sent = L.sent link.old }) p.steps
             → Progressed start (record { written = O.written out.new; sent = L.sent link.new }) self.new (R.random fresh.new) (all_starts p starts.now) result }
@@ -50,10 +47,7 @@ impl<'p> Player<'p> {
         out: &mut O,
     ) -> Result<(), PlayFault>
         ensures link_bound { L.bound link.new ≡ L.bound link.old }
-        ensures link_falls { L.faults link.old ≤ L.faults link.new }
-        ensures out_falls { O.faults out.old ≤ O.faults out.new }
-        ensures link_failed { result ≡ Err PlayFault.LinkFailed → HasRisen (L.faults link.old) (L.faults link.new) }
-        ensures write_failed { result ≡ Err PlayFault.WriteFailed → HasRisen (O.faults out.old) (O.faults out.new) }
+        ensures faults { CountsFaults (record { link = L.faults link.old; out = O.faults out.old }) (record { link = L.faults link.new; out = O.faults out.new }) result }
         ensures deliveries { L.deliveries link.new ≡ L.deliveries link.old }
         ensures progress { (p : Play) (start : Outside) → RepresentsPlay self.old p → R.random fresh.old ≡ Some p.random → Whole start (record { written = O.written out.old; sent = L.sent link.old }) p.steps
             → Progressed start (record { written = O.written out.new; sent = L.sent link.new }) self.new (R.random fresh.new) (starts p start_of.now) result }
@@ -74,10 +68,7 @@ impl<'p> Player<'p> {
         out: &mut O,
     ) -> Result<(), PlayFault>
         ensures link_bound { L.bound link.new ≡ L.bound link.old }
-        ensures link_falls { L.faults link.old ≤ L.faults link.new }
-        ensures out_falls { O.faults out.old ≤ O.faults out.new }
-        ensures link_failed { result ≡ Err PlayFault.LinkFailed → HasRisen (L.faults link.old) (L.faults link.new) }
-        ensures write_failed { result ≡ Err PlayFault.WriteFailed → HasRisen (O.faults out.old) (O.faults out.new) }
+        ensures faults { CountsFaults (record { link = L.faults link.old; out = O.faults out.old }) (record { link = L.faults link.new; out = O.faults out.new }) result }
         ensures progress { (p : Play) (start : Outside) (deliveries : List (List ℕ)) → L.deliveries link.old ≡ Some deliveries → RepresentsPlay self.old p → R.random fresh.old ≡ Some p.random
             → Whole start (record { written = O.written out.old; sent = L.sent link.old }) p.steps
             → Progressed start (record { written = O.written out.new; sent = L.sent link.new }) self.new (R.random fresh.new) (all_deliveries p (take most deliveries)) result }
@@ -104,10 +95,7 @@ impl<'p> Player<'p> {
         out: &mut O,
     ) -> Result<(), PlayFault>
         ensures link_bound { L.bound link.new ≡ L.bound link.old }
-        ensures link_falls { L.faults link.old ≤ L.faults link.new }
-        ensures out_falls { O.faults out.old ≤ O.faults out.new }
-        ensures link_failed { result ≡ Err PlayFault.LinkFailed → HasRisen (L.faults link.old) (L.faults link.new) }
-        ensures write_failed { result ≡ Err PlayFault.WriteFailed → HasRisen (O.faults out.old) (O.faults out.new) }
+        ensures faults { CountsFaults (record { link = L.faults link.old; out = O.faults out.old }) (record { link = L.faults link.new; out = O.faults out.new }) result }
         ensures deliveries { L.deliveries link.new ≡ L.deliveries link.old }
         ensures progress { (p : Play) (start : Outside) → RepresentsPlay self.old p → R.random fresh.old ≡ Some p.random → Whole start (record { written = O.written out.old; sent = L.sent link.old }) p.steps
             → Progressed start (record { written = O.written out.new; sent = L.sent link.new }) self.new (R.random fresh.new) (with_turn p (Deliver bytes.now)) result }
@@ -126,10 +114,7 @@ impl<'p> Player<'p> {
         out: &mut O,
     ) -> Result<(), PlayFault>
         ensures link_bound { L.bound link.new ≡ L.bound link.old }
-        ensures link_falls { L.faults link.old ≤ L.faults link.new }
-        ensures out_falls { O.faults out.old ≤ O.faults out.new }
-        ensures link_failed { result ≡ Err PlayFault.LinkFailed → HasRisen (L.faults link.old) (L.faults link.new) }
-        ensures write_failed { result ≡ Err PlayFault.WriteFailed → HasRisen (O.faults out.old) (O.faults out.new) }
+        ensures faults { CountsFaults (record { link = L.faults link.old; out = O.faults out.old }) (record { link = L.faults link.new; out = O.faults out.new }) result }
         ensures deliveries { L.deliveries link.new ≡ L.deliveries link.old }
         ensures progress { (p : Play) (start : Outside) → RepresentsPlay self.old p → R.random fresh.old ≡ Some p.random → Whole start (record { written = O.written out.old; sent = L.sent link.old }) p.steps
             → Progressed start (record { written = O.written out.new; sent = L.sent link.new }) self.new (R.random fresh.new) (option_map_or (λ s. plays_on s p) sid p) result }
@@ -181,10 +166,7 @@ pub fn play<'p, L: Link, R: Fresh, O: Sink>(
     out: &mut O,
 ) -> Result<(), PlayFault>
     ensures link_bound { L.bound link.new ≡ L.bound link.old }
-    ensures link_falls { L.faults link.old ≤ L.faults link.new }
-    ensures out_falls { O.faults out.old ≤ O.faults out.new }
-    ensures link_failed { result ≡ Err PlayFault.LinkFailed → HasRisen (L.faults link.old) (L.faults link.new) }
-    ensures write_failed { result ≡ Err PlayFault.WriteFailed → HasRisen (O.faults out.old) (O.faults out.new) }
+    ensures faults { CountsFaults (record { link = L.faults link.old; out = O.faults out.old }) (record { link = L.faults link.new; out = O.faults out.new }) result }
 
     // If the deliveries and the random bytes to come are known: what was written and sent is what the play says, up to where it
     // ended.

@@ -1,6 +1,6 @@
 //! A turn of a session: the act by a choice of the script, or the leaving.
 ghost use Rattle.std.specs.Prelude.{◌≡◌, ◌≤◌, ℕ, Err, Some, None, IfOk, IfErr, OnOk, MatchOption, find};
-ghost use Rattle.sg_base.specs.Outside.{HasRisen};
+ghost use Rattle.sg_play.specs.Faults.{CountsFaults};
 ghost use Rattle.sg_protocol.specs.Calls.{Answer};
 ghost use Rattle.sg_report.specs.Outcome.{outcome_of};
 ghost use Rattle.sg_report.specs.Reported.{reported_answer};
@@ -28,10 +28,7 @@ impl<'p> Player<'p> {
         out: &mut O,
     ) -> Result<(), PlayFault>
         ensures link_bound { L.bound link.new ≡ L.bound link.old }
-        ensures link_falls { L.faults link.old ≤ L.faults link.new }
-        ensures out_falls { O.faults out.old ≤ O.faults out.new }
-        ensures link_failed { result ≡ Err PlayFault.LinkFailed → HasRisen (L.faults link.old) (L.faults link.new) }
-        ensures write_failed { result ≡ Err PlayFault.WriteFailed → HasRisen (O.faults out.old) (O.faults out.new) }
+        ensures faults { CountsFaults (record { link = L.faults link.old; out = O.faults out.old }) (record { link = L.faults link.new; out = O.faults out.new }) result }
         ensures deliveries { L.deliveries link.new ≡ L.deliveries link.old }
         ensures progress { (p : Play) (start : Outside) → RepresentsPlay self.old p → R.random fresh.old ≡ Some p.random → Whole start (record { written = O.written out.old; sent = L.sent link.old }) p.steps
             → Progressed start (record { written = O.written out.new; sent = L.sent link.new }) self.new (R.random fresh.new) (plays_on sid p) result }
@@ -57,10 +54,7 @@ impl<'p> Player<'p> {
         out: &mut O,
     ) -> Result<bool, PlayFault>
         ensures link_bound { L.bound link.new ≡ L.bound link.old }
-        ensures link_falls { L.faults link.old ≤ L.faults link.new }
-        ensures out_falls { O.faults out.old ≤ O.faults out.new }
-        ensures link_failed { result ≡ Err PlayFault.LinkFailed → HasRisen (L.faults link.old) (L.faults link.new) }
-        ensures write_failed { result ≡ Err PlayFault.WriteFailed → HasRisen (O.faults out.old) (O.faults out.new) }
+        ensures faults { CountsFaults (record { link = L.faults link.old; out = O.faults out.old }) (record { link = L.faults link.new; out = O.faults out.new }) result }
         ensures deliveries { L.deliveries link.new ≡ L.deliveries link.old }
         ensures progress { (p : Play) (start : Outside) → RepresentsPlay self.old p → R.random fresh.old ≡ Some p.random → Whole start (record { written = O.written out.old; sent = L.sent link.old }) p.steps
             → ProgressedActing start (record { written = O.written out.new; sent = L.sent link.new }) self.new (R.random fresh.new) (acted sid node p) result }
@@ -84,10 +78,7 @@ impl<'p> Player<'p> {
         out: &mut O,
     ) -> Result<bool, PlayFault>
         ensures link_bound { L.bound link.new ≡ L.bound link.old }
-        ensures link_falls { L.faults link.old ≤ L.faults link.new }
-        ensures out_falls { O.faults out.old ≤ O.faults out.new }
-        ensures link_failed { result ≡ Err PlayFault.LinkFailed → HasRisen (L.faults link.old) (L.faults link.new) }
-        ensures write_failed { result ≡ Err PlayFault.WriteFailed → HasRisen (O.faults out.old) (O.faults out.new) }
+        ensures faults { CountsFaults (record { link = L.faults link.old; out = O.faults out.old }) (record { link = L.faults link.new; out = O.faults out.new }) result }
         ensures deliveries { L.deliveries link.new ≡ L.deliveries link.old }
         ensures progress { (p : Play) (start : Outside) → RepresentsPlay self.old p → R.random fresh.old ≡ Some p.random → Whole start (record { written = O.written out.old; sent = L.sent link.old }) p.steps
             → ProgressedActing start (record { written = O.written out.new; sent = L.sent link.new }) self.new (R.random fresh.new) (acted_in sid graph.now node p) result }

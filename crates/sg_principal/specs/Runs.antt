@@ -2,6 +2,7 @@
 use Rattle.std.specs.Prelude.{◌≡◌, ℕ, ◌≤◌, ◌⊎◌, List, [], take, drop, Option, Some, Result, Ok, Err, OnOk, ⊤}
 use Rattle.sg_base.specs.Outside.{HasRisen}
 use Rattle.sg_play.specs.Ends.{Ended}
+use Rattle.sg_play.specs.Faults.{Counts, CountsFaults}
 use Rattle.sg_play.specs.Played.{played}
 use Rattle.sg_play.specs.Steps.{Step}
 use Rattle.sg_play.specs.declared.fault.PlayFault.{PlayFault}
@@ -28,14 +29,16 @@ Takes n old new = (deliveries : List (List ℕ)) → old ≡ Some deliveries →
 abbrev pub TakesAtMost : ℕ → (old new : Option (List (List ℕ))) → Type 0
 TakesAtMost most old new = (deliveries : List (List ℕ)) → old ≡ Some deliveries → (n : ℕ) × (n ≤ most) × (new ≡ Some (drop n deliveries))
 
+-- how often the link and standard output failed
+abbrev pub counts : Stage → Counts
+counts o = record { link = (o.link).faults; out = (o.out).faults }
+
 -- the play of a setup ended so, of which a fault is reported only if its count rose
 pub record EndsPlaying (s : Setup) (most : ℕ) (old new : Stage) (result : Result (Unit {0}) PlayFault) : Type 0 where
   pub plays : Plays s most old new result
   pub left : OnOk result (Takes most (old.link).deliveries (new.link).deliveries)
   pub at_most : TakesAtMost most (old.link).deliveries (new.link).deliveries
-  pub link_falls : (old.link).faults ≤ (new.link).faults
-  pub link_failed : result ≡ Err Play.LinkFailed → HasRisen (old.link).faults (new.link).faults
-  pub write_failed : result ≡ Err Play.WriteFailed → HasRisen (old.out).faults (new.out).faults
+  pub faults : CountsFaults (counts old) (counts new) result
 
 -- how the program ends after it
 abbrev pub ending_of_play : Result (Unit {0}) PlayFault → Ending

@@ -1,8 +1,8 @@
 -- The counts of faults of what a run acts on.
-use Rattle.std.specs.Prelude.{◌≡◌, ◌≤◌, ℕ, Result, Err}
-use Rattle.sg_base.specs.Outside.{HasRisen}
+use Rattle.std.specs.Prelude.{◌≤◌, ℕ, Result}
+use Rattle.sg_play.specs.Faults.{CountsFaultAlone}
 use Rattle.sg_serve.specs.declared.fault.ServeFault.{ServeFault}
-use Rattle.sg_serve.specs.declared.fault.ServeFault.TheVariants.{InputFailed, WriteFailed, DiskFailed}
+use Rattle.sg_serve.specs.declared.fault.ServeFault.TheVariants.{WriteFailed, DiskFailed}
 
 -- how often calls of the link, of the sink and of the disk failed
 pub record Counts : Type 0 where
@@ -10,10 +10,8 @@ pub record Counts : Type 0 where
   pub out : ℕ
   pub disk : ℕ
 
--- no count falls, and a fault of the sink or of the disk is answered only if its count rose
+-- no count falls, and a fault of the sink or of the disk is answered only if its count rose, which it does only then
 pub record CountsFaults {A : Type 0} (old new : Counts) (result : Result A ServeFault) : Type 0 where
   pub link_falls : old.link ≤ new.link
-  pub out_falls : old.out ≤ new.out
-  pub disk_falls : old.disk ≤ new.disk
-  pub write_failed : result ≡ Err WriteFailed → HasRisen old.out new.out
-  pub disk_failed : result ≡ Err DiskFailed → HasRisen old.disk new.disk
+  pub out : CountsFaultAlone WriteFailed old.out new.out result
+  pub disk : CountsFaultAlone DiskFailed old.disk new.disk result
