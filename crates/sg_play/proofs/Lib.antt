@@ -12,5 +12,6 @@ pub mod Running
 pub mod Results
 pub mod Queues
 pub mod Rising
+pub mod Counting
 pub mod Keeping
 pub mod Sessions
