@@ -79,3 +79,16 @@ passed_on {A} {B} {old} {new} {f} {r} is h = record {
 -- a call that went on, and then another
 pub counted_then : {A B : Type 0} {old mid new : Counts} {a : A} {r : Result B PlayFault} → CountsFaults old mid (Ok a) → CountsFaults mid new r → CountsFaults old new r
 counted_then {a = a} h k = record { link = counts_then (h.link).falls k.link; out = alone_then ((h.out).same (no_fault a)) k.out }
+
+module _ {A B : Type 0} {old new : Counts} {a : A} where
+  -- a call that went on, and nothing then
+  pub went_on : (b : B) → CountsFaults old new (Ok a) → CountsFaults old new (Ok b)
+  went_on b h = counted_then h (none_counted new b)
+
+-- the link was asked, and the sink wrote
+pub went : {A : Type 0} {link link' out out' : ℕ} → link ≤ link' → out' ≡ out → (a : A) → CountsFaults (record { link = link; out = out }) (record { link = link'; out = out' }) (Ok a)
+went l s a = record { link = counts_fell l (no_fault a); out = alone_same s (no_fault a) }
+
+-- the link failed
+pub link_counted : {A : Type 0} {link link' out : ℕ} → link ≤ link' → HasRisen link link' → CountsFaults {A = A} (record { link = link; out = out }) (record { link = link'; out = out }) (Err LinkFailed)
+link_counted l h = record { link = counts_rose l h; out = alone_same refl (other_fault refl (λ e. absurd (cc))) }

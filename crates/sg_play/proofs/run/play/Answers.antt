@@ -2,13 +2,11 @@ use Rattle.std.proofs.Common.{rules, ◌≡◌, List, take, Err, refl, ap, ◌�
 use Rattle.std.proofs.lemmas.Result.{err_from_is_err_and}
 use Rattle.sg_script.specs.Script.{Script, Start as ScriptStart}
 use Rattle.sg_play.specs.declared.fault.PlayFault.{PlayFault}
-use Rattle.sg_play.specs.declared.fault.PlayFault.TheVariants.{LinkFailed, WriteFailed}
-use Rattle.sg_report.proofs.Answered.{err_same}
 use Rattle.sg_play.proofs.Results.{mapped}
-use Rattle.sg_play.proofs.Rising.{risen_last}
 use Rattle.sg_play.specs.Ends.{Ended, Outside}
 use Rattle.sg_play.specs.Played.{all_starts, beginning, played}
 use Rattle.sg_play.proofs.Coming.{ended_so}
+use Rattle.sg_play.proofs.Counting.{counted_then, memory_counted, passed_on}
 use Rattle.sg_play.proofs.Endings.{whole_none}
 use Rattle.sg_play.proofs.Running.{not_begun, starts_failed}
 use Rattle.sg_play.proofs.run.play.Goals as goal
@@ -41,38 +39,18 @@ returns-clause-played g c = λ first deliveries random new reported drawn.
     (ended_so start now c.take_all.new.self (g.R.Fresh.random c.take_all.new.fresh) (played c.args.keys.now c.args.programs.now first script (take c.args.most deliveries) random) c.take_all.result
     (c.take_all.ensures.progress (all_starts begun script.starts) start deliveries (c.in_ok-start_all.ensures.deliveries ∙ reported) started.0.0 started.1 started.0.1))
 
-pub returns-in_err-player-clause-link_failed : goal.returns-in_err-player-clause-link_failed
-returns-in_err-player-clause-link_failed g c = λ e. let same : c.from_residual.result ≡ Err c.in_err-player.field-0.0 = search rules in let is = err_same c.from_residual.result c.in_err-player.field-0.0 LinkFailed same e in let m = c.in_err-player.ensures.memory in absurd (cc)
-
-pub returns-in_err-start_all-clause-link_falls : goal.returns-in_err-start_all-clause-link_falls
-returns-in_err-start_all-clause-link_falls g c = omega (arith, c.in_err-start_all.ensures.link_falls)
-
-pub returns-in_err-start_all-clause-link_failed : goal.returns-in_err-start_all-clause-link_failed
-returns-in_err-start_all-clause-link_failed g c = λ e. let same : c.from_residual-in_err-start_all.result ≡ Err c.in_err-start_all.field-0.0 = search rules in c.in_err-start_all.ensures.link_failed (ap (λ (z : PlayFault). Err z) (err_same c.from_residual-in_err-start_all.result c.in_err-start_all.field-0.0 LinkFailed same e))
-
-pub returns-clause-link_falls : goal.returns-clause-link_falls
-returns-clause-link_falls g c = omega (arith, c.in_ok-start_all.ensures.link_falls, c.take_all.ensures.link_falls)
-
-pub returns-clause-link_failed : goal.returns-clause-link_failed
-returns-clause-link_failed g c = λ e. risen_last _ _ _ c.in_ok-start_all.ensures.link_falls c.take_all.ensures.link_falls (c.take_all.ensures.link_failed e)
-
-pub returns-in_err-player-clause-write_failed : goal.returns-in_err-player-clause-write_failed
-returns-in_err-player-clause-write_failed g c = λ e. let same : c.from_residual.result ≡ Err c.in_err-player.field-0.0 = search rules in let is = err_same c.from_residual.result c.in_err-player.field-0.0 WriteFailed same e in let m = c.in_err-player.ensures.memory in absurd (cc)
-
-pub returns-in_err-start_all-clause-out_falls : goal.returns-in_err-start_all-clause-out_falls
-returns-in_err-start_all-clause-out_falls g c = omega (arith, c.in_err-start_all.ensures.out_falls)
-
-pub returns-in_err-start_all-clause-write_failed : goal.returns-in_err-start_all-clause-write_failed
-returns-in_err-start_all-clause-write_failed g c = λ e. let same : c.from_residual-in_err-start_all.result ≡ Err c.in_err-start_all.field-0.0 = search rules in c.in_err-start_all.ensures.write_failed (ap (λ (z : PlayFault). Err z) (err_same c.from_residual-in_err-start_all.result c.in_err-start_all.field-0.0 WriteFailed same e))
-
-pub returns-clause-out_falls : goal.returns-clause-out_falls
-returns-clause-out_falls g c = omega (arith, c.in_ok-start_all.ensures.out_falls, c.take_all.ensures.out_falls)
-
-pub returns-clause-write_failed : goal.returns-clause-write_failed
-returns-clause-write_failed g c = λ e. risen_last _ _ _ c.in_ok-start_all.ensures.out_falls c.take_all.ensures.out_falls (c.take_all.ensures.write_failed e)
-
 pub returns-in_err-start_all-clause-at_most : goal.returns-in_err-start_all-clause-at_most
 returns-in_err-start_all-clause-at_most g c = λ deliveries reported. (0, omega arith, c.in_err-start_all.ensures.deliveries ∙ reported)
 
 pub returns-clause-left : goal.returns-clause-left
 returns-clause-left g c = mapped c.take_all.result _ _ (λ left deliveries reported. left deliveries (c.in_ok-start_all.ensures.deliveries ∙ reported)) c.take_all.ensures.left
+
+pub returns-in_err-player-clause-faults : goal.returns-in_err-player-clause-faults
+returns-in_err-player-clause-faults g c = let same : c.from_residual.result ≡ Err c.in_err-player.field-0.0 = search rules in memory_counted same c.in_err-player.ensures.memory
+
+pub returns-in_err-start_all-clause-faults : goal.returns-in_err-start_all-clause-faults
+returns-in_err-start_all-clause-faults g c = let from = err_from_is_err_and c.from_residual-in_err-start_all.result c.from_residual-in_err-start_all.ensures.1 in
+    let same : c.from_residual-in_err-start_all.result ≡ Err c.in_err-start_all.field-0.0 = from.1 ∙ ap (λ (z : PlayFault). Err z) from.2 in passed_on same c.in_err-start_all.ensures.faults
+
+pub returns-clause-faults : goal.returns-clause-faults
+returns-clause-faults g c = counted_then c.in_ok-start_all.ensures.faults c.take_all.ensures.faults

@@ -2,6 +2,7 @@ use Rattle.std.proofs.Common.{rules, ◌≡◌, Err}
 use Rattle.sg_protocol.specs.Calls.{Deliver}
 use Rattle.sg_play.specs.Ends.{Outside}
 use Rattle.sg_play.specs.Played.{called}
+use Rattle.sg_play.proofs.Counting.{counted_then, passed_on}
 use Rattle.sg_play.proofs.Running.{call_failed, turn_given}
 use Rattle.sg_play.proofs.player.Player.deliver.Goals as goal
 
@@ -16,3 +17,9 @@ returns-clause-progress g c = λ p start s w h.
     let came = c.in_ok-sid.ensures.progress p start s h in
     turn_given start now c.play_if.new.self (g.R.Fresh.random c.play_if.new.fresh) p (Deliver c.args.bytes.now) c.in_ok-sid.sid c.play_if.result (c.in_ok-sid.ensures.turn p s)
     (c.play_if.ensures.progress (called p (Deliver c.args.bytes.now)) start came.0 w came.1)
+
+pub returns-in_err-sid-clause-faults : goal.returns-in_err-sid-clause-faults
+returns-in_err-sid-clause-faults g c = let same : c.from_residual.result ≡ Err c.in_err-sid.field-0.0 = search rules in passed_on same c.in_err-sid.ensures.faults
+
+pub returns-clause-faults : goal.returns-clause-faults
+returns-clause-faults g c = counted_then c.in_ok-sid.ensures.faults c.play_if.ensures.faults

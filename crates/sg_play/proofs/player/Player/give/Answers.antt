@@ -1,9 +1,9 @@
-use Rattle.std.proofs.Common.{◌≡◌, ap}
-use Rattle.sg_play.specs.declared.fault.PlayFault.TheVariants.{OutOfMemory}
+use Rattle.std.proofs.Common.{◌≡◌, ap, refl}
 use Rattle.sg_play.specs.declared.player.Player.{Player}
 use Rattle.sg_play.specs.Played.{called}
 use Rattle.sg_play.specs.Posting.{frames_made}
 use Rattle.sg_play.proofs.Coming.{came_after, no_memory_by}
+use Rattle.sg_play.proofs.Counting.{memory_counted}
 use Rattle.sg_play.proofs.Extends.{by_call}
 use Rattle.sg_play.proofs.Results.{anyway}
 use Rattle.sg_play.proofs.player.Player.give.Goals as goal
@@ -15,18 +15,11 @@ returns-in-Ok-clause-progress g c = λ p k start asked left w.
     c.in-Ok.line.items (frames_made c.args.frame) c.post.result w reported.1 reported.0
     asked.is_made c.post.ensures.no_memory c.post.ensures.line c.post.ensures.frame c.post.ensures.prefix c.post.ensures.no_frame c.post.ensures.no_line
 
-pub returns-in-Err-clause-link_failed : goal.returns-in-Err-clause-link_failed
-returns-in-Err-clause-link_failed g c = λ e.
-    let memory : c.in-Err.fault ≡ OutOfMemory = c.in-Err.ensures.memory in
-    absurd (cc)
-
-pub returns-in-Err-clause-write_failed : goal.returns-in-Err-clause-write_failed
-returns-in-Err-clause-write_failed g c = λ e.
-    let memory : c.in-Err.fault ≡ OutOfMemory = c.in-Err.ensures.memory in
-    absurd (cc)
-
 pub returns-in-Err-clause-progress : goal.returns-in-Err-clause-progress
 returns-in-Err-clause-progress g c = λ p k start asked left w. no_memory_by start (record { written = g.O.Sink.written c.args.out.now; sent = g.L.Link.sent c.args.link.now }) p (called p k) c.in-Err.fault c.in-Err.ensures.memory (by_call p k) w
 
 pub returns-in-Ok-clause-node : goal.returns-in-Ok-clause-node
 returns-in-Ok-clause-node g c = anyway c.post.result (c.report.new.self.node ≡ c.args.self.now.node) (ap (λ (pl : Player). pl.node) c.in-Ok.ensures.rest)
+
+pub returns-in-Err-clause-faults : goal.returns-in-Err-clause-faults
+returns-in-Err-clause-faults g c = memory_counted refl c.in-Err.ensures.memory

@@ -9,6 +9,7 @@ use Rattle.sg_play.specs.Played.{abandons}
 use Rattle.sg_play.specs.Turns.{acted}
 use Rattle.sg_play.proofs.Acting.{turn_failed, turn_left, turn_none, turn_sent}
 use Rattle.sg_play.proofs.Coming.{with_random}
+use Rattle.sg_play.proofs.Counting.{counted_then, none_counted, passed_on, went_on}
 use Rattle.sg_play.proofs.player.Player.play_turn.Goals as goal
 
 pub returns-in_default-clause-progress : goal.returns-in_default-clause-progress
@@ -45,3 +46,15 @@ returns-then-branch-clause-joins g c = c.in_ok-act.ensures.joins
 pub returns-clause-joins : goal.returns-clause-joins
 returns-clause-joins g c = mapped c.leave.result (KeepsJoins c.act.new.self.node c.leave.new.self.node) (KeepsJoins c.args.self.now.node c.leave.new.self.node)
     (λ h. keeps_then c.args.self.now.node c.act.new.self.node c.leave.new.self.node c.in_ok-act.ensures.joins h) c.leave.ensures.joins
+
+pub returns-in_default-clause-faults : goal.returns-in_default-clause-faults
+returns-in_default-clause-faults g c = none_counted _ _
+
+pub returns-in_err-act-clause-faults : goal.returns-in_err-act-clause-faults
+returns-in_err-act-clause-faults g c = let same : c.from_residual.result ≡ Err c.in_err-act.field-0.0 = search rules in passed_on same c.in_err-act.ensures.faults
+
+pub returns-then-branch-clause-faults : goal.returns-then-branch-clause-faults
+returns-then-branch-clause-faults g c = went_on _ c.in_ok-act.ensures.faults
+
+pub returns-clause-faults : goal.returns-clause-faults
+returns-clause-faults g c = counted_then c.in_ok-act.ensures.faults c.leave.ensures.faults

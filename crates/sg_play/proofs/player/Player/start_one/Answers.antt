@@ -4,6 +4,7 @@ use Rattle.sg_play.specs.Ends.{Outside}
 use Rattle.sg_play.specs.Played.{Play, called, starts, with_turn, without}
 use Rattle.sg_play.specs.Representation.{Progressed}
 use Rattle.sg_play.proofs.Coming.{failed, no_memory_by}
+use Rattle.sg_play.proofs.Counting.{counted_then, memory_counted, passed_on}
 use Rattle.sg_play.proofs.Extends.{by_start}
 use Rattle.sg_play.proofs.Running.{call_failed, start_is, turn_given, without_one}
 use Rattle.sg_play.proofs.player.Player.start_one.Goals as goal
@@ -32,3 +33,12 @@ returns-clause-progress g c = λ p start s w h.
     subst (λ (z : Play). Progressed start now c.play_if.new.self (g.R.Fresh.random c.play_if.new.fresh) z c.play_if.result) is
     (turn_given start now c.play_if.new.self (g.R.Fresh.random c.play_if.new.fresh) q (Start c.in_ok-cast.cast) c.in_ok-sid.sid c.play_if.result (c.in_ok-sid.ensures.turn q represents)
     (c.play_if.ensures.progress (called q (Start c.in_ok-cast.cast)) start came.0 (c.next-nonce.ensures.taken p.random w) came.1))
+
+pub returns-in_err-cast-clause-faults : goal.returns-in_err-cast-clause-faults
+returns-in_err-cast-clause-faults g c = let same : c.from_residual.result ≡ Err c.in_err-cast.field-0.0 = search rules in memory_counted same c.in_err-cast.ensures.memory
+
+pub returns-in_err-sid-clause-faults : goal.returns-in_err-sid-clause-faults
+returns-in_err-sid-clause-faults g c = let same : c.from_residual-in_err-sid.result ≡ Err c.in_err-sid.field-0.0 = search rules in passed_on same c.in_err-sid.ensures.faults
+
+pub returns-clause-faults : goal.returns-clause-faults
+returns-clause-faults g c = counted_then c.in_ok-sid.ensures.faults c.play_if.ensures.faults
