@@ -1,5 +1,5 @@
 -- Counts of faults, over calls one after another.
-use Rattle.std.proofs.Common.{◌≡◌, ◌≢◌, ◌≤◌, ℕ, Result, Ok, Err, refl, sym, ap, ◌∙◌, subst, arith}
+use Rattle.std.proofs.Common.{◌≡◌, ◌≢◌, ◌≤◌, ℕ, Result, Ok, Err, refl, subst, arith}
 use Rattle.sg_base.specs.Outside.{HasRisen}
 use Rattle.sg_play.specs.declared.fault.PlayFault.{PlayFault}
 use Rattle.sg_play.specs.declared.fault.PlayFault.TheVariants.{LinkFailed, OutOfMemory, WriteFailed}
@@ -85,9 +85,9 @@ module _ {A B : Type 0} {old new : Counts} {a : A} where
   pub went_on : (b : B) → CountsFaults old new (Ok a) → CountsFaults old new (Ok b)
   went_on b h = counted_then h (none_counted new b)
 
--- the link was asked, and the sink wrote
-pub went : {A : Type 0} {link link' out out' : ℕ} → link ≤ link' → out' ≡ out → (a : A) → CountsFaults (record { link = link; out = out }) (record { link = link'; out = out' }) (Ok a)
-went l s a = record { link = counts_fell l (no_fault a); out = alone_same s (no_fault a) }
+-- the link was asked, and then came another call
+pub asked_then : {A : Type 0} {link link' out : ℕ} {new : Counts} {r : Result A PlayFault} → link ≤ link' → CountsFaults (record { link = link'; out = out }) new r → CountsFaults (record { link = link; out = out }) new r
+asked_then l h = record { link = counts_then l h.link; out = h.out }
 
 -- the link failed
 pub link_counted : {A : Type 0} {link link' out : ℕ} → link ≤ link' → HasRisen link link' → CountsFaults {A = A} (record { link = link; out = out }) (record { link = link'; out = out }) (Err LinkFailed)

@@ -2,7 +2,7 @@ use Rattle.std.proofs.Common.{rules, ◌≡◌, ◌≤◌, ◌+◌, ℕ, List, [
 use Rattle.sg_play.specs.Ends.{Outside}
 use Rattle.sg_play.specs.Played.{Play, all_deliveries}
 use Rattle.sg_play.specs.Representation.{Progressed}
-use Rattle.sg_play.proofs.Counting.{counted_then, link_counted, memory_counted, none_counted, passed_on, went}
+use Rattle.sg_play.proofs.Counting.{asked_then, counted_then, link_counted, memory_counted, none_counted, passed_on}
 use Rattle.sg_play.proofs.Looping.{left_next, left_none}
 use Rattle.sg_play.proofs.Running.{delivery_failed, delivery_more, link_ended, link_failed, link_full, nothing_sent}
 use Rattle.sg_play.proofs.player.Player.take_all.Goals as goal
@@ -18,7 +18,7 @@ loop-taken-preserved g c =
     let one = c.in_ok-deliver-in-Ok-Some.ensures in
     record {
       link_bound = one.link_bound ∙ c.recv.ensures.kept_bound ∙ inv.link_bound;
-      faults = counted_then inv.faults (counted_then (went c.recv.ensures.never_falls refl tt) one.faults);
+      faults = counted_then inv.faults (asked_then c.recv.ensures.never_falls one.faults);
       left = λ deliveries reported. one.deliveries ∙ (first (drop k deliveries) (inv.left deliveries reported)).1 ∙ ap (λ l. Some l) (left_next k deliveries);
       progress = λ p start deliveries reported s w h.
           let now : Outside = record { written = g.O.Sink.written c.deliver.new.out; sent = g.L.Link.sent c.deliver.new.link } in
@@ -110,13 +110,13 @@ pub returns-clause-at_most : goal.returns-clause-at_most
 returns-clause-at_most g c = let within : c.loop-taken._taken ≤ c.args.most = omega arith in λ deliveries reported. (c.loop-taken._taken, within, c.loop-taken.invariant.left deliveries reported)
 
 pub returns-in_err-deliver-in-Ok-Some-clause-faults : goal.returns-in_err-deliver-in-Ok-Some-clause-faults
-returns-in_err-deliver-in-Ok-Some-clause-faults g c = let same : c.from_residual.result ≡ Err c.in_err-deliver-in-Ok-Some.field-0.0 = search rules in passed_on same (counted_then c.loop-taken.invariant.faults (counted_then (went c.recv.ensures.never_falls refl tt) c.in_err-deliver-in-Ok-Some.ensures.faults))
+returns-in_err-deliver-in-Ok-Some-clause-faults g c = let same : c.from_residual.result ≡ Err c.in_err-deliver-in-Ok-Some.field-0.0 = search rules in passed_on same (counted_then c.loop-taken.invariant.faults (asked_then c.recv.ensures.never_falls c.in_err-deliver-in-Ok-Some.ensures.faults))
 
 pub returns-in-Ok-None-clause-faults : goal.returns-in-Ok-None-clause-faults
-returns-in-Ok-None-clause-faults g c = counted_then c.loop-taken.invariant.faults (went c.recv.ensures.never_falls refl tt)
+returns-in-Ok-None-clause-faults g c = counted_then c.loop-taken.invariant.faults (asked_then c.recv.ensures.never_falls (none_counted _ tt))
 
 pub returns-in-Err-Failed-clause-faults : goal.returns-in-Err-Failed-clause-faults
-returns-in-Err-Failed-clause-faults g c = counted_then c.loop-taken.invariant.faults (link_counted c.recv.ensures.never_falls (c.in-Err-Failed.ensures.failed refl))
+returns-in-Err-Failed-clause-faults g c = let failed = rw c.in-Err-Failed.field-0-is at c.in-Err-Failed.ensures.failed in counted_then c.loop-taken.invariant.faults (link_counted c.recv.ensures.never_falls (failed refl))
 
 pub returns-in-Err-OutOfMemory-clause-faults : goal.returns-in-Err-OutOfMemory-clause-faults
-returns-in-Err-OutOfMemory-clause-faults g c = counted_then c.loop-taken.invariant.faults (counted_then (went c.recv.ensures.never_falls refl tt) (memory_counted refl refl))
+returns-in-Err-OutOfMemory-clause-faults g c = counted_then c.loop-taken.invariant.faults (asked_then c.recv.ensures.never_falls (memory_counted refl refl))
