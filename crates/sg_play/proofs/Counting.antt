@@ -2,7 +2,7 @@
 use Rattle.std.proofs.Common.{◌≡◌, ◌≢◌, ◌≤◌, ℕ, Result, Ok, Err, refl, subst, arith}
 use Rattle.sg_base.specs.Outside.{HasRisen}
 use Rattle.sg_play.specs.declared.fault.PlayFault.{PlayFault}
-use Rattle.sg_play.specs.declared.fault.PlayFault.TheVariants.{LinkFailed, OutOfMemory, WriteFailed}
+use Rattle.sg_play.specs.declared.fault.PlayFault.TheVariants.{LinkFailed, OutOfMemory}
 use Rattle.sg_play.specs.Faults.{Counts, CountsFault, CountsFaultAlone, CountsFaults}
 use Rattle.sg_play.proofs.Rising.{risen_last}
 
@@ -48,11 +48,11 @@ module _ {A F : Type 0} {fault : F} {r : Result A F} where
   alone_then {old} {mid} {new} s h = subst (λ (c : ℕ). CountsFaultAlone fault c new r) s h
 
 module _ {A B F G : Type 0} {f : F} {g : G} {r : Result A F} {s : Result B G} where
-  -- an answer of another type, if it says the fault only if this one does
+  -- the call answers by another type, and says its fault only if this answer does
   pub counts_as : {old new : ℕ} → (s ≡ Err g → r ≡ Err f) → CountsFault f old new r → CountsFault g old new s
   counts_as i h = record { falls = h.falls; rises = λ e. h.rises (i e) }
 
-  -- and just if
+  -- and if this answer does
   pub alone_as : {old new : ℕ} → (s ≡ Err g → r ≡ Err f) → (r ≡ Err f → s ≡ Err g) → CountsFaultAlone f old new r → CountsFaultAlone g old new s
   alone_as i o h = record { falls = h.falls; rises = λ e. h.rises (i e); same = λ n. h.same (λ e. n (o e)) }
 
@@ -70,14 +70,16 @@ memory_counted {f = f} is m = record {
 }
 
 -- a fault is passed on
-pub passed_on : {A B : Type 0} {old new : Counts} {f : PlayFault} {r : Result B PlayFault} → r ≡ Err f → CountsFaults {A = A} old new (Err f) → CountsFaults old new r
+pub passed_on : {A B : Type 0} {old new : Counts} {f : PlayFault} {r : Result B PlayFault} → r ≡ Err f → CountsFaults {A = A} old new (Err f)
+    → CountsFaults old new r
 passed_on {A} {B} {old} {new} {f} {r} is h = record {
   link = counts_as (λ e. cc) h.link;
   out = alone_as (λ e. cc) (λ e. cc) h.out;
 }
 
 -- a call that went on, and then another
-pub counted_then : {A B : Type 0} {old mid new : Counts} {a : A} {r : Result B PlayFault} → CountsFaults old mid (Ok a) → CountsFaults mid new r → CountsFaults old new r
+pub counted_then : {A B : Type 0} {old mid new : Counts} {a : A} {r : Result B PlayFault} → CountsFaults old mid (Ok a) → CountsFaults mid new r
+    → CountsFaults old new r
 counted_then {a = a} h k = record { link = counts_then (h.link).falls k.link; out = alone_then ((h.out).same (no_fault a)) k.out }
 
 module _ {A B : Type 0} {old new : Counts} {a : A} where
@@ -85,10 +87,12 @@ module _ {A B : Type 0} {old new : Counts} {a : A} where
   pub went_on : (b : B) → CountsFaults old new (Ok a) → CountsFaults old new (Ok b)
   went_on b h = counted_then h (none_counted new b)
 
--- the link was asked, and then came another call
-pub asked_then : {A : Type 0} {link link' out : ℕ} {new : Counts} {r : Result A PlayFault} → link ≤ link' → CountsFaults (record { link = link'; out = out }) new r → CountsFaults (record { link = link; out = out }) new r
+-- the link was asked, and then another call was made
+pub asked_then : {A : Type 0} {link link' out : ℕ} {new : Counts} {r : Result A PlayFault}
+    → link ≤ link' → CountsFaults (record { link = link'; out = out }) new r → CountsFaults (record { link = link; out = out }) new r
 asked_then l h = record { link = counts_then l h.link; out = h.out }
 
 -- the link failed
-pub link_counted : {A : Type 0} {link link' out : ℕ} → link ≤ link' → HasRisen link link' → CountsFaults {A = A} (record { link = link; out = out }) (record { link = link'; out = out }) (Err LinkFailed)
+pub link_counted : {A : Type 0} {link link' out : ℕ} → link ≤ link' → HasRisen link link'
+    → CountsFaults {A = A} (record { link = link; out = out }) (record { link = link'; out = out }) (Err LinkFailed)
 link_counted l h = record { link = counts_rose l h; out = alone_same refl (other_fault refl (λ e. absurd (cc))) }

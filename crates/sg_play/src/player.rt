@@ -1,5 +1,5 @@
 //! One principal who plays a script.
-ghost use Rattle.std.specs.Prelude.{◌≡◌, ◌≤◌, ◌+◌, ℕ, List, [], Some, None, Err, IfOk, IfErr, OnOk, unwrap_or};
+ghost use Rattle.std.specs.Prelude.{◌≡◌, ◌+◌, ℕ, List, [], Some, None, IfOk, IfErr, OnOk, unwrap_or};
 ghost use Rattle.std.specs.Option.{option_map_or};
 ghost use Rattle.sg_play.specs.Faults.{CountsFaults};
 ghost use Rattle.sg_base.specs.declared.address.Addr.{Addr};

@@ -1,5 +1,5 @@
 //! What a step gives the outside: first its frame, then its line.
-ghost use Rattle.std.specs.Prelude.{◌≡◌, ◌≢◌, ◌≤◌, ℕ, List, [], ◌∷◌, Err, OnErr, OnOk, Option, Some, None};
+ghost use Rattle.std.specs.Prelude.{◌≡◌, ◌≢◌, ◌≤◌, Err, OnErr, OnOk};
 ghost use Rattle.sg_base.specs.Outside.{HasRisen, Appends, AppendsPrefix};
 ghost use Rattle.sg_play.specs.Faults.{CountsFaults};
 ghost use Rattle.sg_play.specs.Posting.{frames_made};

@@ -1,5 +1,5 @@
 //! A play: the starts of a script, and then deliveries.
-ghost use Rattle.std.specs.Prelude.{◌≡◌, ◌≤◌, ℕ, List, Err, Some, take, drop, OnOk, IfOk, IfErr};
+ghost use Rattle.std.specs.Prelude.{◌≡◌, ◌≤◌, ℕ, List, Some, take, drop, OnOk, IfOk, IfErr};
 ghost use Rattle.std.specs.Option.{option_map_or};
 ghost use Rattle.sg_play.specs.Faults.{CountsFaults};
 ghost use Rattle.sg_protocol.specs.Calls.{Deliver};

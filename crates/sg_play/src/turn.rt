@@ -1,5 +1,5 @@
 //! A turn of a session: the act by a choice of the script, or the leaving.
-ghost use Rattle.std.specs.Prelude.{◌≡◌, ◌≤◌, ℕ, Err, Some, None, IfOk, IfErr, OnOk, MatchOption, find};
+ghost use Rattle.std.specs.Prelude.{◌≡◌, ℕ, Some, None, IfOk, IfErr, OnOk, MatchOption, find};
 ghost use Rattle.sg_play.specs.Faults.{CountsFaults};
 ghost use Rattle.sg_protocol.specs.Calls.{Answer};
 ghost use Rattle.sg_report.specs.Outcome.{outcome_of};

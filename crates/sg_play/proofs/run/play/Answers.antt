@@ -46,11 +46,14 @@ pub returns-clause-left : goal.returns-clause-left
 returns-clause-left g c = mapped c.take_all.result _ _ (λ left deliveries reported. left deliveries (c.in_ok-start_all.ensures.deliveries ∙ reported)) c.take_all.ensures.left
 
 pub returns-in_err-player-clause-faults : goal.returns-in_err-player-clause-faults
-returns-in_err-player-clause-faults g c = let same : c.from_residual.result ≡ Err c.in_err-player.field-0.0 = search rules in memory_counted same c.in_err-player.ensures.memory
+returns-in_err-player-clause-faults g c = let same : c.from_residual.result ≡ Err c.in_err-player.field-0.0 = search rules in
+    memory_counted same c.in_err-player.ensures.memory
 
 pub returns-in_err-start_all-clause-faults : goal.returns-in_err-start_all-clause-faults
-returns-in_err-start_all-clause-faults g c = let from = err_from_is_err_and c.from_residual-in_err-start_all.result c.from_residual-in_err-start_all.ensures.1 in
-    let same : c.from_residual-in_err-start_all.result ≡ Err c.in_err-start_all.field-0.0 = from.1 ∙ ap (λ (z : PlayFault). Err z) from.2 in passed_on same c.in_err-start_all.ensures.faults
+returns-in_err-start_all-clause-faults g c =
+    let from = err_from_is_err_and c.from_residual-in_err-start_all.result c.from_residual-in_err-start_all.ensures.1 in
+    let same : c.from_residual-in_err-start_all.result ≡ Err c.in_err-start_all.field-0.0 = from.1 ∙ ap (λ (z : PlayFault). Err z) from.2 in
+    passed_on same c.in_err-start_all.ensures.faults
 
 pub returns-clause-faults : goal.returns-clause-faults
 returns-clause-faults g c = counted_then c.in_ok-start_all.ensures.faults c.take_all.ensures.faults

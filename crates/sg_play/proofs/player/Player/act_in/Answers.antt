@@ -46,10 +46,12 @@ pub returns-in-None-clause-joins : goal.returns-in-None-clause-joins
 returns-in-None-clause-joins g c = c.in_ok-outcome.ensures.joins
 
 pub returns-in_err-outcome-clause-faults : goal.returns-in_err-outcome-clause-faults
-returns-in_err-outcome-clause-faults g c = let same : c.from_residual.result ≡ Err c.in_err-outcome.field-0.0 = search rules in memory_counted same c.in_err-outcome.ensures.memory
+returns-in_err-outcome-clause-faults g c = let same : c.from_residual.result ≡ Err c.in_err-outcome.field-0.0 = search rules in
+    memory_counted same c.in_err-outcome.ensures.memory
 
 pub returns-in_err-give-in-Some-clause-faults : goal.returns-in_err-give-in-Some-clause-faults
-returns-in_err-give-in-Some-clause-faults g c = let same : c.from_residual-in_err-give-in-Some.result ≡ Err c.in_err-give-in-Some.field-0.0 = search rules in passed_on same c.in_err-give-in-Some.ensures.faults
+returns-in_err-give-in-Some-clause-faults g c = let same : c.from_residual-in_err-give-in-Some.result ≡ Err c.in_err-give-in-Some.field-0.0 = search rules in
+    passed_on same c.in_err-give-in-Some.ensures.faults
 
 pub returns-in_ok-give-in-Some-clause-faults : goal.returns-in_ok-give-in-Some-clause-faults
 returns-in_ok-give-in-Some-clause-faults g c = went_on _ c.in_ok-give-in-Some.ensures.faults

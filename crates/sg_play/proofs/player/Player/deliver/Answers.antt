@@ -19,7 +19,8 @@ returns-clause-progress g c = λ p start s w h.
     (c.play_if.ensures.progress (called p (Deliver c.args.bytes.now)) start came.0 w came.1)
 
 pub returns-in_err-sid-clause-faults : goal.returns-in_err-sid-clause-faults
-returns-in_err-sid-clause-faults g c = let same : c.from_residual.result ≡ Err c.in_err-sid.field-0.0 = search rules in passed_on same c.in_err-sid.ensures.faults
+returns-in_err-sid-clause-faults g c = let same : c.from_residual.result ≡ Err c.in_err-sid.field-0.0 = search rules in
+    passed_on same c.in_err-sid.ensures.faults
 
 pub returns-clause-faults : goal.returns-clause-faults
 returns-clause-faults g c = counted_then c.in_ok-sid.ensures.faults c.play_if.ensures.faults

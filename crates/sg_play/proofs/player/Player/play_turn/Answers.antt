@@ -51,7 +51,8 @@ pub returns-in_default-clause-faults : goal.returns-in_default-clause-faults
 returns-in_default-clause-faults g c = none_counted _ _
 
 pub returns-in_err-act-clause-faults : goal.returns-in_err-act-clause-faults
-returns-in_err-act-clause-faults g c = let same : c.from_residual.result ≡ Err c.in_err-act.field-0.0 = search rules in passed_on same c.in_err-act.ensures.faults
+returns-in_err-act-clause-faults g c = let same : c.from_residual.result ≡ Err c.in_err-act.field-0.0 = search rules in
+    passed_on same c.in_err-act.ensures.faults
 
 pub returns-then-branch-clause-faults : goal.returns-then-branch-clause-faults
 returns-then-branch-clause-faults g c = went_on _ c.in_ok-act.ensures.faults

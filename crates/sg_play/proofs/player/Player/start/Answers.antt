@@ -28,10 +28,12 @@ returns-clause-turn g c = λ p represents.
     c.sid_reported.ensures.reported ∙ ap sid_reported came.is_reported ∙ reported_given 0 (answer_in p (Start c.args.cast))
 
 pub returns-in_err-outcome-clause-faults : goal.returns-in_err-outcome-clause-faults
-returns-in_err-outcome-clause-faults g c = let same : c.from_residual.result ≡ Err c.in_err-outcome.field-0.0 = search rules in memory_counted same c.in_err-outcome.ensures.memory
+returns-in_err-outcome-clause-faults g c = let same : c.from_residual.result ≡ Err c.in_err-outcome.field-0.0 = search rules in
+    memory_counted same c.in_err-outcome.ensures.memory
 
 pub returns-in_err-give-clause-faults : goal.returns-in_err-give-clause-faults
-returns-in_err-give-clause-faults g c = let same : c.from_residual-in_err-give.result ≡ Err c.in_err-give.field-0.0 = search rules in passed_on same c.in_err-give.ensures.faults
+returns-in_err-give-clause-faults g c = let same : c.from_residual-in_err-give.result ≡ Err c.in_err-give.field-0.0 = search rules in
+    passed_on same c.in_err-give.ensures.faults
 
 pub returns-clause-faults : goal.returns-clause-faults
 returns-clause-faults g c = went_on _ c.in_ok-give.ensures.faults

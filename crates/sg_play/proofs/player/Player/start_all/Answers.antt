@@ -38,4 +38,5 @@ returns-clause-progress g c = λ p start s w h.
     starts_done start now c.loop-start.self (g.R.Fresh.random c.loop-start.fresh) p c.args.starts.now c.loop-start.start-index c.loop-start-test.false (c.loop-start.invariant.progress p start s w h)
 
 pub returns-in_err-start_one-clause-faults : goal.returns-in_err-start_one-clause-faults
-returns-in_err-start_one-clause-faults g c = let same : c.from_residual.result ≡ Err c.in_err-start_one.field-0.0 = search rules in passed_on same (counted_then c.loop-start.invariant.faults c.in_err-start_one.ensures.faults)
+returns-in_err-start_one-clause-faults g c = let same : c.from_residual.result ≡ Err c.in_err-start_one.field-0.0 = search rules in
+    passed_on same (counted_then c.loop-start.invariant.faults c.in_err-start_one.ensures.faults)

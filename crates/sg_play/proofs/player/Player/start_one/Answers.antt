@@ -35,10 +35,12 @@ returns-clause-progress g c = λ p start s w h.
     (c.play_if.ensures.progress (called q (Start c.in_ok-cast.cast)) start came.0 (c.next-nonce.ensures.taken p.random w) came.1))
 
 pub returns-in_err-cast-clause-faults : goal.returns-in_err-cast-clause-faults
-returns-in_err-cast-clause-faults g c = let same : c.from_residual.result ≡ Err c.in_err-cast.field-0.0 = search rules in memory_counted same c.in_err-cast.ensures.memory
+returns-in_err-cast-clause-faults g c = let same : c.from_residual.result ≡ Err c.in_err-cast.field-0.0 = search rules in
+    memory_counted same c.in_err-cast.ensures.memory
 
 pub returns-in_err-sid-clause-faults : goal.returns-in_err-sid-clause-faults
-returns-in_err-sid-clause-faults g c = let same : c.from_residual-in_err-sid.result ≡ Err c.in_err-sid.field-0.0 = search rules in passed_on same c.in_err-sid.ensures.faults
+returns-in_err-sid-clause-faults g c = let same : c.from_residual-in_err-sid.result ≡ Err c.in_err-sid.field-0.0 = search rules in
+    passed_on same c.in_err-sid.ensures.faults
 
 pub returns-clause-faults : goal.returns-clause-faults
 returns-clause-faults g c = counted_then c.in_ok-sid.ensures.faults c.play_if.ensures.faults

@@ -8,7 +8,12 @@ use Rattle.sg_play.proofs.Running.{delivery_failed, delivery_more, link_ended, l
 use Rattle.sg_play.proofs.player.Player.take_all.Goals as goal
 
 pub loop-taken-init : goal.loop-taken-init
-loop-taken-init g c = record { link_bound = refl; faults = none_counted _ tt; left = λ deliveries reported. reported; progress = λ p start deliveries reported s w h. ((s, h), w) }
+loop-taken-init g c = record {
+  link_bound = refl;
+  faults = none_counted _ tt;
+  left = λ deliveries reported. reported;
+  progress = λ p start deliveries reported s w h. ((s, h), w);
+}
 
 pub loop-taken-preserved : goal.loop-taken-preserved
 loop-taken-preserved g c =
@@ -110,13 +115,16 @@ pub returns-clause-at_most : goal.returns-clause-at_most
 returns-clause-at_most g c = let within : c.loop-taken._taken ≤ c.args.most = omega arith in λ deliveries reported. (c.loop-taken._taken, within, c.loop-taken.invariant.left deliveries reported)
 
 pub returns-in_err-deliver-in-Ok-Some-clause-faults : goal.returns-in_err-deliver-in-Ok-Some-clause-faults
-returns-in_err-deliver-in-Ok-Some-clause-faults g c = let same : c.from_residual.result ≡ Err c.in_err-deliver-in-Ok-Some.field-0.0 = search rules in passed_on same (counted_then c.loop-taken.invariant.faults (asked_then c.recv.ensures.never_falls c.in_err-deliver-in-Ok-Some.ensures.faults))
+returns-in_err-deliver-in-Ok-Some-clause-faults g c = let same : c.from_residual.result ≡ Err c.in_err-deliver-in-Ok-Some.field-0.0 = search rules in
+    passed_on same (counted_then c.loop-taken.invariant.faults (asked_then c.recv.ensures.never_falls c.in_err-deliver-in-Ok-Some.ensures.faults))
 
 pub returns-in-Ok-None-clause-faults : goal.returns-in-Ok-None-clause-faults
 returns-in-Ok-None-clause-faults g c = counted_then c.loop-taken.invariant.faults (asked_then c.recv.ensures.never_falls (none_counted _ tt))
 
 pub returns-in-Err-Failed-clause-faults : goal.returns-in-Err-Failed-clause-faults
-returns-in-Err-Failed-clause-faults g c = let failed = rw c.in-Err-Failed.field-0-is at c.in-Err-Failed.ensures.failed in counted_then c.loop-taken.invariant.faults (link_counted c.recv.ensures.never_falls (failed refl))
+returns-in-Err-Failed-clause-faults g c =
+    let failed = rw c.in-Err-Failed.field-0-is at c.in-Err-Failed.ensures.failed in
+    counted_then c.loop-taken.invariant.faults (link_counted c.recv.ensures.never_falls (failed refl))
 
 pub returns-in-Err-OutOfMemory-clause-faults : goal.returns-in-Err-OutOfMemory-clause-faults
 returns-in-Err-OutOfMemory-clause-faults g c = counted_then c.loop-taken.invariant.faults (asked_then c.recv.ensures.never_falls (memory_counted refl refl))
