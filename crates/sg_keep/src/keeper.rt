@@ -1,9 +1,9 @@
 //! One principal who plays a script and keeps its joins.
-ghost use Rattle.std.specs.Prelude.{◌≡◌, ◌≤◌, ◌⊎◌, false, List, ℕ, Err, Some, IfErr, IfSome, OnErr, OnOk};
-ghost use Rattle.sg_base.specs.Outside.{HasRisen};
+ghost use Rattle.std.specs.Prelude.{◌≡◌, ◌⊎◌, false, List, ℕ, Err, Some, IfErr, IfSome, OnErr, OnOk};
 ghost use Rattle.sg_ledger.specs.Disk.{LeavesOnly};
 ghost use Rattle.sg_ledger.specs.Format.{Represents};
 ghost use Rattle.sg_play.specs.Ends.{Outside, Whole};
+ghost use Rattle.sg_play.specs.Faults.{CountsFaultAlone};
 ghost use Rattle.sg_play.specs.Played.{Play, with_turn};
 ghost use Rattle.sg_protocol.specs.Calls.{Call};
 ghost use Rattle.sg_report.specs.Outcome.{outcome_of};
@@ -70,8 +70,7 @@ impl<'p> Keeper<'p> {
     fn keep_join<D: Disk>(&mut self, outcome: &Outcome<'p>, disk: &mut D) -> Result<(), KeepFault>
         requires asked { HasAskedNode self.old (D.may_leave disk.old) outcome.now }
         ensures disk_bound { D.bound disk.new ≡ D.bound disk.old }
-        ensures falls { D.faults disk.old ≤ D.faults disk.new }
-        ensures failed { result ≡ Err KeepFault.DiskFailed → HasRisen (D.faults disk.old) (D.faults disk.new) }
+        ensures faults { CountsFaultAlone KeepFault.DiskFailed (D.faults disk.old) (D.faults disk.new) result }
         ensures causes { IfErr result (λ e. (e ≡ KeepFault.DiskFailed) ⊎ (e ≡ KeepFault.Played PlayFault.OutOfMemory)) }
         ensures player { self.new.player ≡ self.old.player }
         ensures holds { OnOk result (HoldsJoins self.new (D.may_leave disk.new)) }
@@ -94,8 +93,7 @@ pub fn add_join<D: Disk>(
     requires images { AllRepresent (D.may_leave disk.old) ledger.old.joins }
     requires new { IfSome (join_reported (outcome_of outcome.now)) (IsNew ledger.old.joins) }
     ensures disk_bound { D.bound disk.new ≡ D.bound disk.old }
-    ensures falls { D.faults disk.old ≤ D.faults disk.new }
-    ensures failed { result ≡ Err KeepFault.DiskFailed → HasRisen (D.faults disk.old) (D.faults disk.new) }
+    ensures faults { CountsFaultAlone KeepFault.DiskFailed (D.faults disk.old) (D.faults disk.new) result }
     ensures causes { IfErr result (λ e. (e ≡ KeepFault.DiskFailed) ⊎ (e ≡ KeepFault.Played PlayFault.OutOfMemory)) }
     ensures added { OnOk result (ledger.new ≡ record { joins = with_join ledger.old.joins (join_reported (outcome_of outcome.now)); failed = false }) }
     ensures images { OnOk result (AllRepresent (D.may_leave disk.new) ledger.new.joins) }

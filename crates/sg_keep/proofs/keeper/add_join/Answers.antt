@@ -1,7 +1,8 @@
-use Rattle.std.proofs.Common.{List, inl, inr, ⊎_elim, Err, ap, ◌∙◌, subst, arith}
+use Rattle.std.proofs.Common.{List, inl, inr, ⊎_elim, Err, refl, ap, ◌∙◌, subst, arith}
 use Rattle.sg_ledger.specs.Disk.{LeavesOnly}
 use Rattle.sg_ledger.specs.Format.{Join, Represents}
 use Rattle.sg_ledger.specs.declared.ledger.AddJoinFault.{AddJoinFault}
+use Rattle.sg_play.proofs.Counting.{alone_rose, alone_same, no_fault}
 use Rattle.sg_report.specs.Outcome.{outcome_of}
 use Rattle.sg_keep.specs.Joins.{join_reported, with_join}
 use Rattle.sg_keep.specs.KeptRuns.{RepresentsEither}
@@ -55,3 +56,15 @@ pub returns-in-Err-OutOfMemory-clause-any_moment : goal.returns-in-Err-OutOfMemo
 returns-in-Err-OutOfMemory-clause-any_moment g c =
     subst (λ (js : List Join). LeavesOnly g.D.Disk.moment g.D.Disk.left_since c.args.disk.now c.add.new.disk (RepresentsEither c.args.ledger.now.joins js))
     (with_one c.args.ledger.now.joins (join_reported (outcome_of c.args.outcome.now)) c.join_in.result c.join_in.ensures c.in-Some.join c.in-Some.is) c.add.ensures.any_moment
+
+pub returns-in_default-clause-faults : goal.returns-in_default-clause-faults
+returns-in_default-clause-faults g c = alone_same refl (no_fault tt)
+
+pub returns-in-Ok-clause-faults : goal.returns-in-Ok-clause-faults
+returns-in-Ok-clause-faults g c = alone_same (c.in-Ok.ensures.no_fault (no_fault tt)) (no_fault tt)
+
+pub returns-in-Err-Failed-clause-faults : goal.returns-in-Err-Failed-clause-faults
+returns-in-Err-Failed-clause-faults g c = alone_rose c.add.ensures.never_falls (c.add.ensures.failed (c.in-Err-Failed.is ∙ ap (λ (f : AddJoinFault). Err f) c.in-Err-Failed.field-0-is)) refl
+
+pub returns-in-Err-OutOfMemory-clause-faults : goal.returns-in-Err-OutOfMemory-clause-faults
+returns-in-Err-OutOfMemory-clause-faults g c = alone_same (c.add.ensures.no_fault (λ e. absurd (cc))) (λ e. absurd (cc))

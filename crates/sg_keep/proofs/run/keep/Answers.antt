@@ -5,25 +5,24 @@ use Rattle.sg_script.specs.Script.{Script, Start as ScriptStart}
 use Rattle.sg_play.proofs.Endings.{whole_none}
 use Rattle.sg_play.specs.Ends.{Outside}
 use Rattle.sg_play.specs.Played.{all_deliveries, all_starts, beginning, played}
-use Rattle.sg_keep.specs.Faults.{Counts}
 use Rattle.sg_keep.specs.KeptRuns.{HasKept, KeptThroughout}
 use Rattle.sg_keep.specs.declared.keeper.Keeper.{Keeper}
 use Rattle.sg_keep.proofs.Asking.{came_kept, holds_first, not_begun, represents_first, starts_ended}
 use Rattle.sg_keep.proofs.AtMost.{not_begun_throughout, throughout_on, throughout_then}
-use Rattle.sg_keep.proofs.Counting.{falls_of, later_counts, memory_counts, none_for_memory}
+use Rattle.sg_keep.proofs.Counting.{counted_then, memory_counted}
 use Rattle.sg_keep.proofs.Going.{by_deliveries, by_starts, in_step_on}
 use Rattle.sg_keep.proofs.Moments.{more_on, not_asked}
 use Rattle.sg_keep.proofs.run.keep.Goals as goal
 
 pub returns-in_default-clause-faults : goal.returns-in_default-clause-faults
-returns-in_default-clause-faults g c = none_for_memory (record { link = g.L.Link.faults c.args.link.now; out = g.O.Sink.faults c.args.out.now; disk = g.D.Disk.faults c.args.disk.now })
+returns-in_default-clause-faults g c = memory_counted refl
 
 pub returns-in_default-clause-kept : goal.returns-in_default-clause-kept
 returns-in_default-clause-kept g c = λ deliveries random reported drawn.
     not_begun (record { written = g.O.Sink.written c.args.out.now; sent = g.L.Link.sent c.args.link.now }) (g.D.Disk.may_leave c.args.disk.now) c.args.keys.now c.args.programs.now c.args.ledger.joins c.args.script (take c.args.most deliveries) random c.requires.represents _ refl
 
 pub returns-in-Err-clause-faults : goal.returns-in-Err-clause-faults
-returns-in-Err-clause-faults g c = memory_counts (record { link = g.L.Link.faults c.args.link.now; out = g.O.Sink.faults c.args.out.now; disk = g.D.Disk.faults c.args.disk.now }) c.in-Err.fault c.in-Err.ensures.memory
+returns-in-Err-clause-faults g c = memory_counted c.in-Err.ensures.memory
 
 pub returns-in-Err-clause-kept : goal.returns-in-Err-clause-kept
 returns-in-Err-clause-kept g c = λ deliveries random reported drawn.
@@ -59,11 +58,7 @@ pub returns-clause-left : goal.returns-clause-left
 returns-clause-left g c = on_ok_weaker c.take_all.result (λ h deliveries reported. h deliveries (c.start_all.ensures.deliveries ∙ reported)) c.take_all.ensures.left
 
 pub returns-clause-faults : goal.returns-clause-faults
-returns-clause-faults g c =
-    let old : Counts = record { link = g.L.Link.faults c.args.link.now; out = g.O.Sink.faults c.args.out.now; disk = g.D.Disk.faults c.args.disk.now } in
-    let mid : Counts = record { link = g.L.Link.faults c.start_all.new.link; out = g.O.Sink.faults c.start_all.new.out; disk = g.D.Disk.faults c.start_all.new.disk } in
-    let new : Counts = record { link = g.L.Link.faults c.take_all.new.link; out = g.O.Sink.faults c.take_all.new.out; disk = g.D.Disk.faults c.take_all.new.disk } in
-    later_counts old mid new c.take_all.result (falls_of old mid c.start_all.result c.start_all.ensures.faults) c.take_all.ensures.faults
+returns-clause-faults g c = counted_then c.in-Ok-start_all.ensures.faults c.take_all.ensures.faults
 
 pub returns-clause-kept : goal.returns-clause-kept
 returns-clause-kept g c = λ deliveries random reported drawn.

@@ -8,30 +8,19 @@ use Rattle.sg_play.proofs.Keeping.{keeps_same, keeps_then}
 use Rattle.sg_play.proofs.Running.{turn_given}
 use Rattle.sg_play.proofs.Reporting.{reported_given}
 use Rattle.sg_keep.proofs.Asking.{asked_then, holds_on, represents_kept, unkept, unplayed, unreported}
-use Rattle.sg_keep.proofs.Counting.{disk_falls_only, later_counts, of_play, play_went, unkept_counts}
+use Rattle.sg_keep.proofs.Counting.{counted_then, kept_counted, played_counted, unkept_counted, unplayed_counted}
 use Rattle.sg_keep.proofs.keeper.Keeper.report.Goals as goal
 
 pub returns-in-Err-clause-faults : goal.returns-in-Err-clause-faults
-returns-in-Err-clause-faults g c =
-    unkept_counts (g.L.Link.faults c.args.link.now) (g.O.Sink.faults c.args.out.now) (g.D.Disk.faults c.args.disk.now) (g.D.Disk.faults c.keep_join.new.disk) c.in-Err.fault c.keep_join.ensures.falls c.in-Err.ensures.causes
-    (λ e. c.keep_join.ensures.failed (c.in-Err.is ∙ ap Err e))
+returns-in-Err-clause-faults g c = unkept_counted c.in-Err.ensures.causes c.in-Err.ensures.faults
 
 pub returns-in-Err-clause-progress : goal.returns-in-Err-clause-progress
 returns-in-Err-clause-progress g c = λ p k start a w h.
     unkept start (record { written = g.O.Sink.written c.args.out.now; sent = g.L.Link.sent c.args.link.now }) (g.D.Disk.may_leave c.keep_join.new.disk) c.args.self.now p k c.args.outcome.now a
     c.in-Err.fault c.in-Err.ensures.causes c.in-Err.ensures.images h
 
--- the disk alone was used before
 pub returns-in-Err-give-clause-faults : goal.returns-in-Err-give-clause-faults
-returns-in-Err-give-clause-faults g c =
-    let link = g.L.Link.faults c.args.link.now in
-    let out = g.O.Sink.faults c.args.out.now in
-    let kept = g.D.Disk.faults c.keep_join.new.disk in
-    let link' = g.L.Link.faults c.give.new.link in
-    let out' = g.O.Sink.faults c.give.new.out in
-    later_counts (record { link = link; out = out; disk = g.D.Disk.faults c.args.disk.now }) (record { link = link; out = out; disk = kept }) (record { link = link'; out = out'; disk = kept }) _
-    (disk_falls_only link out (g.D.Disk.faults c.args.disk.now) kept c.keep_join.ensures.falls)
-    (of_play link link' out out' kept c.give.result _ c.in-Err-give.fault c.in-Err-give.is refl c.give.ensures.link_falls c.give.ensures.out_falls c.give.ensures.link_failed c.give.ensures.write_failed)
+returns-in-Err-give-clause-faults g c = counted_then (kept_counted c.in-Ok.ensures.faults) (unplayed_counted c.in-Err-give.ensures.faults)
 
 pub returns-in-Err-give-clause-progress : goal.returns-in-Err-give-clause-progress
 returns-in-Err-give-clause-progress g c = λ p k start a w h.
@@ -42,17 +31,7 @@ returns-in-Err-give-clause-progress g c = λ p k start a w h.
     (c.in-Err-give.ensures.progress p k start (asked_then start now (g.D.Disk.may_leave c.keep_join.new.disk) c.args.self.now p k outcome a m c.keep_join.ensures.player c.in-Ok.ensures.holds) a.stays h)
 
 pub returns-in-Ok-play_if-clause-faults : goal.returns-in-Ok-play_if-clause-faults
-returns-in-Ok-play_if-clause-faults g c =
-    let link = g.L.Link.faults c.args.link.now in
-    let out = g.O.Sink.faults c.args.out.now in
-    let kept = g.D.Disk.faults c.keep_join.new.disk in
-    let mid_link = g.L.Link.faults c.give.new.link in
-    let mid_out = g.O.Sink.faults c.give.new.out in
-    let link' = g.L.Link.faults c.play_if.new.link in
-    let out' = g.O.Sink.faults c.play_if.new.out in
-    later_counts (record { link = link; out = out; disk = g.D.Disk.faults c.args.disk.now }) (record { link = mid_link; out = mid_out; disk = kept }) (record { link = link'; out = out'; disk = kept }) _
-    (record { link = c.give.ensures.link_falls; out = c.give.ensures.out_falls; disk = c.keep_join.ensures.falls })
-    (play_went mid_link link' mid_out out' kept tt c.play_if.ensures.link_falls c.play_if.ensures.out_falls)
+returns-in-Ok-play_if-clause-faults g c = counted_then (kept_counted c.in-Ok.ensures.faults) (counted_then (played_counted c.in-Ok-give.ensures.faults) (played_counted c.in-Ok-play_if.ensures.faults))
 
 pub returns-in-Ok-play_if-clause-holds : goal.returns-in-Ok-play_if-clause-holds
 returns-in-Ok-play_if-clause-holds g c =
@@ -72,17 +51,7 @@ returns-in-Ok-play_if-clause-progress g c = λ p k start a w h.
     (represents_kept start now leaves c.args.self.now p k outcome a m c.keep_join.ensures.player c.in-Ok.ensures.holds (record m { player = c.play_if.new.self }) turn.0.0, turn.0.1, turn.1)
 
 pub returns-in-Err-play_if-clause-faults : goal.returns-in-Err-play_if-clause-faults
-returns-in-Err-play_if-clause-faults g c =
-    let link = g.L.Link.faults c.args.link.now in
-    let out = g.O.Sink.faults c.args.out.now in
-    let kept = g.D.Disk.faults c.keep_join.new.disk in
-    let mid_link = g.L.Link.faults c.give.new.link in
-    let mid_out = g.O.Sink.faults c.give.new.out in
-    let link' = g.L.Link.faults c.play_if.new.link in
-    let out' = g.O.Sink.faults c.play_if.new.out in
-    later_counts (record { link = link; out = out; disk = g.D.Disk.faults c.args.disk.now }) (record { link = mid_link; out = mid_out; disk = kept }) (record { link = link'; out = out'; disk = kept }) _
-    (record { link = c.give.ensures.link_falls; out = c.give.ensures.out_falls; disk = c.keep_join.ensures.falls })
-    (of_play mid_link link' mid_out out' kept c.play_if.result _ c.in-Err-play_if.fault c.in-Err-play_if.is refl c.play_if.ensures.link_falls c.play_if.ensures.out_falls c.play_if.ensures.link_failed c.play_if.ensures.write_failed)
+returns-in-Err-play_if-clause-faults g c = counted_then (kept_counted c.in-Ok.ensures.faults) (counted_then (played_counted c.in-Ok-give.ensures.faults) (unplayed_counted c.in-Err-play_if.ensures.faults))
 
 pub returns-in-Err-play_if-clause-progress : goal.returns-in-Err-play_if-clause-progress
 returns-in-Err-play_if-clause-progress g c = λ p k start a w h.

@@ -9,7 +9,7 @@ use Rattle.sg_keep.specs.KeptRuns.{HasKept, LeavesAtMost}
 use Rattle.sg_keep.specs.Representation.{Progressed}
 use Rattle.sg_keep.proofs.Asking.{holds_all}
 use Rattle.sg_keep.proofs.AtMost.{kept_at, kept_by, leaves_on, leaves_then, no_fewer_calls, not_asked_at_most}
-use Rattle.sg_keep.proofs.Counting.{falls_of, falls_on, later_counts, no_fall, went}
+use Rattle.sg_keep.proofs.Counting.{counted_then, none_counted}
 use Rattle.sg_keep.proofs.Ending.{end_on, to_same}
 use Rattle.sg_keep.proofs.Going.{Goes, by_start, by_starts, nothing, starts_on}
 use Rattle.sg_keep.proofs.Moments.{all_held, more_none, more_on, more_then, not_asked}
@@ -17,19 +17,18 @@ use Rattle.sg_keep.proofs.Silent.{represents_silent, silent, whole_silent, writt
 use Rattle.sg_keep.proofs.keeper.Keeper.start_all.Goals as goal
 
 pub loop-start-init : goal.loop-start-init
-loop-start-init g c = record { link_bound = refl; disk_bound = refl; falls = no_fall (record { link = g.L.Link.faults c.args.link.now; out = g.O.Sink.faults c.args.out.now; disk = g.D.Disk.faults c.args.disk.now }); deliveries = refl; holds = c.requires.holds; more = more_none c.args.self.now.ledger.joins; any_moment = not_asked g.D.Disk.moment g.D.Disk.left_since c.args.disk.now (g.D.Disk.may_leave c.args.disk.now) (g.met.D.Disk.only_now c.args.disk.now) c.args.self.now.ledger.joins (all_held c.args.self.now (g.D.Disk.may_leave c.args.disk.now) c.requires.holds); leaves_at_most = λ p start s w h. not_asked_at_most g.D.Disk.moment g.D.Disk.left_since c.args.disk.now (g.D.Disk.may_leave c.args.disk.now) (g.met.D.Disk.only_now c.args.disk.now) p p (nothing p) (holds_all c.args.self.now (g.D.Disk.may_leave c.args.disk.now) p c.requires.holds s); progress = λ p start s w h. (s, h, w) }
+loop-start-init g c = record { link_bound = refl; disk_bound = refl; faults = none_counted tt; deliveries = refl; holds = c.requires.holds; more = more_none c.args.self.now.ledger.joins; any_moment = not_asked g.D.Disk.moment g.D.Disk.left_since c.args.disk.now (g.D.Disk.may_leave c.args.disk.now) (g.met.D.Disk.only_now c.args.disk.now) c.args.self.now.ledger.joins (all_held c.args.self.now (g.D.Disk.may_leave c.args.disk.now) c.requires.holds); leaves_at_most = λ p start s w h. not_asked_at_most g.D.Disk.moment g.D.Disk.left_since c.args.disk.now (g.D.Disk.may_leave c.args.disk.now) (g.met.D.Disk.only_now c.args.disk.now) p p (nothing p) (holds_all c.args.self.now (g.D.Disk.may_leave c.args.disk.now) p c.requires.holds s); progress = λ p start s w h. (s, h, w) }
 
 pub loop-start-preserved : goal.loop-start-preserved
 loop-start-preserved g c =
     let inv = c.loop-start.invariant in
     let one = c.in-Ok.ensures in
     let old : Counts = record { link = g.L.Link.faults c.args.link.now; out = g.O.Sink.faults c.args.out.now; disk = g.D.Disk.faults c.args.disk.now } in
-    let mid : Counts = record { link = g.L.Link.faults c.loop-start.link; out = g.O.Sink.faults c.loop-start.out; disk = g.D.Disk.faults c.loop-start.disk } in
     let new : Counts = record { link = g.L.Link.faults c.start_one.new.link; out = g.O.Sink.faults c.start_one.new.out; disk = g.D.Disk.faults c.start_one.new.disk } in
     record {
       link_bound = one.link_bound ∙ inv.link_bound;
       disk_bound = one.disk_bound ∙ inv.disk_bound;
-      falls = falls_on old mid new inv.falls (falls_of mid new c.start_one.result c.start_one.ensures.faults);
+      faults = counted_then {old = old} {new = new} inv.faults one.faults;
       deliveries = one.deliveries ∙ inv.deliveries;
       holds = one.holds;
       more = more_then c.args.self.now.ledger.joins c.loop-start.self.ledger.joins c.start_one.new.self.ledger.joins inv.more one.more;
@@ -54,11 +53,7 @@ loop-start-preserved g c =
     }
 
 pub returns-in-Err-clause-faults : goal.returns-in-Err-clause-faults
-returns-in-Err-clause-faults g c =
-    let old : Counts = record { link = g.L.Link.faults c.args.link.now; out = g.O.Sink.faults c.args.out.now; disk = g.D.Disk.faults c.args.disk.now } in
-    let mid : Counts = record { link = g.L.Link.faults c.loop-start.link; out = g.O.Sink.faults c.loop-start.out; disk = g.D.Disk.faults c.loop-start.disk } in
-    let new : Counts = record { link = g.L.Link.faults c.start_one.new.link; out = g.O.Sink.faults c.start_one.new.out; disk = g.D.Disk.faults c.start_one.new.disk } in
-    later_counts old mid new (Err c.in-Err.fault) c.loop-start.invariant.falls c.in-Err.ensures.faults
+returns-in-Err-clause-faults g c = counted_then c.loop-start.invariant.faults c.in-Err.ensures.faults
 
 pub returns-in-Err-clause-progress : goal.returns-in-Err-clause-progress
 returns-in-Err-clause-progress g c = λ p start s w h.
@@ -69,9 +64,6 @@ returns-in-Err-clause-progress g c = λ p start s w h.
     let before = c.loop-start.invariant.progress p start s w h in
     end_on start now leaves (all_starts p (take (at + 1) c.args.starts.now)) (all_starts p c.args.starts.now) c.in-Err.fault (starts_on p (at + 1) c.args.starts.now)
     (subst (λ (z : Play). HasKept start now leaves z (Err c.in-Err.fault)) (start_next p at c.args.starts.now c.start-item.result c.loop-start-test.true c.start-item.is) (c.in-Err.ensures.progress so_far start before.0 before.2 before.1))
-
-pub returns-clause-faults : goal.returns-clause-faults
-returns-clause-faults g c = went (record { link = g.L.Link.faults c.args.link.now; out = g.O.Sink.faults c.args.out.now; disk = g.D.Disk.faults c.args.disk.now }) (record { link = g.L.Link.faults c.loop-start.link; out = g.O.Sink.faults c.loop-start.out; disk = g.D.Disk.faults c.loop-start.disk }) tt c.loop-start.invariant.falls
 
 pub returns-clause-progress : goal.returns-clause-progress
 returns-clause-progress g c = λ p start s w h.

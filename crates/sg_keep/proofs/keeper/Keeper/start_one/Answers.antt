@@ -6,7 +6,7 @@ use Rattle.sg_play.proofs.Running.{start_is, without_one}
 use Rattle.sg_keep.specs.declared.keeper.Keeper.{Keeper}
 use Rattle.sg_keep.specs.KeptRuns.{LeavesAtMost}
 use Rattle.sg_keep.proofs.Asking.{asked_node, holds_all, is_asked, kept_without, ledger_has, memory_end, node_has}
-use Rattle.sg_keep.proofs.Counting.{memory_counts}
+use Rattle.sg_keep.proofs.Counting.{memory_counted}
 use Rattle.sg_keep.proofs.Ending.{to_same}
 use Rattle.sg_keep.proofs.Going.{by_start}
 use Rattle.sg_keep.proofs.AtMost.{call_at_most, not_asked_at_most}
@@ -32,7 +32,7 @@ returns-in-Ok-clause-progress g c = λ p start s w h.
     (c.next-nonce.ensures.taken p.random w) h)
 
 pub returns-in-Err-clause-faults : goal.returns-in-Err-clause-faults
-returns-in-Err-clause-faults g c = memory_counts (record { link = g.L.Link.faults c.args.link.now; out = g.O.Sink.faults c.args.out.now; disk = g.D.Disk.faults c.args.disk.now }) c.in-Err.fault c.in-Err.ensures.memory
+returns-in-Err-clause-faults g c = memory_counted c.in-Err.ensures.memory
 
 pub returns-in-Err-clause-progress : goal.returns-in-Err-clause-progress
 returns-in-Err-clause-progress g c = λ p start s w h.

@@ -9,7 +9,7 @@ use Rattle.sg_keep.specs.KeptRuns.{HasKept, LeavesAtMost}
 use Rattle.sg_keep.specs.Representation.{Progressed}
 use Rattle.sg_keep.proofs.Asking.{holds_all, link_end, memory_end}
 use Rattle.sg_keep.proofs.AtMost.{kept_at, kept_by, leaves_on, leaves_then, no_fewer_calls, not_asked_at_most}
-use Rattle.sg_keep.proofs.Counting.{falls_of, falls_on, later_counts, link_full, link_counts, link_took, no_fall, went}
+use Rattle.sg_keep.proofs.Counting.{asked_then, counted_then, link_counted, memory_counted, none_counted}
 use Rattle.sg_keep.proofs.Ending.{end_on, to_same}
 use Rattle.sg_keep.proofs.Going.{Goes, by_deliveries, deliveries_on, nothing, with_call}
 use Rattle.sg_keep.proofs.Moments.{all_held, more_none, more_on, more_then, not_asked}
@@ -20,7 +20,7 @@ pub loop-taken-init : goal.loop-taken-init
 loop-taken-init g c = record {
   link_bound = refl;
   disk_bound = refl;
-  falls = no_fall (record { link = g.L.Link.faults c.args.link.now; out = g.O.Sink.faults c.args.out.now; disk = g.D.Disk.faults c.args.disk.now });
+  faults = none_counted tt;
   holds = c.requires.holds;
   more = more_none c.args.self.now.ledger.joins;
   any_moment =
@@ -38,13 +38,11 @@ loop-taken-preserved g c =
     let first = rw c.in-Ok-Some.field-0-is at c.in-Ok-Some.ensures.first in
     let one = c.in-Ok.ensures in
     let old : Counts = record { link = g.L.Link.faults c.args.link.now; out = g.O.Sink.faults c.args.out.now; disk = g.D.Disk.faults c.args.disk.now } in
-    let mid : Counts = record { link = g.L.Link.faults c.loop-taken.link; out = g.O.Sink.faults c.loop-taken.out; disk = g.D.Disk.faults c.loop-taken.disk } in
-    let took : Counts = record { link = g.L.Link.faults c.recv.new.self; out = g.O.Sink.faults c.loop-taken.out; disk = g.D.Disk.faults c.loop-taken.disk } in
     let new : Counts = record { link = g.L.Link.faults c.deliver.new.link; out = g.O.Sink.faults c.deliver.new.out; disk = g.D.Disk.faults c.deliver.new.disk } in
     record {
       link_bound = one.link_bound ∙ c.recv.ensures.kept_bound ∙ inv.link_bound;
       disk_bound = one.disk_bound ∙ inv.disk_bound;
-      falls = falls_on old mid new inv.falls (falls_on mid took new (link_took _ _ _ _ c.recv.ensures.never_falls) (falls_of took new c.deliver.result c.deliver.ensures.faults));
+      faults = counted_then {old = old} {new = new} inv.faults (asked_then {new = new} c.recv.ensures.never_falls one.faults);
       holds = one.holds;
       more = more_then c.args.self.now.ledger.joins c.loop-taken.self.ledger.joins c.deliver.new.self.ledger.joins inv.more one.more;
       any_moment = more_on g.D.Disk.moment g.D.Disk.left_since c.args.disk.now c.loop-taken.disk c.deliver.new.disk c.args.self.now.ledger.joins c.loop-taken.self.ledger.joins inv.more inv.any_moment c.deliver.ensures.any_moment;
@@ -70,12 +68,7 @@ loop-taken-preserved g c =
     }
 
 pub returns-in-Err-clause-faults : goal.returns-in-Err-clause-faults
-returns-in-Err-clause-faults g c =
-    let old : Counts = record { link = g.L.Link.faults c.args.link.now; out = g.O.Sink.faults c.args.out.now; disk = g.D.Disk.faults c.args.disk.now } in
-    let mid : Counts = record { link = g.L.Link.faults c.loop-taken.link; out = g.O.Sink.faults c.loop-taken.out; disk = g.D.Disk.faults c.loop-taken.disk } in
-    let took : Counts = record { link = g.L.Link.faults c.recv.new.self; out = g.O.Sink.faults c.loop-taken.out; disk = g.D.Disk.faults c.loop-taken.disk } in
-    let new : Counts = record { link = g.L.Link.faults c.deliver.new.link; out = g.O.Sink.faults c.deliver.new.out; disk = g.D.Disk.faults c.deliver.new.disk } in
-    later_counts old took new (Err c.in-Err.fault) (falls_on old mid took c.loop-taken.invariant.falls (link_took _ _ _ _ c.recv.ensures.never_falls)) c.in-Err.ensures.faults
+returns-in-Err-clause-faults g c = counted_then c.loop-taken.invariant.faults (asked_then c.recv.ensures.never_falls c.in-Err.ensures.faults)
 
 pub returns-in-Err-clause-progress : goal.returns-in-Err-clause-progress
 returns-in-Err-clause-progress g c = let within : c.loop-taken._taken + 1 ≤ c.args.most = omega arith in λ p start deliveries reported s w h.
@@ -98,11 +91,7 @@ returns-in-Err-clause-at_most g c = let within : c.loop-taken._taken + 1 ≤ c.a
     (k + 1, within, c.in-Err.ensures.deliveries ∙ (first (drop k deliveries) (c.loop-taken.invariant.left deliveries reported)).1 ∙ ap (λ l. Some l) (left_next k deliveries))
 
 pub returns-in-Ok-None-clause-faults : goal.returns-in-Ok-None-clause-faults
-returns-in-Ok-None-clause-faults g c =
-    let old : Counts = record { link = g.L.Link.faults c.args.link.now; out = g.O.Sink.faults c.args.out.now; disk = g.D.Disk.faults c.args.disk.now } in
-    let mid : Counts = record { link = g.L.Link.faults c.loop-taken.link; out = g.O.Sink.faults c.loop-taken.out; disk = g.D.Disk.faults c.loop-taken.disk } in
-    let took : Counts = record { link = g.L.Link.faults c.recv.new.self; out = g.O.Sink.faults c.loop-taken.out; disk = g.D.Disk.faults c.loop-taken.disk } in
-    went old took tt (falls_on old mid took c.loop-taken.invariant.falls (link_took _ _ _ _ c.recv.ensures.never_falls))
+returns-in-Ok-None-clause-faults g c = counted_then c.loop-taken.invariant.faults (asked_then c.recv.ensures.never_falls (none_counted tt))
 
 pub returns-in-Ok-None-clause-progress : goal.returns-in-Ok-None-clause-progress
 returns-in-Ok-None-clause-progress g c = let within : c.loop-taken._taken ≤ c.args.most = omega arith in λ p start deliveries reported s w h.
@@ -131,11 +120,7 @@ returns-in-Ok-None-clause-at_most g c = let within : c.loop-taken._taken ≤ c.a
     (c.loop-taken._taken, within, kept ∙ c.loop-taken.invariant.left deliveries reported)
 
 pub returns-in-Err-Failed-clause-faults : goal.returns-in-Err-Failed-clause-faults
-returns-in-Err-Failed-clause-faults g c =
-    let old : Counts = record { link = g.L.Link.faults c.args.link.now; out = g.O.Sink.faults c.args.out.now; disk = g.D.Disk.faults c.args.disk.now } in
-    let mid : Counts = record { link = g.L.Link.faults c.loop-taken.link; out = g.O.Sink.faults c.loop-taken.out; disk = g.D.Disk.faults c.loop-taken.disk } in
-    let took : Counts = record { link = g.L.Link.faults c.recv.new.self; out = g.O.Sink.faults c.loop-taken.out; disk = g.D.Disk.faults c.loop-taken.disk } in
-    later_counts old mid took _ c.loop-taken.invariant.falls (link_counts _ _ _ _ c.recv.ensures.never_falls (c.recv.ensures.failed (c.in-Err-Failed.is ∙ ap Err c.in-Err-Failed.field-0-is)))
+returns-in-Err-Failed-clause-faults g c = counted_then c.loop-taken.invariant.faults (link_counted c.recv.ensures.never_falls (c.recv.ensures.failed (c.in-Err-Failed.is ∙ ap Err c.in-Err-Failed.field-0-is)))
 
 pub returns-in-Err-Failed-clause-progress : goal.returns-in-Err-Failed-clause-progress
 returns-in-Err-Failed-clause-progress g c = let within : c.loop-taken._taken ≤ c.args.most = omega arith in λ p start deliveries reported s w h.
@@ -150,11 +135,7 @@ pub returns-in-Err-Failed-clause-at_most : goal.returns-in-Err-Failed-clause-at_
 returns-in-Err-Failed-clause-at_most g c = let within : c.loop-taken._taken ≤ c.args.most = omega arith in λ deliveries reported. (c.loop-taken._taken, within, c.in-Err-Failed.ensures.kept ∙ c.loop-taken.invariant.left deliveries reported)
 
 pub returns-in-Err-OutOfMemory-clause-faults : goal.returns-in-Err-OutOfMemory-clause-faults
-returns-in-Err-OutOfMemory-clause-faults g c =
-    let old : Counts = record { link = g.L.Link.faults c.args.link.now; out = g.O.Sink.faults c.args.out.now; disk = g.D.Disk.faults c.args.disk.now } in
-    let mid : Counts = record { link = g.L.Link.faults c.loop-taken.link; out = g.O.Sink.faults c.loop-taken.out; disk = g.D.Disk.faults c.loop-taken.disk } in
-    let took : Counts = record { link = g.L.Link.faults c.recv.new.self; out = g.O.Sink.faults c.loop-taken.out; disk = g.D.Disk.faults c.loop-taken.disk } in
-    later_counts old mid took _ c.loop-taken.invariant.falls (link_full _ _ _ _ c.recv.ensures.never_falls)
+returns-in-Err-OutOfMemory-clause-faults g c = counted_then c.loop-taken.invariant.faults (asked_then c.recv.ensures.never_falls (memory_counted refl))
 
 pub returns-in-Err-OutOfMemory-clause-progress : goal.returns-in-Err-OutOfMemory-clause-progress
 returns-in-Err-OutOfMemory-clause-progress g c = let within : c.loop-taken._taken ≤ c.args.most = omega arith in λ p start deliveries reported s w h.
@@ -167,9 +148,6 @@ returns-in-Err-OutOfMemory-clause-progress g c = let within : c.loop-taken._take
 
 pub returns-in-Err-OutOfMemory-clause-at_most : goal.returns-in-Err-OutOfMemory-clause-at_most
 returns-in-Err-OutOfMemory-clause-at_most g c = let within : c.loop-taken._taken ≤ c.args.most = omega arith in λ deliveries reported. (c.loop-taken._taken, within, c.in-Err-OutOfMemory.ensures.kept ∙ c.loop-taken.invariant.left deliveries reported)
-
-pub returns-clause-faults : goal.returns-clause-faults
-returns-clause-faults g c = went (record { link = g.L.Link.faults c.args.link.now; out = g.O.Sink.faults c.args.out.now; disk = g.D.Disk.faults c.args.disk.now }) (record { link = g.L.Link.faults c.loop-taken.link; out = g.O.Sink.faults c.loop-taken.out; disk = g.D.Disk.faults c.loop-taken.disk }) tt c.loop-taken.invariant.falls
 
 pub returns-clause-progress : goal.returns-clause-progress
 returns-clause-progress g c = let all : c.loop-taken._taken ≡ c.args.most = omega arith in λ p start deliveries reported s w h.

@@ -2,16 +2,17 @@ use Rattle.std.proofs.Common.{◌≡◌, ℕ, List, Some, Ok, length, take, drop
 use Rattle.sg_ledger.specs.Disk.{LeavesOnly}
 use Rattle.sg_play.specs.Ends.{Outside, Whole}
 use Rattle.sg_play.specs.Played.{Play, all_deliveries}
+use Rattle.sg_keep.specs.Faults.{CountsFaults}
 use Rattle.sg_keep.specs.KeptRuns.{LeavesAtMost, RepresentsMore}
 use Rattle.sg_keep.specs.Representation.{Progressed, HasMore, HoldsJoins, RepresentsKept}
-use Rattle.sg_keep.proofs.Counting.{NoFall}
 use Rattle.sg_keep.proofs.keeper.Keeper.take_all.Given as goal
 
 abbrev pub invariant-loop-taken : goal.invariant-loop-taken
 invariant-loop-taken g l = record {
   link_bound : g.L.Link.bound l.link ≡ g.L.Link.bound l.initial.link;
   disk_bound : g.D.Disk.bound l.disk ≡ g.D.Disk.bound l.initial.disk;
-  falls : NoFall (record { link = g.L.Link.faults l.initial.link; out = g.O.Sink.faults l.initial.out; disk = g.D.Disk.faults l.initial.disk }) (record { link = g.L.Link.faults l.link; out = g.O.Sink.faults l.out; disk = g.D.Disk.faults l.disk });
+  faults : CountsFaults {A = Unit {0}} (record { link = g.L.Link.faults l.initial.link; out = g.O.Sink.faults l.initial.out; disk = g.D.Disk.faults l.initial.disk })
+      (record { link = g.L.Link.faults l.link; out = g.O.Sink.faults l.out; disk = g.D.Disk.faults l.disk }) (Ok tt);
   holds : HoldsJoins l.self (g.D.Disk.may_leave l.disk);
   more : HasMore l.initial.self.ledger.joins l.self.ledger.joins;
   any_moment : LeavesOnly g.D.Disk.moment g.D.Disk.left_since l.initial.disk l.disk (RepresentsMore l.initial.self.ledger.joins);
