@@ -1,58 +1,57 @@
 -- Counts of faults, over calls one after another.
-use Rattle.std.proofs.Common.{◌≡◌, ◌≤◌, ◌⊎◌, ℕ, Result, Ok, Err, ◌∙◌, ap, sym, inl, inr, arith}
-use Rattle.sg_base.specs.Outside.{HasRisen}
-use Rattle.sg_play.proofs.Rising.{risen_last}
+use Rattle.std.proofs.Common.{◌≡◌, ◌≢◌, ◌⊎◌, inl, inr, ℕ, Result, Ok, Err, refl, le_trans, arith}
+use Rattle.std.specs.Prelude.{IfErr}
+use Rattle.sg_play.proofs.Counting.{alone_as, alone_same, alone_then, no_fault, other_fault}
+use Rattle.sg_play.specs.Faults.{CountsFaultAlone}
 use Rattle.sg_serve.specs.declared.fault.ServeFault.{ServeFault}
 use Rattle.sg_serve.specs.declared.fault.ServeFault.TheVariants.{InputFailed, WriteFailed, DiskFailed, OutOfMemory}
 use Rattle.sg_serve.specs.Faults.{Counts, CountsFaults}
 
--- no count fell
-pub record NoFall (old new : Counts) : Type 0 where
-  pub link : old.link ≤ new.link
-  pub out : old.out ≤ new.out
-  pub disk : old.disk ≤ new.disk
+-- ---- one count
 
-pub no_fall : (c : Counts) → NoFall c c
-no_fall c = record { link = omega arith; out = omega arith; disk = omega arith }
+-- nothing was asked of the disk
+pub disk_unasked : {A : Type 0} {n : ℕ} (r : Result A ServeFault) → IfErr r (λ e. e ≡ OutOfMemory) → CountsFaultAlone DiskFailed n n r
+disk_unasked (Ok a) h = alone_same refl (no_fault a)
+disk_unasked (Err f) h = alone_same refl (other_fault refl (λ e. absurd (cc)))
 
-pub falls_on : (a b c : Counts) → NoFall a b → NoFall b c → NoFall a c
-falls_on a b c f g = record {
-  link = let x = f.link in let y = g.link in omega (arith, x, y);
-  out = let x = f.out in let y = g.out in omega (arith, x, y);
-  disk = let x = f.disk in let y = g.disk in omega (arith, x, y);
-}
+-- the disk failed, or memory ran out, and no write failed
+pub not_write : {f : ServeFault} → (f ≡ DiskFailed) ⊎ (f ≡ OutOfMemory) → f ≢ WriteFailed
+not_write (inl d) e = cc
+not_write (inr m) e = cc
 
-pub falls_of : {A : Type 0} (old new : Counts) (r : Result A ServeFault) → CountsFaults old new r → NoFall old new
-falls_of old new r h = record { link = h.link_falls; out = h.out_falls; disk = h.disk_falls }
+module _ {A B : Type 0} {fault : ServeFault} {old new : ℕ} where
+  -- a call that went on, and nothing then
+  pub alone_went : {a : A} (b : B) → CountsFaultAlone fault old new (Ok a) → CountsFaultAlone fault old new (Ok b)
+  alone_went b h = alone_as (λ e. absurd (cc)) (λ e. absurd (cc)) h
 
--- if it answered
-pub went : {A : Type 0} (old new : Counts) (a : A) → NoFall old new → CountsFaults old new (Ok a)
-went old new a f = record { link_falls = f.link; out_falls = f.out; disk_falls = f.disk; write_failed = λ e. absurd (cc); disk_failed = λ e. absurd (cc) }
+  -- its fault is passed on
+  pub alone_passed : {f : ServeFault} {r : Result B ServeFault} → r ≡ Err f → CountsFaultAlone {A = A} fault old new (Err f) → CountsFaultAlone fault old new r
+  alone_passed is h = alone_as (λ e. cc) (λ e. cc) h
 
--- if memory ran out or the input failed
-not_write : {A : Type 0} (f : ServeFault) (r : Result A ServeFault) → (f ≡ OutOfMemory) ⊎ (f ≡ InputFailed) → r ≡ Err f → r ≡ Err WriteFailed → ⊥
-not_write f r (inl is) e w = cc
-not_write f r (inr is) e w = cc
+-- ---- all counts
 
-not_disk : {A : Type 0} (f : ServeFault) (r : Result A ServeFault) → (f ≡ OutOfMemory) ⊎ (f ≡ InputFailed) → r ≡ Err f → r ≡ Err DiskFailed → ⊥
-not_disk f r (inl is) e w = cc
-not_disk f r (inr is) e w = cc
+-- nothing was counted
+pub none_counted : {A : Type 0} (c : Counts) (a : A) → CountsFaults c c (Ok a)
+none_counted c a = record { link_falls = omega arith; out = alone_same refl (no_fault a); disk = alone_same refl (no_fault a) }
 
-pub other : {A : Type 0} (old new : Counts) (r : Result A ServeFault) (f : ServeFault) → (f ≡ OutOfMemory) ⊎ (f ≡ InputFailed) → r ≡ Err f → NoFall old new → CountsFaults old new r
-other old new r f is e h = record {
-  link_falls = h.link;
-  out_falls = h.out;
-  disk_falls = h.disk;
-  write_failed = λ w. absurd (not_write f r is e w);
-  disk_failed = λ w. absurd (not_disk f r is e w);
-}
+-- the input failed, or memory ran out
+pub none_failed : {A : Type 0} {c : Counts} {f : ServeFault} {r : Result A ServeFault} → (f ≡ InputFailed) ⊎ (f ≡ OutOfMemory) → r ≡ Err f → CountsFaults c c r
+none_failed (inl i) is = record { link_falls = omega arith; out = alone_same refl (other_fault is (λ e. absurd (cc))); disk = alone_same refl (other_fault is (λ e. absurd (cc))) }
+none_failed (inr m) is = record { link_falls = omega arith; out = alone_same refl (other_fault is (λ e. absurd (cc))); disk = alone_same refl (other_fault is (λ e. absurd (cc))) }
 
--- what a later part of a call reports, the call reports
-pub later_counts : {A : Type 0} (old mid new : Counts) (r : Result A ServeFault) → NoFall old mid → CountsFaults mid new r → CountsFaults old new r
-later_counts old mid new r f h = record {
-  link_falls = let a = f.link in let b = h.link_falls in omega (arith, a, b);
-  out_falls = let a = f.out in let b = h.out_falls in omega (arith, a, b);
-  disk_falls = let a = f.disk in let b = h.disk_falls in omega (arith, a, b);
-  write_failed = λ e. risen_last old.out mid.out new.out f.out h.out_falls (h.write_failed e);
-  disk_failed = λ e. risen_last old.disk mid.disk new.disk f.disk h.disk_falls (h.disk_failed e);
+module _ {A B : Type 0} {old new : Counts} where
+  -- a call that went on, and nothing then
+  pub counted_went : {a : A} (b : B) → CountsFaults old new (Ok a) → CountsFaults old new (Ok b)
+  counted_went b h = record { link_falls = h.link_falls; out = alone_went b h.out; disk = alone_went b h.disk }
+
+  -- its fault is passed on
+  pub counted_passed : {f : ServeFault} {r : Result B ServeFault} → r ≡ Err f → CountsFaults {A = A} old new (Err f) → CountsFaults old new r
+  counted_passed is h = record { link_falls = h.link_falls; out = alone_passed is h.out; disk = alone_passed is h.disk }
+
+-- a call that went on, and then another
+pub counted_then : {A B : Type 0} {old mid new : Counts} {a : A} {r : Result B ServeFault} → CountsFaults old mid (Ok a) → CountsFaults mid new r → CountsFaults old new r
+counted_then {a = a} h k = record {
+  link_falls = le_trans h.link_falls k.link_falls;
+  out = alone_then ((h.out).same (no_fault a)) k.out;
+  disk = alone_then ((h.disk).same (no_fault a)) k.disk;
 }

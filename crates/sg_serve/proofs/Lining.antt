@@ -9,6 +9,7 @@ use Rattle.sg_base.specs.Outside.{HasRisen}
 use Rattle.sg_input.specs.Lines.{Line, Whole}
 use Rattle.sg_keep.specs.KeptRuns.{AllRepresent}
 use Rattle.sg_model.specs.Lists.{first_some}
+use Rattle.sg_play.specs.Faults.{CountsFaultAlone}
 use Rattle.sg_play.specs.Steps.{Step, frames_in}
 use Rattle.sg_protocol.specs.Calls.{Abandon, Event, Refusal}
 use Rattle.sg_protocol.specs.Frame.{Frame}
@@ -31,6 +32,7 @@ use Rattle.sg_serve.specs.Serving.{Reply, Serving, calls, of_session, repeats, r
 use Rattle.sg_serve.specs.Representation.{ProgressedToAnswer, HasReplied, HoldsJoins, Received, Replied, RepresentEither, RepresentsServing, some_ok}
 use Rattle.sg_serve.proofs.Answering.{asked_plain, between_all, not_quit, plain, waited}
 use Rattle.sg_serve.proofs.Asking.{holds_all}
+use Rattle.sg_serve.proofs.Counting.{alone_passed, alone_went}
 use Rattle.sg_serve.proofs.Replying.{none_called, replied_so, said}
 
 -- ---- words
@@ -153,9 +155,9 @@ pub some_if_err : (r : Result Step ServeFault) (x : Result (Option Step) ServeFa
 some_if_err (Ok step) x P e h = subst (λ (y : Result (Option Step) ServeFault). IfErr y P) (sym e) tt
 some_if_err (Err fault) x P e h = subst (λ (y : Result (Option Step) ServeFault). IfErr y P) (sym e) h
 
-pub some_failed : (r : Result Step ServeFault) (x : Result (Option Step) ServeFault) → x ≡ some_ok r → x ≡ Err DiskFailed → r ≡ Err DiskFailed
-some_failed (Ok step) x e d = absurd (let z = sym e ∙ d in cc)
-some_failed (Err fault) x e d = let y = sym e ∙ d in ap Err (let z : fault ≡ DiskFailed = (cc) in z)
+pub some_counted : {old new : ℕ} (r : Result Step ServeFault) {x : Result (Option Step) ServeFault} → x ≡ some_ok r → CountsFaultAlone DiskFailed old new r → CountsFaultAlone DiskFailed old new x
+some_counted {old} {new} (Ok step) e h = subst (λ (y : Result (Option Step) ServeFault). CountsFaultAlone DiskFailed old new y) (sym e) (alone_went (Some step) h)
+some_counted (Err fault) e h = alone_passed e h
 
 -- the line by another name, and the answer
 pub came_as : (images : List ℕ → Type 0) (sv : Server) (random : Option (List (List ℕ))) (coming : Option (List Coming)) (old new : ℕ) (r : Run) (a b : Line) (x y : Result (Option Step) ServeFault) → b ≡ a → y ≡ x → ProgressedToAnswer images sv random coming old new r a x → ProgressedToAnswer images sv random coming old new r b y

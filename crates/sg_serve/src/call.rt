@@ -1,12 +1,12 @@
 //! The requests that call the node: a start, an act, a leaving, and a delivery.
-ghost use Rattle.std.specs.Prelude.{◌≡◌, ◌≤◌, ◌⊎◌, List, ℕ, Err, Some, option_map, IfErr, IfOk, IsTrue, IsNone, OnOk, is_some};
+ghost use Rattle.std.specs.Prelude.{◌≡◌, ◌⊎◌, List, ℕ, Some, option_map, IfErr, IfOk, IsTrue, IsNone, OnOk, is_some};
 ghost use Rattle.std.specs.List.{list_all};
-ghost use Rattle.sg_base.specs.Outside.{HasRisen};
 ghost use Rattle.sg_request.specs.declared.request.Request.TheVariants as request;
 ghost use Rattle.sg_sched.specs.Format.Forms.{is_assignment};
 ghost use Rattle.sg_serve.specs.Served.{images_if};
 ghost use Rattle.sg_serve.specs.Serving.{Serving, acts, acts_by, calls, graph_at, of_session, starts, takes};
 ghost use Rattle.sg_serve.specs.Representation.{HasReplied, HoldsJoins, Replied, RepresentsServing};
+ghost use Rattle.sg_play.specs.Faults.{CountsFaultAlone};
 ghost use Rattle.sg_play.specs.Representation.{KeepsJoins};
 ghost use Rattle.sg_protocol.specs.Calls.{Abandon};
 ghost use Rattle.sg_walk.specs.Model.{values_of};
@@ -34,9 +34,8 @@ impl<'p> Server<'p> {
     ) -> Result<Reply, ServeFault>
         requires holds { HoldsJoins self.old (D.may_leave disk.old) }
         ensures disk_bound { D.bound disk.new ≡ D.bound disk.old }
-        ensures falls { D.faults disk.old ≤ D.faults disk.new }
+        ensures faults { CountsFaultAlone ServeFault.DiskFailed (D.faults disk.old) (D.faults disk.new) result }
         ensures untouched { IsNone self.old.ledger → disk.new ≡ disk.old }
-        ensures failed { result ≡ Err ServeFault.DiskFailed → HasRisen (D.faults disk.old) (D.faults disk.new) }
         ensures causes { IfErr result (λ e. (e ≡ ServeFault.DiskFailed) ⊎ (e ≡ ServeFault.OutOfMemory)) }
         ensures same { OnOk result (is_some self.new.ledger ≡ is_some self.old.ledger) }
         ensures holds { OnOk result (HoldsJoins self.new (D.may_leave disk.new)) }
@@ -62,9 +61,8 @@ impl<'p> Server<'p> {
     ) -> Result<Reply, ServeFault>
         requires holds { HoldsJoins self.old (D.may_leave disk.old) }
         ensures disk_bound { D.bound disk.new ≡ D.bound disk.old }
-        ensures falls { D.faults disk.old ≤ D.faults disk.new }
+        ensures faults { CountsFaultAlone ServeFault.DiskFailed (D.faults disk.old) (D.faults disk.new) result }
         ensures untouched { IsNone self.old.ledger → disk.new ≡ disk.old }
-        ensures failed { result ≡ Err ServeFault.DiskFailed → HasRisen (D.faults disk.old) (D.faults disk.new) }
         ensures causes { IfErr result (λ e. (e ≡ ServeFault.DiskFailed) ⊎ (e ≡ ServeFault.OutOfMemory)) }
         ensures same { OnOk result (is_some self.new.ledger ≡ is_some self.old.ledger) }
         ensures holds { OnOk result (HoldsJoins self.new (D.may_leave disk.new)) }

@@ -1,7 +1,7 @@
 //! What a line of the input is answered, before it is given.
-ghost use Rattle.std.specs.Prelude.{◌≡◌, ◌≤◌, ◌⊎◌, List, ℕ, Some, Err, IfErr, IsNone, OnOk, is_some};
+ghost use Rattle.std.specs.Prelude.{◌≡◌, ◌≤◌, ◌⊎◌, List, ℕ, Some, IfErr, IsNone, OnOk, is_some};
 ghost use Rattle.std.specs.Option.{option_copied};
-ghost use Rattle.sg_base.specs.Outside.{HasRisen};
+ghost use Rattle.sg_play.specs.Faults.{CountsFaultAlone};
 ghost use Rattle.sg_serve.specs.Lines.{Run};
 ghost use Rattle.sg_serve.specs.Served.{images_if};
 ghost use Rattle.sg_serve.specs.Serving.{Serving, replies};
@@ -32,9 +32,8 @@ impl<'p> Server<'p> {
         ensures link_bound { L.bound link.new ≡ L.bound link.old }
         ensures disk_bound { D.bound disk.new ≡ D.bound disk.old }
         ensures link_falls { L.faults link.old ≤ L.faults link.new }
-        ensures falls { D.faults disk.old ≤ D.faults disk.new }
+        ensures faults { CountsFaultAlone ServeFault.DiskFailed (D.faults disk.old) (D.faults disk.new) result }
         ensures untouched { IsNone self.old.ledger → disk.new ≡ disk.old }
-        ensures failed { result ≡ Err ServeFault.DiskFailed → HasRisen (D.faults disk.old) (D.faults disk.new) }
         ensures causes { IfErr result (λ e. (e ≡ ServeFault.DiskFailed) ⊎ (e ≡ ServeFault.OutOfMemory)) }
         ensures sent { L.sent link.new ≡ L.sent link.old }
         ensures same { OnOk result (is_some self.new.ledger ≡ is_some self.old.ledger) }
@@ -65,9 +64,8 @@ impl<'p> Server<'p> {
         ensures link_bound { L.bound link.new ≡ L.bound link.old }
         ensures disk_bound { D.bound disk.new ≡ D.bound disk.old }
         ensures link_falls { L.faults link.old ≤ L.faults link.new }
-        ensures falls { D.faults disk.old ≤ D.faults disk.new }
+        ensures faults { CountsFaultAlone ServeFault.DiskFailed (D.faults disk.old) (D.faults disk.new) result }
         ensures untouched { IsNone self.old.ledger → disk.new ≡ disk.old }
-        ensures failed { result ≡ Err ServeFault.DiskFailed → HasRisen (D.faults disk.old) (D.faults disk.new) }
         ensures causes { IfErr result (λ e. (e ≡ ServeFault.DiskFailed) ⊎ (e ≡ ServeFault.OutOfMemory)) }
         ensures sent { L.sent link.new ≡ L.sent link.old }
         ensures same { OnOk result (is_some self.new.ledger ≡ is_some self.old.ledger) }
@@ -92,9 +90,8 @@ impl<'p> Server<'p> {
         requires holds { HoldsJoins self.old (D.may_leave disk.old) }
         requires assigned { AreAssigned request }
         ensures disk_bound { D.bound disk.new ≡ D.bound disk.old }
-        ensures falls { D.faults disk.old ≤ D.faults disk.new }
+        ensures faults { CountsFaultAlone ServeFault.DiskFailed (D.faults disk.old) (D.faults disk.new) result }
         ensures untouched { IsNone self.old.ledger → disk.new ≡ disk.old }
-        ensures failed { result ≡ Err ServeFault.DiskFailed → HasRisen (D.faults disk.old) (D.faults disk.new) }
         ensures causes { IfErr result (λ e. (e ≡ ServeFault.DiskFailed) ⊎ (e ≡ ServeFault.OutOfMemory)) }
         ensures same { OnOk result (is_some self.new.ledger ≡ is_some self.old.ledger) }
         ensures holds { OnOk result (HoldsJoins self.new (D.may_leave disk.new)) }

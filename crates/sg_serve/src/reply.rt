@@ -1,6 +1,7 @@
 //! What a line is answered, as a value, and how it is given to the outside.
 ghost use Rattle.std.specs.Prelude.{◌≡◌, ◌≤◌, [], true, false, IfErr, OnErr, OnOk};
 ghost use Rattle.sg_base.specs.Outside.{HasRisen, Appends, AppendsPrefix};
+ghost use Rattle.sg_play.specs.Faults.{CountsFaultAlone};
 ghost use Rattle.sg_serve.specs.Lines.{given};
 ghost use Rattle.sg_serve.specs.Posted.{posted};
 
@@ -40,8 +41,7 @@ impl Reply {
     // memory.
     pub fn give<L: TimedLink, O: Sink>(&self, link: &mut L, out: &mut O) -> Result<(), ServeFault>
         ensures link_bound { L.bound link.new ≡ L.bound link.old }
-        ensures out_falls { O.faults out.old ≤ O.faults out.new }
-        ensures write_failed { OnErr result (HasRisen (O.faults out.old) (O.faults out.new)) }
+        ensures faults { CountsFaultAlone ServeFault.WriteFailed (O.faults out.old) (O.faults out.new) result }
         ensures causes { IfErr result (λ e. e ≡ ServeFault.WriteFailed) }
         ensures is_out { AnswerIsOut (record { written = O.written out.old; sent = L.sent link.old; coming = L.coming link.old; failed = L.faults link.old })
             (record { written = O.written out.new; sent = L.sent link.new; coming = L.coming link.new; failed = L.faults link.new }) self.now result }
@@ -70,8 +70,7 @@ impl Reply {
 
     // Writes the answer, of whose frame this says whether the link took it.
     fn write<O: Sink>(&self, took: bool, out: &mut O) -> Result<(), ServeFault>
-        ensures falls { O.faults out.old ≤ O.faults out.new }
-        ensures failed { OnErr result (HasRisen (O.faults out.old) (O.faults out.new)) }
+        ensures faults { CountsFaultAlone ServeFault.WriteFailed (O.faults out.old) (O.faults out.new) result }
         ensures causes { IfErr result (λ e. e ≡ ServeFault.WriteFailed) }
         ensures whole { OnOk result (Appends (O.written out.old) (O.written out.new) (given took self.now).line) }
         ensures prefix { OnErr result (AppendsPrefix (O.written out.old) (O.written out.new) (given took self.now).line) }
@@ -86,8 +85,7 @@ impl Reply {
 
 // Writes a text.
 fn write_text<O: Sink>(text: &[u8], out: &mut O) -> Result<(), ServeFault>
-    ensures falls { O.faults out.old ≤ O.faults out.new }
-    ensures failed { OnErr result (HasRisen (O.faults out.old) (O.faults out.new)) }
+    ensures faults { CountsFaultAlone ServeFault.WriteFailed (O.faults out.old) (O.faults out.new) result }
     ensures causes { IfErr result (λ e. e ≡ ServeFault.WriteFailed) }
     ensures whole { OnOk result (Appends (O.written out.old) (O.written out.new) text.now) }
     ensures prefix { OnErr result (AppendsPrefix (O.written out.old) (O.written out.new) text.now) }

@@ -1,11 +1,11 @@
 //! What is done with the outcome of a call: its join is kept, its line written, and its frame remembered.
-ghost use Rattle.std.specs.Prelude.{◌≡◌, ◌≤◌, ◌⊎◌, ℕ, List, None, Some, IfErr, IfOk, OnErr, IsNone, OnOk, is_some, option_map};
+ghost use Rattle.std.specs.Prelude.{◌≡◌, ◌⊎◌, ℕ, List, None, Some, IfErr, IfOk, OnErr, IsNone, OnOk, is_some, option_map};
 ghost use Rattle.std.specs.Option.{option_copied, option_map_or};
 ghost use Rattle.sg_again.specs.LastFrames.{sent};
-ghost use Rattle.sg_base.specs.Outside.{HasRisen};
 ghost use Rattle.sg_ledger.specs.Format.{Represents};
 ghost use Rattle.sg_model.specs.Names.{Name};
 ghost use Rattle.sg_base.specs.declared.address.Addr.{Addr};
+ghost use Rattle.sg_play.specs.Faults.{CountsFaultAlone};
 ghost use Rattle.sg_play.specs.Played.{Play, called, step_in};
 ghost use Rattle.sg_play.specs.Representation.{HasAsked, RepresentsPlay};
 ghost use Rattle.sg_protocol.specs.Calls.{Call, Event};
@@ -36,9 +36,8 @@ impl<'p> Server<'p> {
     ) -> Result<Reply, ServeFault>
         requires asked { HasAskedNode self.old (D.may_leave disk.old) outcome.now }
         ensures disk_bound { D.bound disk.new ≡ D.bound disk.old }
-        ensures falls { D.faults disk.old ≤ D.faults disk.new }
+        ensures faults { CountsFaultAlone ServeFault.DiskFailed (D.faults disk.old) (D.faults disk.new) result }
         ensures untouched { IsNone self.old.ledger → disk.new ≡ disk.old }
-        ensures failed { result ≡ Err ServeFault.DiskFailed → HasRisen (D.faults disk.old) (D.faults disk.new) }
         ensures causes { IfErr result (λ e. (e ≡ ServeFault.DiskFailed) ⊎ (e ≡ ServeFault.OutOfMemory)) }
         ensures same { OnOk result (is_some self.new.ledger ≡ is_some self.old.ledger) }
         ensures holds { OnOk result (HoldsJoins self.new (D.may_leave disk.new)) }
@@ -56,9 +55,8 @@ impl<'p> Server<'p> {
     fn keep_join<D: Disk>(&mut self, outcome: &Outcome<'p>, disk: &mut D) -> Result<(), ServeFault>
         requires asked { HasAskedNode self.old (D.may_leave disk.old) outcome.now }
         ensures disk_bound { D.bound disk.new ≡ D.bound disk.old }
-        ensures falls { D.faults disk.old ≤ D.faults disk.new }
+        ensures faults { CountsFaultAlone ServeFault.DiskFailed (D.faults disk.old) (D.faults disk.new) result }
         ensures untouched { IsNone self.old.ledger → disk.new ≡ disk.old }
-        ensures failed { result ≡ Err ServeFault.DiskFailed → HasRisen (D.faults disk.old) (D.faults disk.new) }
         ensures causes { IfErr result (λ e. (e ≡ ServeFault.DiskFailed) ⊎ (e ≡ ServeFault.OutOfMemory)) }
         ensures rest { self.new ≡ record self.old { ledger = self.new.ledger } }
         ensures same { is_some self.new.ledger ≡ is_some self.old.ledger }

@@ -1,10 +1,11 @@
-use Rattle.std.proofs.Common.{rules, ◌≡◌, ℕ, List, [], Bool, Some, Err, refl, sym, ap, ◌∙◌, subst}
+use Rattle.std.proofs.Common.{inr, rules, ◌≡◌, ℕ, List, [], Bool, Some, Err, refl, sym, ap, ◌∙◌, subst}
 use Rattle.std.specs.Prelude.{is_some}
 use Rattle.sg_input.specs.Lines.{lines_left, lines_of}
 use Rattle.sg_input.specs.Model.{Reading}
 use Rattle.sg_ledger.specs.Format.{OpenLedger}
 use Rattle.sg_serve.specs.Served.{Outside, Served, images_if, joins_kept, opening}
 use Rattle.sg_serve.proofs.Running.{gave_none, holds_first, not_begun}
+use Rattle.sg_serve.proofs.Counting.{none_failed}
 use Rattle.sg_serve.proofs.run.serve.Goals as goal
 
 pub returns-in_default-clause-served : goal.returns-in_default-clause-served
@@ -37,3 +38,9 @@ returns-clause-served g c = λ bytes coming random reported is_asked drawn.
 
 pub returns-clause-untouched : goal.returns-clause-untouched
 returns-clause-untouched g c = λ none. c.serve_all.ensures.untouched (ap is_some c.in_ok-server.ensures.ledger ∙ none)
+
+pub returns-in_default-clause-faults : goal.returns-in_default-clause-faults
+returns-in_default-clause-faults g c = none_failed (inr refl) refl
+
+pub returns-in_err-server-clause-faults : goal.returns-in_err-server-clause-faults
+returns-in_err-server-clause-faults g c = let same : c.from_residual.result ≡ Err c.in_err-server.field-0.0 = search rules in none_failed (inr c.in_err-server.ensures.memory) same

@@ -1,4 +1,4 @@
-use Rattle.std.proofs.Common.{◌≡◌, ◌∙◌, not, List, ℕ, ap, sym, subst}
+use Rattle.std.proofs.Common.{◌≡◌, ◌∙◌, not, List, ℕ, ap, sym, subst, rules, Err}
 use Rattle.std.specs.Prelude.{codes}
 use Rattle.sg_answers.specs.Answers.{unsent_text}
 use Rattle.sg_base.specs.Outside.{Appends, AppendsPrefix}
@@ -7,6 +7,8 @@ use Rattle.sg_play.proofs.Results.{mapped}
 use Rattle.sg_serve.proofs.Appending.{prefix_of, prefix_then}
 use Rattle.sg_serve.proofs.Saying.{mapped_err, on_err, unsent_is}
 use Rattle.sg_serve.specs.Lines.{given}
+use Rattle.sg_play.proofs.Counting.{alone_then, no_fault}
+use Rattle.sg_serve.proofs.Counting.{alone_passed}
 use Rattle.sg_serve.proofs.reply.Reply.write.Goals as goal
 
 pub returns-in_err-write_text-clause-prefix : goal.returns-in_err-write_text-clause-prefix
@@ -39,3 +41,9 @@ returns-clause-prefix g c =
     unsent_is c.args.took c.self.inside.frame c.self.inside.text.items c.args.self.now c.if-took.false (c.is_none.ensures ∙ ap not c.if-is_none.false) c.self.view_is ∙ ap unsent_text (sym c.as_slice-2.ensures.value) in
     mapped_err c.write_text-3.result (AppendsPrefix mid new text) (AppendsPrefix old new (given c.args.took c.args.self.now).line)
     (λ h. subst (λ (l : List ℕ). AppendsPrefix old new l) (sym is) (prefix_then old mid new (codes "unsent ") text c.in_ok-write_text.ensures.whole h)) c.write_text-3.ensures.prefix
+
+pub returns-in_err-write_text-clause-faults : goal.returns-in_err-write_text-clause-faults
+returns-in_err-write_text-clause-faults g c = let same : c.from_residual.result ≡ Err c.in_err-write_text.field-0.0 = search rules in alone_passed same c.in_err-write_text.ensures.faults
+
+pub returns-clause-faults : goal.returns-clause-faults
+returns-clause-faults g c = alone_then (c.in_ok-write_text.ensures.faults.same (no_fault _)) c.write_text-3.ensures.faults

@@ -1,10 +1,12 @@
-use Rattle.std.proofs.Common.{None}
+use Rattle.std.proofs.Common.{None, refl}
 use Rattle.sg_play.specs.Steps.{Step}
 use Rattle.sg_serve.specs.Served.{images_if}
 use Rattle.sg_serve.specs.Serving.{calls}
 use Rattle.sg_serve.specs.Representation.{HasReplied}
 use Rattle.sg_serve.proofs.Replying.{called_with, join_kept, join_unkept, replied_so}
 use Rattle.sg_serve.proofs.Results.{applied}
+use Rattle.sg_play.proofs.Counting.{alone_then, no_fault}
+use Rattle.sg_serve.proofs.Counting.{alone_passed, disk_unasked}
 use Rattle.sg_serve.proofs.server.Server.join.Goals as goal
 
 pub returns-in-Ok-clause-replied : goal.returns-in-Ok-clause-replied
@@ -20,3 +22,9 @@ returns-in-Ok-clause-replied g c = λ s k called has leaves.
 pub returns-in-Err-clause-replied : goal.returns-in-Err-clause-replied
 returns-in-Err-clause-replied g c = λ s k called has leaves.
     join_unkept c.args.self.now (g.D.Disk.may_leave c.keep_join.new.disk) s k c.args.outcome.now None called has c.in-Err.ensures.images
+
+pub returns-in-Ok-clause-faults : goal.returns-in-Ok-clause-faults
+returns-in-Ok-clause-faults g c = alone_then (c.in-Ok.ensures.faults.same (no_fault _)) (disk_unasked c.report.result c.report.ensures.memory)
+
+pub returns-in-Err-clause-faults : goal.returns-in-Err-clause-faults
+returns-in-Err-clause-faults g c = alone_passed refl c.in-Err.ensures.faults

@@ -1,8 +1,9 @@
-use Rattle.std.proofs.Common.{◌≡◌, ◌⊎◌, ◌∙◌, ℕ, List, Some, is_some, option_and_then, inl, inr, ⊎_elim, sym, ap, subst}
+use Rattle.std.proofs.Common.{◌≡◌, ◌⊎◌, ◌∙◌, ℕ, List, Some, Err, is_some, option_and_then, inl, inr, ⊎_elim, sym, ap, subst, refl}
 use Rattle.sg_ledger.specs.Format.{OpenLedger, Represents}
 use Rattle.sg_keep.specs.Joins.{join_reported}
 use Rattle.sg_serve.specs.Served.{joins_kept}
 use Rattle.sg_serve.proofs.Asking.{holds_after, holds_none, is_new, unkept}
+use Rattle.sg_play.proofs.Counting.{alone_as, alone_same, no_fault}
 use Rattle.sg_serve.proofs.server.Server.keep_join.Goals as goal
 
 pub add_join-requires-clause-new : goal.add_join-requires-clause-new
@@ -22,3 +23,15 @@ returns-in-Err-Played-clause-images g c =
 
 pub returns-in-None-clause-holds : goal.returns-in-None-clause-holds
 returns-in-None-clause-holds g c = holds_none c.args.self.now (g.D.Disk.may_leave c.args.disk.now) c.args.outcome.now c.requires.asked c.in-None.is
+
+pub returns-in-Ok-clause-faults : goal.returns-in-Ok-clause-faults
+returns-in-Ok-clause-faults g c = alone_as (λ e. absurd (cc)) (λ e. absurd (cc)) c.in-Ok.ensures.faults
+
+pub returns-in-Err-DiskFailed-clause-faults : goal.returns-in-Err-DiskFailed-clause-faults
+returns-in-Err-DiskFailed-clause-faults g c = alone_as (λ e. ap Err c.in-Err-DiskFailed.field-0-is) (λ e. refl) c.in-Err-DiskFailed.ensures.faults
+
+pub returns-in-Err-Played-clause-faults : goal.returns-in-Err-Played-clause-faults
+returns-in-Err-Played-clause-faults g c = alone_as (λ e. absurd (cc)) (λ e. absurd (cc)) c.in-Err-Played.ensures.faults
+
+pub returns-in-None-clause-faults : goal.returns-in-None-clause-faults
+returns-in-None-clause-faults g c = alone_same refl (no_fault _)

@@ -1,4 +1,4 @@
-use Rattle.std.proofs.Common.{◌≡◌, ◌∙◌, List, Some, is_some, IfOk, sym, ap, subst}
+use Rattle.std.proofs.Common.{◌≡◌, ◌∙◌, List, Some, is_some, IfOk, sym, ap, subst, refl}
 use Rattle.sg_answers.specs.Answers.{id_text}
 use Rattle.sg_play.specs.Steps.{Step}
 use Rattle.sg_protocol.specs.Calls.{Abandon}
@@ -10,6 +10,8 @@ use Rattle.sg_serve.specs.Serving.{acts_by, calls, graph_at, of_session, replies
 use Rattle.sg_serve.specs.Representation.{HasReplied, Replied}
 use Rattle.sg_serve.proofs.Lining.{of_again, of_says, on_ok, replied_plain}
 use Rattle.sg_serve.proofs.Results.{applied}
+use Rattle.sg_play.proofs.Counting.{alone_same, no_fault}
+use Rattle.sg_serve.proofs.Counting.{disk_unasked}
 use Rattle.sg_serve.proofs.server.Server.reply.Goals as goal
 
 pub returns-in-Act-clause-replied : goal.returns-in-Act-clause-replied
@@ -71,3 +73,24 @@ returns-in-Id-clause-replied g c = λ s st w.
     subst (λ (q : Request). Replied (images_if (is_some sv.ledger) (g.D.Disk.may_leave c.args.disk.now)) s sv (replies s q) c.id.result) (sym c.in-Id.is)
     (replied_plain sv sv (g.D.Disk.may_leave c.args.disk.now) s a c.id.result c.requires.holds st
     (applied c.id.result _ (λ (step : Step). HasReplied sv step a) (λ step h. h s st) c.id.ensures.replied))
+
+pub returns-in-Act-clause-faults : goal.returns-in-Act-clause-faults
+returns-in-Act-clause-faults g c = disk_unasked c.act.result c.act.ensures.memory
+
+pub returns-in-Abandon-clause-faults : goal.returns-in-Abandon-clause-faults
+returns-in-Abandon-clause-faults g c = disk_unasked c.abandon.result c.abandon.ensures.memory
+
+pub returns-in-Again-clause-faults : goal.returns-in-Again-clause-faults
+returns-in-Again-clause-faults g c = disk_unasked c.again.result c.again.ensures.memory
+
+pub returns-in-Turn-clause-faults : goal.returns-in-Turn-clause-faults
+returns-in-Turn-clause-faults g c = disk_unasked c.turn.result c.turn.ensures.memory
+
+pub returns-in-Id-clause-faults : goal.returns-in-Id-clause-faults
+returns-in-Id-clause-faults g c = disk_unasked c.id.result c.id.ensures.memory
+
+pub returns-in-Receive-clause-faults : goal.returns-in-Receive-clause-faults
+returns-in-Receive-clause-faults g c = alone_same refl (no_fault _)
+
+pub returns-in-Quit-clause-faults : goal.returns-in-Quit-clause-faults
+returns-in-Quit-clause-faults g c = alone_same refl (no_fault _)

@@ -1,12 +1,11 @@
-use Rattle.std.proofs.Common.{rules, ◌≡◌, ◌∷◌, ℕ, List, Bool, true, false, drop, Some, Ok, Err, refl, sym, ap, ◌∙◌, subst, arith}
+use Rattle.std.proofs.Common.{inl, inr, rules, ◌≡◌, ◌∷◌, ℕ, List, Bool, true, false, drop, Some, Ok, Err, refl, sym, ap, ◌∙◌, subst, arith, []}
 use Rattle.std.specs.Prelude.{is_some}
 use Rattle.sg_input.specs.Lines.{Line, Whole, TooLong}
 use Rattle.sg_input.specs.declared.reader.LineFound.TheVariants as found
 use Rattle.sg_serve.specs.declared.fault.ServeFault.TheVariants.{InputFailed, OutOfMemory}
 use Rattle.sg_serve.specs.Served.{Outside, Served, images_if}
 use Rattle.sg_serve.specs.Representation.{Answered}
-use Rattle.sg_serve.specs.Faults.{Counts}
-use Rattle.sg_serve.proofs.Counting.{falls_of, falls_on}
+use Rattle.sg_serve.proofs.Counting.{counted_passed, counted_then, counted_went, none_counted, none_failed}
 use Rattle.sg_serve.proofs.Ending.{failed_line, input_ended, last_line, memory_ended, next_line, no_line}
 use Rattle.sg_serve.proofs.server.Server.serve_all.Goals as goal
 use Rattle.sg_serve.proofs.server.Server.serve_all.Goals.{in-Ok-Some-Line+in_ok-serve_line-in-Ok-Some-Line+else-not-branch, in-Ok-Some-TooLong+in_ok-serve_line-in-Ok-Some-TooLong+else-not-branch-2}
@@ -98,8 +97,6 @@ returns-clause-served g c = λ r lines st reported a.
 pub loop-line-preserved : goal.loop-line-preserved
 loop-line-preserved g c =
     let inv = c.loop-line.invariant in
-    let first : Counts = record { link = g.L.Link.faults c.args.link.now; out = g.O.Sink.faults c.args.out.now; disk = g.D.Disk.faults c.args.disk.now } in
-    let mid : Counts = record { link = g.L.Link.faults c.loop-line.link; out = g.O.Sink.faults c.loop-line.out; disk = g.D.Disk.faults c.loop-line.disk } in
     let start : Outside = record { written = g.O.Sink.written c.args.out.now; sent = g.L.Link.sent c.args.link.now; coming = g.L.TimedLink.coming c.args.link.now; failed = g.L.Link.faults c.args.link.now } in
     let old : Outside = record { written = g.O.Sink.written c.loop-line.out; sent = g.L.Link.sent c.loop-line.link; coming = g.L.TimedLink.coming c.loop-line.link; failed = g.L.Link.faults c.loop-line.link } in
     elim c.match-next-3.branch [
@@ -110,7 +107,7 @@ loop-line-preserved g c =
           record {
             link_bound = rw w.link-is (w.serve_line.ensures.link_bound ∙ inv.link_bound);
             disk_bound = rw w.disk-is (w.serve_line.ensures.disk_bound ∙ inv.disk_bound);
-            falls = rw (w.link-is, w.out-is, w.disk-is) (falls_on first mid (record { link = g.L.Link.faults w.serve_line.new.link; out = g.O.Sink.faults w.serve_line.new.out; disk = g.D.Disk.faults w.serve_line.new.disk }) inv.falls (falls_of mid (record { link = g.L.Link.faults w.serve_line.new.link; out = g.O.Sink.faults w.serve_line.new.out; disk = g.D.Disk.faults w.serve_line.new.disk }) w.serve_line.result w.serve_line.ensures.faults));
+            faults = rw (w.link-is, w.out-is, w.disk-is) (counted_then inv.faults (counted_went tt w.in_ok-serve_line-in-Ok-Some-Line.ensures.faults));
             input_falls = omega (arith, inv.input_falls, c.next.ensures.never_falls);
             same = rw w.self-is (w.in_ok-serve_line-in-Ok-Some-Line.ensures.same ∙ inv.same);
             untouched = rw w.disk-is (λ none. w.serve_line.ensures.untouched (inv.same ∙ none) ∙ inv.untouched none);
@@ -134,7 +131,7 @@ loop-line-preserved g c =
           record {
             link_bound = rw w.link-is (w.serve_line-in-Ok-Some-TooLong.ensures.link_bound ∙ inv.link_bound);
             disk_bound = rw w.disk-is (w.serve_line-in-Ok-Some-TooLong.ensures.disk_bound ∙ inv.disk_bound);
-            falls = rw (w.link-is, w.out-is, w.disk-is) (falls_on first mid (record { link = g.L.Link.faults w.serve_line-in-Ok-Some-TooLong.new.link; out = g.O.Sink.faults w.serve_line-in-Ok-Some-TooLong.new.out; disk = g.D.Disk.faults w.serve_line-in-Ok-Some-TooLong.new.disk }) inv.falls (falls_of mid (record { link = g.L.Link.faults w.serve_line-in-Ok-Some-TooLong.new.link; out = g.O.Sink.faults w.serve_line-in-Ok-Some-TooLong.new.out; disk = g.D.Disk.faults w.serve_line-in-Ok-Some-TooLong.new.disk }) w.serve_line-in-Ok-Some-TooLong.result w.serve_line-in-Ok-Some-TooLong.ensures.faults));
+            faults = rw (w.link-is, w.out-is, w.disk-is) (counted_then inv.faults (counted_went tt w.in_ok-serve_line-in-Ok-Some-TooLong.ensures.faults));
             input_falls = omega (arith, inv.input_falls, c.next.ensures.never_falls);
             same = rw w.self-is (w.in_ok-serve_line-in-Ok-Some-TooLong.ensures.same ∙ inv.same);
             untouched = rw w.disk-is (λ none. w.serve_line-in-Ok-Some-TooLong.ensures.untouched (inv.same ∙ none) ∙ inv.untouched none);
@@ -152,3 +149,39 @@ loop-line-preserved g c =
                 ));
           })
     ]
+
+pub loop-line-init : goal.loop-line-init
+loop-line-init g c = record {
+  link_bound = refl;
+  disk_bound = refl;
+  faults = none_counted _ tt;
+  input_falls = omega arith;
+  same = refl;
+  untouched = λ none. refl;
+  holds = c.requires.holds;
+  served = λ r lines st reported a. (lines, reported, record { prefix = []; is = refl; represents = st; agrees = a });
+}
+
+pub returns-in_err-serve_line-in-Ok-Some-Line-clause-faults : goal.returns-in_err-serve_line-in-Ok-Some-Line-clause-faults
+returns-in_err-serve_line-in-Ok-Some-Line-clause-faults g c = let same : c.from_residual.result ≡ Err c.in_err-serve_line-in-Ok-Some-Line.field-0.0 = search rules in counted_passed same (counted_then c.loop-line.invariant.faults c.in_err-serve_line-in-Ok-Some-Line.ensures.faults)
+
+pub returns-then-not-branch-clause-faults : goal.returns-then-not-branch-clause-faults
+returns-then-not-branch-clause-faults g c = counted_then c.loop-line.invariant.faults (counted_went tt c.in_ok-serve_line-in-Ok-Some-Line.ensures.faults)
+
+pub returns-in_err-serve_line-in-Ok-Some-TooLong-clause-faults : goal.returns-in_err-serve_line-in-Ok-Some-TooLong-clause-faults
+returns-in_err-serve_line-in-Ok-Some-TooLong-clause-faults g c = let same : c.from_residual-in_err-serve_line-in-Ok-Some-TooLong.result ≡ Err c.in_err-serve_line-in-Ok-Some-TooLong.field-0.0 = search rules in counted_passed same (counted_then c.loop-line.invariant.faults c.in_err-serve_line-in-Ok-Some-TooLong.ensures.faults)
+
+pub returns-then-not-branch-2-clause-faults : goal.returns-then-not-branch-2-clause-faults
+returns-then-not-branch-2-clause-faults g c = counted_then c.loop-line.invariant.faults (counted_went tt c.in_ok-serve_line-in-Ok-Some-TooLong.ensures.faults)
+
+pub returns-in-Ok-None-clause-faults : goal.returns-in-Ok-None-clause-faults
+returns-in-Ok-None-clause-faults g c = c.loop-line.invariant.faults
+
+pub returns-in-Err-Failed-clause-faults : goal.returns-in-Err-Failed-clause-faults
+returns-in-Err-Failed-clause-faults g c = counted_then c.loop-line.invariant.faults (none_failed (inl refl) refl)
+
+pub returns-in-Err-OutOfMemory-clause-faults : goal.returns-in-Err-OutOfMemory-clause-faults
+returns-in-Err-OutOfMemory-clause-faults g c = counted_then c.loop-line.invariant.faults (none_failed (inr refl) refl)
+
+pub returns-clause-faults : goal.returns-clause-faults
+returns-clause-faults g c = counted_then c.loop-line.invariant.faults (none_failed (inr refl) refl)

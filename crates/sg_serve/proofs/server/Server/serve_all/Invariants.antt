@@ -1,17 +1,17 @@
-use Rattle.std.proofs.Common.{◌≡◌, ◌≤◌, ℕ, List, Some}
+use Rattle.std.proofs.Common.{◌≡◌, ◌≤◌, ℕ, List, Some, Ok}
 use Rattle.std.specs.Prelude.{IsNone, is_some}
 use Rattle.sg_input.specs.Lines.{Line, lines_left}
+use Rattle.sg_serve.specs.Faults.{CountsFaults}
 use Rattle.sg_serve.specs.Lines.{Run}
 use Rattle.sg_serve.specs.Served.{Agrees, Outside}
 use Rattle.sg_serve.specs.Representation.{HoldsJoins, Serves, RepresentsServing}
-use Rattle.sg_serve.proofs.Counting.{NoFall}
 use Rattle.sg_serve.proofs.server.Server.serve_all.Given as goal
 
 abbrev pub invariant-loop-line : goal.invariant-loop-line
 invariant-loop-line g l = record {
   link_bound : g.L.Link.bound l.link ≡ g.L.Link.bound l.initial.link;
   disk_bound : g.D.Disk.bound l.disk ≡ g.D.Disk.bound l.initial.disk;
-  falls : NoFall (record { link = g.L.Link.faults l.initial.link; out = g.O.Sink.faults l.initial.out; disk = g.D.Disk.faults l.initial.disk }) (record { link = g.L.Link.faults l.link; out = g.O.Sink.faults l.out; disk = g.D.Disk.faults l.disk });
+  faults : CountsFaults (record { link = g.L.Link.faults l.initial.link; out = g.O.Sink.faults l.initial.out; disk = g.D.Disk.faults l.initial.disk }) (record { link = g.L.Link.faults l.link; out = g.O.Sink.faults l.out; disk = g.D.Disk.faults l.disk }) (Ok (tt {0}));
   input_falls : g.I.Input.faults l.initial.input ≤ g.I.Input.faults l.input;
   same : is_some l.self.ledger ≡ is_some l.initial.self.ledger;
   untouched : IsNone l.initial.self.ledger → l.disk ≡ l.initial.disk;
