@@ -30,5 +30,5 @@ module _ (known : KnownFiles) (faults faults' : ℕ) where
 
 -- its count rose
 pub link_rose : (named : RunFiles) (most : ℕ) (files files' : Filed) (old new : Stage) → Runs named most files files' old new LinkFailed → HasRisen (old.link).faults (new.link).faults
-link_rose named most files files' old new (inl (s, result, has, waits, ends, same)) = ends.link_failed (of_play result same)
+link_rose named most files files' old new (inl (s, result, has, waits, ends, same)) = ((ends.faults).link).rises (of_play result same)
 link_rose named most files files' old new (inr (same, lacks)) = absurd (no_setup files.held files.faults files'.faults named lacks)

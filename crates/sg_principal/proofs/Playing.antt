@@ -8,13 +8,13 @@ use Rattle.sg_play.specs.Ends.{Outside as KnownOutside, WholePrefix, Ended}
 use Rattle.sg_play.specs.Steps.{Step}
 use Rattle.sg_play.specs.declared.fault.PlayFault.{PlayFault}
 use Rattle.sg_play.specs.declared.fault.PlayFault.TheVariants as Play
+use Rattle.sg_play.proofs.Counting.{alone_same, counts_rose, counts_then, memory_counted}
 use Rattle.sg_protocol.specs.Keyring.{Keyring}
 use Rattle.sg_ending.specs.Ending.{Ending, LinkFailed}
 use Rattle.sg_ending.specs.Output.{Output}
-use Rattle.sg_ending.proofs.Files.{rises}
 use Rattle.sg_setup.specs.Setup.{Setup, waits_at}
 use Rattle.sg_principal.specs.Outside.{Linked, Stage}
-use Rattle.sg_principal.specs.Runs.{EndsPlaying, LacksLink, TakesAtMost, WaitsAt, steps_played}
+use Rattle.sg_principal.specs.Runs.{EndsPlaying, LacksLink, TakesAtMost, WaitsAt, counts, steps_played}
 
 -- nothing was added
 appends_none : {A : Type 0} (x y : Option (List A)) → y ≡ x → Appends x y []
@@ -39,9 +39,7 @@ not_begun s most old = record {
   plays = λ ds ws d w. none_taken (record { written = (old.out).bytes; sent = (old.link).sent }) (record { written = (old.out).bytes; sent = (old.link).sent }) (steps_played s most ds ws) refl refl;
   left = tt;
   at_most = none_left most (old.link).deliveries (old.link).deliveries refl;
-  link_falls = omega arith;
-  link_failed = λ e. absurd cc;
-  write_failed = λ e. absurd cc;
+  faults = memory_counted {c = counts old} refl refl;
 }
 
 module _ (out : Output) (random : Option (List (List ℕ))) (link link1 : Linked) (kept : link1.deliveries ≡ link.deliveries) (kept_sent : link1.sent ≡ link.sent) where
@@ -68,9 +66,7 @@ module _ (out : Output) (random : Option (List (List ℕ))) (link link1 : Linked
           (h.plays ds ws (kept ∙ d) w);
       left = on_ok_weaker r (λ t ds d. t ds (kept ∙ d)) h.left;
       at_most = λ ds d. h.at_most ds (kept ∙ d);
-      link_falls = (let l : link1.faults ≤ (new.link).faults = h.link_falls in omega (arith, l));
-      link_failed = λ e. rises link.faults link1.faults (new.link).faults falls h.link_falls (h.link_failed e);
-      write_failed = h.write_failed;
+      faults = record { link = counts_then falls (h.faults).link; out = (h.faults).out };
     }
 
     -- nothing was played, since the link was not opened
@@ -79,9 +75,7 @@ module _ (out : Output) (random : Option (List (List ℕ))) (link link1 : Linked
       plays = λ ds ws d w. none_taken (record { written = out.bytes; sent = link.sent }) (record { written = out.bytes; sent = link1.sent }) (steps_played s most ds ws) refl kept_sent;
       left = tt;
       at_most = none_left most link.deliveries link1.deliveries kept;
-      link_falls = omega (arith, falls);
-      link_failed = λ e. risen;
-      write_failed = λ e. absurd cc;
+      faults = record { link = counts_rose falls risen; out = alone_same refl (λ e. absurd cc) };
     }
 
 -- the address at which the keys wait is theirs

@@ -1,14 +1,13 @@
 -- How the making of a ledger ends, and a run over one, and what they leave of the disk.
-use Rattle.std.specs.Prelude.{◌≡◌, ◌≢◌, ℕ, ◌≤◌, ◌⊎◌, Bool, true, false, List, [], ◌++◌, length, take, codes, Option, Some, Result, Ok, Err, OnOk, ⊤}
-use Rattle.sg_base.specs.Outside.{Appends, HasRisen}
+use Rattle.std.specs.Prelude.{◌≡◌, ◌≢◌, ℕ, ◌≤◌, ◌⊎◌, Bool, true, false, List, [], take, codes, Some, Result, Ok, Err, OnOk, ⊤}
+use Rattle.sg_base.specs.Outside.{HasRisen}
 use Rattle.sg_keep.specs.Faults.{Counts, CountsFaults}
-use Rattle.sg_keep.specs.KeptRuns.{AllRepresent, HasKept, RepresentsAtMost, RepresentsMore}
+use Rattle.sg_keep.specs.KeptRuns.{AllRepresent, HasKept, KeptThroughout, RepresentsMore}
 use Rattle.sg_keep.specs.declared.fault.KeepFault.{KeepFault}
 use Rattle.sg_keep.specs.declared.fault.KeepFault.TheVariants as KeepFaults
 use Rattle.sg_ledger.specs.Disk.{Keeps, IfSeen, LeavesOnly}
 use Rattle.sg_ledger.specs.Format.{Join, IsLedger, IsFirstBadSlot, Represents}
 use Rattle.sg_play.specs.Played.{Play, played}
-use Rattle.sg_play.specs.Steps.{lines_of}
 use Rattle.sg_play.specs.declared.fault.PlayFault.TheVariants as PlayFaults
 use Rattle.sg_ending.specs.Ending.{Ending, Written, NoLedger, BadSlot, LedgerNotEmpty, WriteFailed, LinkFailed, DiskFailed, NoMemory}
 use Rattle.sg_ending.specs.Output.{Output, Writes}
@@ -33,6 +32,10 @@ left_in disk disk' true = disk'.left_since
 abbrev pub LeavesMeanwhile : (disk disk' : Disked) → (P : List ℕ → Type 0) → Type 0
 LeavesMeanwhile disk disk' P = LeavesOnly (moment_in disk disk') (left_in disk disk') false true P
 
+-- the disk at a later moment, until which its file was left alone: a crash up to then left only what it might have left before
+abbrev pub alone_until : (moment : ℕ) → Disked → Disked
+alone_until moment disk = record disk { moment = moment; left_since = λ t image. t ≤ disk.moment → disk.left_since t image }
+
 -- nothing was asked of the disk: it is bound to the file of before, a crash leaves all that it left before too, and nothing else at any moment, and the count is the same
 abbrev pub IsNotAsked : (disk disk' : Disked) → Type 0
 IsNotAsked disk disk' = IsLeft disk disk' × Keeps disk'.may_leave disk.may_leave × LeavesMeanwhile disk disk' disk.may_leave × (disk'.bound ≡ disk.bound) × (disk'.faults ≡ disk.faults)
@@ -43,15 +46,15 @@ IsBound file disk disk' ending = (disk'.bound ≡ Some file) ⊎ ((ending ≡ Di
 
 -- ---- a ledger is made
 
--- the file had no bytes, and each image represents no joins
+-- the file had no bytes, each image represents no joins, and the count is the same
 abbrev pub IsMade : (disk disk' : Disked) → Type 0
-IsMade disk disk' = IfSeen disk.seen (λ file. file ≡ []) × AllRepresent disk'.may_leave []
+IsMade disk disk' = IfSeen disk.seen (λ file. file ≡ []) × AllRepresent disk'.may_leave [] × (disk'.faults ≡ disk.faults)
 
--- none is made: the file has bytes already, or the disk failed, which its count shows, or memory ran out; a file that has bytes is left
+-- none is made: the file has bytes already, or the disk failed, which its count alone shows, or memory ran out; a file that has bytes is left
 abbrev pub LacksRoom : (disk disk' : Disked) → Ending → Type 0
-LacksRoom disk disk' LedgerNotEmpty = IfSeen disk.seen (λ file. file ≢ []) × IsLeft disk disk'
+LacksRoom disk disk' LedgerNotEmpty = IfSeen disk.seen (λ file. file ≢ []) × IsLeft disk disk' × (disk'.faults ≡ disk.faults)
 LacksRoom disk disk' DiskFailed = HasRisen disk.faults disk'.faults × IfSeen disk.seen (λ file. file ≢ [] → IsLeft disk disk')
-LacksRoom disk disk' NoMemory = IsLeft disk disk'
+LacksRoom disk disk' NoMemory = IsLeft disk disk' × (disk'.faults ≡ disk.faults)
 LacksRoom disk disk' ending = ⊥
 
 -- the making of a ledger of a file ends so: it is made, and then this is written; or it isn't, and nothing is written
@@ -62,12 +65,12 @@ Makes file old new disk disk' ending = IsBound file disk disk' ending ×
 
 -- ---- a ledger is opened
 
--- no ledger is opened: the file is none, or this is its first bad slot, or the disk failed, which its count shows, or memory ran out
+-- no ledger is opened: the file is none, or this is its first bad slot, or the disk failed, which its count alone shows, or memory ran out
 abbrev pub LacksLedger : (disk disk' : Disked) → Ending → Type 0
-LacksLedger disk disk' NoLedger = IfSeen disk.seen (λ file. ¬ IsLedger file)
-LacksLedger disk disk' (BadSlot slot) = IfSeen disk.seen (λ file. IsLedger file × IsFirstBadSlot file slot)
+LacksLedger disk disk' NoLedger = IfSeen disk.seen (λ file. ¬ IsLedger file) × (disk'.faults ≡ disk.faults)
+LacksLedger disk disk' (BadSlot slot) = IfSeen disk.seen (λ file. IsLedger file × IsFirstBadSlot file slot) × (disk'.faults ≡ disk.faults)
 LacksLedger disk disk' DiskFailed = HasRisen disk.faults disk'.faults
-LacksLedger disk disk' NoMemory = ⊤
+LacksLedger disk disk' NoMemory = disk'.faults ≡ disk.faults
 LacksLedger disk disk' ending = ⊥
 
 -- ---- a run over a ledger
@@ -81,23 +84,10 @@ abbrev pub PlaysOver : (opened : List Join) → Setup → (most : ℕ) → (old 
 PlaysOver opened s most old new disk' result = (deliveries random : List (List ℕ)) → (old.link).deliveries ≡ Some deliveries → old.random ≡ Some random
     → HasKept (record { written = (old.out).bytes; sent = (old.link).sent }) (record { written = (new.out).bytes; sent = (new.link).sent }) disk'.may_leave (play_over opened s most deliveries random) result
 
--- At each moment of the call a crash leaves an image of before, or a file that has P
-abbrev pub LeavesOrHas : (disk disk' : Disked) → (P : List ℕ → Type 0) → Type 0
-LeavesOrHas disk disk' P = LeavesMeanwhile disk disk' (λ image. disk.may_leave image ⊎ P image)
-
--- the lines of the first `count` steps of a play were written, if what was written is known, and at each moment a crash leaves an image of before, or a ledger with at most one join more than these steps made
-pub record KeptMeanwhile (start now : Option (List ℕ)) (disk disk' : Disked) (p : Play) : Type 0 where
-  pub count : ℕ
-  pub within : count ≤ length p.steps
-  -- what was written behind them
-  pub rest : List ℕ
-  pub written : Appends start now (lines_of (take count p.steps) ++ rest)
-  pub any_moment : LeavesOrHas disk disk' (RepresentsAtMost p.past.first p.past.calls count)
-
--- if the deliveries and the random bytes are known, this play was kept so at each moment
-abbrev pub KeepsMeanwhile : (opened : List Join) → Setup → (most : ℕ) → (old new : Stage) → (disk disk' : Disked) → Type 0
-KeepsMeanwhile opened s most old new disk disk' = (deliveries random : List (List ℕ)) → (old.link).deliveries ≡ Some deliveries → old.random ≡ Some random
-    → KeptMeanwhile (old.out).bytes (new.out).bytes disk disk' (play_over opened s most deliveries random)
+-- if the deliveries and the random bytes are known: at each moment of this play a crash leaves at most one join more than the lines report that were written
+abbrev pub KeepsThroughout : (opened : List Join) → Setup → (most : ℕ) → (old new : Stage) → (disk disk' : Disked) → Type 0
+KeepsThroughout opened s most old new disk disk' = (deliveries random : List (List ℕ)) → (old.link).deliveries ≡ Some deliveries → old.random ≡ Some random
+    → KeptThroughout (moment_in disk disk') (left_in disk disk') false true (old.out).bytes (new.out).bytes (play_over opened s most deliveries random)
 
 -- how the program ends after a play over a ledger
 abbrev pub ending_of_keep : Result (Unit {0}) KeepFault → Ending
@@ -111,20 +101,21 @@ ending_of_keep (Err KeepFaults.DiskFailed) = DiskFailed
 abbrev pub counts : Stage → Disked → Counts
 counts o disk = record { link = (o.link).faults; out = (o.out).faults; disk = disk.faults }
 
--- the play of a setup over the joins of an opened ledger ended so, of which a fault is reported only if its count rose
+-- the play of a setup over the joins of a ledger that was opened from this disk ended so, of which a fault is reported only if its count rose
 pub record EndsOver (opened : List Join) (s : Setup) (most : ℕ) (old new : Stage) (disk disk' : Disked) (result : Result (Unit {0}) KeepFault) : Type 0 where
   pub plays : PlaysOver opened s most old new disk' result
-  -- whatever link and random bytes tell, an image of any moment is one of before, or represents the joins of the ledger, and then others
-  pub any_moment : LeavesOrHas disk disk' (RepresentsMore opened)
-  pub throughout : KeepsMeanwhile opened s most old new disk disk'
+  -- whatever link and random bytes tell, at each moment a crash leaves the joins of the ledger, and then others
+  pub any_moment : LeavesMeanwhile disk disk' (RepresentsMore opened)
+  pub throughout : KeepsThroughout opened s most old new disk disk'
   pub faults : CountsFaults (counts old disk) (counts new disk') result
   pub left : OnOk result (Takes most (old.link).deliveries (new.link).deliveries)
   pub at_most : TakesAtMost most (old.link).deliveries (new.link).deliveries
 
--- a setup is played over the ledger that the file of this name is, and over the link at the address of its keys; or the file is none, and nothing is touched
+-- a setup is played over the ledger that the file of this name is, from the moment on at which it was opened, and over the link at the address of its keys; or the file is none, and nothing is touched
 abbrev pub KeepsSetup : (file : List ℕ) → Setup → (most : ℕ) → (old new : Stage) → (disk disk' : Disked) → Ending → Type 0
 KeepsSetup file s most old new disk disk' ending =
-    ((opened : List Join) × (result : Result (Unit {0}) KeepFault) × (disk'.bound ≡ Some file) × IfSeen disk.seen (λ bytes. Represents bytes opened) × WaitsAt s.keys old new ending × EndsOver opened s most old new disk disk' result × (ending ≡ ending_of_keep result))
+    ((opened : List Join) × (moment : ℕ) × (result : Result (Unit {0}) KeepFault) × (disk'.bound ≡ Some file) × IfSeen disk.seen (λ bytes. Represents bytes opened) × (disk.moment ≤ moment)
+    × WaitsAt s.keys old new ending × EndsOver opened s most old new (alone_until moment disk) disk' result × (ending ≡ ending_of_keep result))
     ⊎ ((new ≡ old) × IsLeft disk disk' × LeavesMeanwhile disk disk' disk.may_leave × IsBound file disk disk' ending × LacksLedger disk disk' ending)
 
 -- a run over the ledger of a file ends so: the files hold a setup, which is played over the ledger, if there is one; or they hold none, and nothing is touched, nor the disk asked

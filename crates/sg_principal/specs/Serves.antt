@@ -63,7 +63,7 @@ ending_of_serve (Err ServeFaults.OutOfMemory) = NoMemory
 -- a principal that joined these pairs before serves: its link isn't opened; or it is, at the address of its keys, and the lines are answered
 abbrev pub ServesOver : (kept : Bool) → (opened : List Join) → Principal → (old new : Application) → (disk disk' : Disked) → Ending → Type 0
 ServesOver kept opened p old new disk disk' ending =
-    (LacksLink old new × IsLeft disk disk' × (ending ≡ LinkFailed))
+    (LacksLink old new × IsLeft disk disk' × (disk'.faults ≡ disk.faults) × (ending ≡ LinkFailed))
     ⊎ ((link : Waited) × (result : Result (Unit {0}) ServeFault) × IsOpened (waits_at p.keys) old.link link × EndsServing kept opened p (record old { link = link }) new disk disk' result × (ending ≡ ending_of_serve result))
 
 -- it serves over the ledger that the file of this name is; or the file is none, and nothing is touched. Without a ledger nothing is asked of the disk

@@ -1,5 +1,5 @@
 //! The ledger in which a run keeps its joins.
-ghost use Rattle.std.specs.Prelude.{◌≡◌, ◌≤◌, ◌⊎◌, [], IfErr, IfOk, OnOk, Some, false, is_some, option_map};
+ghost use Rattle.std.specs.Prelude.{◌≡◌, IfErr, IfOk, OnOk, Some, false};
 ghost use Rattle.sg_keep.specs.KeptRuns.{AllRepresent};
 ghost use Rattle.sg_ledger.specs.Disk.{IfSeen};
 ghost use Rattle.sg_ledger.specs.Format.{Represents};
@@ -25,7 +25,7 @@ pub fn open_ledger<D: Disk>(
     ensures lacks { IfErr result (λ ending. LacksLedger (disk_of D.Disk disk.old) (disk_of D.Disk disk.new) (ending_held ending)) }
     ensures left { IsLeft (disk_of D.Disk disk.old) (disk_of D.Disk disk.new) }
     ensures any_moment { LeavesMeanwhile (disk_of D.Disk disk.old) (disk_of D.Disk disk.new) (D.may_leave disk.old) }
-    ensures falls { D.faults disk.old ≤ D.faults disk.new }
+    ensures no_fault { OnOk result (D.faults disk.new ≡ D.faults disk.old) }
 {
     match disk.open(file) {
         Ok(()) => {}

@@ -1,5 +1,6 @@
 use Rattle.std.proofs.Common.{◌∙◌, Err, inl, inr, refl, ap}
 use Rattle.sg_ledger.specs.declared.ledger.OpenFault.{OpenFault}
+use Rattle.sg_play.proofs.Counting.{no_fault, other_fault}
 use Rattle.sg_ending.proofs.Files.{rises}
 use Rattle.sg_principal.proofs.Meanwhile.{meanwhile_opened, meanwhile_opening}
 use Rattle.sg_principal.proofs.joins.open_ledger.Goals as goal
@@ -10,17 +11,26 @@ returns-in-Err-clause-left g c = (c.open.ensures.kept, c.open.ensures.images)
 pub returns-in-Ok-open-clause-opened : goal.returns-in-Ok-open-clause-opened
 returns-in-Ok-open-clause-opened g c = λ file seen. c.in-Ok-open.ensures.joins file (c.open.ensures.kept ∙ seen)
 
+pub returns-in-Ok-open-clause-no_fault : goal.returns-in-Ok-open-clause-no_fault
+returns-in-Ok-open-clause-no_fault g c = c.in-Ok-open.ensures.no_fault (no_fault _) ∙ c.in-Ok.ensures.no_fault
+
 pub returns-in-Ok-open-clause-left : goal.returns-in-Ok-open-clause-left
 returns-in-Ok-open-clause-left g c = (c.open-2.ensures.kept ∙ c.open.ensures.kept, λ image left. c.open.ensures.images image (c.open-2.ensures.keeps image left))
 
 pub returns-in-Err-NotALedger-clause-lacks : goal.returns-in-Err-NotALedger-clause-lacks
-returns-in-Err-NotALedger-clause-lacks g c = λ file seen. (rw c.in-Err-NotALedger.field-0-is at c.in-Err-NotALedger.ensures.refused) file (c.open.ensures.kept ∙ seen)
+returns-in-Err-NotALedger-clause-lacks g c = (
+  λ file seen. (rw c.in-Err-NotALedger.field-0-is at c.in-Err-NotALedger.ensures.refused) file (c.open.ensures.kept ∙ seen),
+  c.open-2.ensures.no_fault (other_fault (c.in-Err-NotALedger.is ∙ ap (λ (f : OpenFault). Err f) c.in-Err-NotALedger.field-0-is) (λ e. absurd cc)) ∙ c.in-Ok.ensures.no_fault,
+)
 
 pub returns-in-Err-NotALedger-clause-left : goal.returns-in-Err-NotALedger-clause-left
 returns-in-Err-NotALedger-clause-left g c = (c.open-2.ensures.kept ∙ c.open.ensures.kept, λ image left. c.open.ensures.images image (c.open-2.ensures.keeps image left))
 
 pub returns-in-Err-BadSlot-clause-lacks : goal.returns-in-Err-BadSlot-clause-lacks
-returns-in-Err-BadSlot-clause-lacks g c = λ file seen. (rw c.in-Err-BadSlot.field-0-is at c.in-Err-BadSlot.ensures.refused) file (c.open.ensures.kept ∙ seen)
+returns-in-Err-BadSlot-clause-lacks g c = (
+  λ file seen. (rw c.in-Err-BadSlot.field-0-is at c.in-Err-BadSlot.ensures.refused) file (c.open.ensures.kept ∙ seen),
+  c.open-2.ensures.no_fault (other_fault (c.in-Err-BadSlot.is ∙ ap (λ (f : OpenFault). Err f) c.in-Err-BadSlot.field-0-is) (λ e. absurd cc)) ∙ c.in-Ok.ensures.no_fault,
+)
 
 pub returns-in-Err-BadSlot-clause-left : goal.returns-in-Err-BadSlot-clause-left
 returns-in-Err-BadSlot-clause-left g c = (c.open-2.ensures.kept ∙ c.open.ensures.kept, λ image left. c.open.ensures.images image (c.open-2.ensures.keeps image left))
@@ -32,6 +42,10 @@ returns-in-Err-Failed-clause-lacks g c =
 
 pub returns-in-Err-Failed-clause-left : goal.returns-in-Err-Failed-clause-left
 returns-in-Err-Failed-clause-left g c = (c.open-2.ensures.kept ∙ c.open.ensures.kept, λ image left. c.open.ensures.images image (c.open-2.ensures.keeps image left))
+
+pub returns-in-Err-OutOfMemory-clause-lacks : goal.returns-in-Err-OutOfMemory-clause-lacks
+returns-in-Err-OutOfMemory-clause-lacks g c =
+    c.open-2.ensures.no_fault (other_fault (c.in-Err-OutOfMemory.is ∙ ap (λ (f : OpenFault). Err f) c.in-Err-OutOfMemory.field-0-is) (λ e. absurd cc)) ∙ c.in-Ok.ensures.no_fault
 
 pub returns-in-Err-OutOfMemory-clause-left : goal.returns-in-Err-OutOfMemory-clause-left
 returns-in-Err-OutOfMemory-clause-left g c = (c.open-2.ensures.kept ∙ c.open.ensures.kept, λ image left. c.open.ensures.images image (c.open-2.ensures.keeps image left))

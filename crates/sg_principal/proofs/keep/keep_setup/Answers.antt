@@ -11,12 +11,14 @@ pub returns-in-Ok-clause-keeps : goal.returns-in-Ok-clause-keeps
 returns-in-Ok-clause-keeps g c =
     inl (
       c.in-Ok.ledger.joins,
+      g.D.Disk.moment c.open_ledger.new.disk,
       c.play_over.result,
       c.play_over.ensures.bound ∙ c.in-Ok.ensures.bound,
       c.in-Ok.ensures.opened,
+      c.open_ledger.ensures.any_moment.later,
       waits c.args.setup.keys _ _ (ending_held c.ended.result) (λ e. c.ended.ensures.ending ∙ ap ending_of_keep e) c.play_over.ensures.waits,
       after_ledger c.in-Ok.ledger.joins (setup_held c.args.setup) c.args.most (stage_of g.O.Sink g.L.Link g.R.Fresh (stage_at_call c.args.stage)) _
-          (disk_of g.D.Disk c.args.disk.now) (disk_of g.D.Disk c.open_ledger.new.disk) (disk_of g.D.Disk c.play_over.new.disk) c.play_over.result c.open_ledger.ensures.falls c.open_ledger.ensures.left.1 c.open_ledger.ensures.any_moment c.play_over.ensures.ends,
+          (disk_of g.D.Disk c.args.disk.now) (disk_of g.D.Disk c.open_ledger.new.disk) (disk_of g.D.Disk c.play_over.new.disk) c.play_over.result c.in-Ok.ensures.no_fault (g.met.D.Disk.counts_now c.args.disk.now) c.open_ledger.ensures.any_moment c.play_over.ensures.ends,
       c.ended.ensures.ending,
     )
 

@@ -1,6 +1,7 @@
 use Rattle.std.proofs.Common.{◌≡◌, ◌≢◌, ◌∙◌, List, ℕ, Bool, true, false, Err, inl, inr, length, refl, sym, ap, arith, true≢false}
 use Rattle.sg_ledger.specs.declared.ledger.CreateFault.{CreateFault}
 use Rattle.sg_ledger.specs.declared.ledger.CreateFault.TheVariants.{NotEmpty, Failed, OutOfMemory}
+use Rattle.sg_play.proofs.Counting.{no_fault, other_fault}
 use Rattle.sg_ending.proofs.Files.{rises}
 use Rattle.sg_principal.proofs.ledger.create.Goals as goal
 
@@ -13,7 +14,11 @@ other : (e f : CreateFault) → e ≡ f → is_failed f ≡ false → e ≢ Fail
 other e f is not_failed failed = true≢false (sym (ap is_failed failed) ∙ ap is_failed is ∙ not_failed)
 
 pub returns-in-Ok-create-clause-made : goal.returns-in-Ok-create-clause-made
-returns-in-Ok-create-clause-made g c = (λ file seen. c.in-Ok-create.ensures.empty file (c.open.ensures.kept ∙ seen), c.in-Ok-create.ensures.made)
+returns-in-Ok-create-clause-made g c = (
+  λ file seen. c.in-Ok-create.ensures.empty file (c.open.ensures.kept ∙ seen),
+  c.in-Ok-create.ensures.made,
+  c.in-Ok-create.ensures.no_fault (no_fault _) ∙ c.in-Ok.ensures.no_fault,
+)
 
 pub returns-in-Err-clause-not_made : goal.returns-in-Err-clause-not_made
 returns-in-Err-clause-not_made g c = (c.in-Err.ensures.failed, λ file seen some. (c.open.ensures.kept, c.open.ensures.images))
@@ -28,6 +33,7 @@ returns-in-Err-NotEmpty-clause-not_made g c =
           let none = ap (λ (bytes : List ℕ). length bytes) empty in
           omega (arith, some, long, none),
       (alone.kept ∙ c.open.ensures.kept, λ image left. c.open.ensures.images image (alone.keeps image left)),
+      c.create.ensures.no_fault (other_fault c.in-Err-NotEmpty.is (other _ _ c.in-Err-NotEmpty.field-0-is refl)) ∙ c.in-Ok.ensures.no_fault,
     )
 
 pub returns-in-Err-Failed-clause-not_made : goal.returns-in-Err-Failed-clause-not_made
@@ -41,8 +47,10 @@ returns-in-Err-Failed-clause-not_made g c = (
 
 pub returns-in-Err-OutOfMemory-clause-not_made : goal.returns-in-Err-OutOfMemory-clause-not_made
 returns-in-Err-OutOfMemory-clause-not_made g c =
-    let alone = c.in-Err-OutOfMemory.ensures.refused (other _ _ c.in-Err-OutOfMemory.field-0-is refl) in
-    (alone.kept ∙ c.open.ensures.kept, λ image left. c.open.ensures.images image (alone.keeps image left))
+    let alone = c.in-Err-OutOfMemory.ensures.refused (other _ _ c.in-Err-OutOfMemory.field-0-is refl) in (
+      (alone.kept ∙ c.open.ensures.kept, λ image left. c.open.ensures.images image (alone.keeps image left)),
+      c.create.ensures.no_fault (other_fault c.in-Err-OutOfMemory.is (other _ _ c.in-Err-OutOfMemory.field-0-is refl)) ∙ c.in-Ok.ensures.no_fault,
+    )
 
 pub returns-in-Err-clause-tried : goal.returns-in-Err-clause-tried
 returns-in-Err-clause-tried g c = inr (refl, c.in-Err.ensures.failed, c.in-Err.ensures.kept_bound, (c.open.ensures.kept, c.open.ensures.images))

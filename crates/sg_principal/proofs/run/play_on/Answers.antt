@@ -11,9 +11,7 @@ returns-in-Ok-clause-ends g c = record {
   plays = λ ds ws d w. c.play.ensures.played [] ds ws (c.in-Ok.ensures.made ∙ ap (λ (k : Keyring). new_state k c.args.setup.programs []) c.requires) d w;
   left = c.play.ensures.left;
   at_most = c.play.ensures.at_most;
-  link_falls = c.play.ensures.link_falls;
-  link_failed = c.play.ensures.link_failed;
-  write_failed = c.play.ensures.write_failed;
+  faults = c.play.ensures.faults;
 }
 
 pub returns-clause-ends : goal.returns-clause-ends

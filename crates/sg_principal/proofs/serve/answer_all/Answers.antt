@@ -1,6 +1,7 @@
 use Rattle.std.proofs.Common.{refl, arith}
 use Rattle.std.specs.Prelude.{is_some}
 use Rattle.sg_input.specs.Lines.{lines_of}
+use Rattle.sg_play.proofs.Counting.{alone_same}
 use Rattle.sg_serve.specs.Served.{images_if, joins_kept}
 use Rattle.sg_serve.proofs.Running.{not_begun}
 use Rattle.sg_principal.proofs.Serving.{no_disk_failed, no_input_failed, no_write_failed}
@@ -14,10 +15,8 @@ returns-in_default-clause-ends g c = record {
       (images_if (is_some c.args.ledger) (g.D.Disk.may_leave c.args.disk.now)) c.args.principal.keys c.args.principal.programs (joins_kept c.args.ledger) coming random (lines_of bytes) _ refl c.requires.represents;
   faults = record {
     link_falls = omega arith;
-    out_falls = omega arith;
-    disk_falls = omega arith;
-    write_failed = λ e. absurd (no_write_failed e);
-    disk_failed = λ e. absurd (no_disk_failed e);
+    out = alone_same refl no_write_failed;
+    disk = alone_same refl no_disk_failed;
   };
   input_falls = omega arith;
   input_failed = λ e. absurd (no_input_failed e);

@@ -23,4 +23,5 @@ returns-clause-serves g c =
           (output_of g.O.Sink (c.args.stage.out).now) (g.R.Fresh.random (c.args.stage.fresh).now) (input_of g.I.Input c.args.input.now) c.in-Err.ensures.kept_bound c.in-Err.ensures.failed,
       (refl, λ image left. left),
       refl,
+      refl,
     )
