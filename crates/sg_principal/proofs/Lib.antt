@@ -3,4 +3,6 @@ pub mod Keeping
 pub mod Meanwhile
 pub mod Serving
 pub mod OneLedger
+pub mod OneOpening
+mod Slots
 pub mod FailedLinks

@@ -5,7 +5,7 @@ ghost use Rattle.sg_ending.specs.Laws.{EndsOnce};
 ghost use Rattle.sg_design.specs.Claimed.{Suggests};
 ghost use Rattle.sg_design.specs.Ends.{Checks, Compiles, Composes};
 ghost use Rattle.sg_design.specs.Laws.{ClaimsEndOnce};
-ghost use Rattle.sg_principal.specs.Laws.{LedgersAreMadeByBytes};
+ghost use Rattle.sg_principal.specs.Laws.{LedgersAreMadeByBytes, LedgersAreOpenedByBytes};
 ghost use Rattle.sg_principal.specs.Outside.{output_of};
 ghost use Rattle.sg_replay.specs.Ends.{Audits, Drives, Replays};
 ghost use Rattle.sg_setup.specs.Laws.{PrincipalsAreOne, SetupsAreOne};
@@ -50,6 +50,12 @@ pub fn runs_lack_once()
 /// The bytes of a disk's file, if they are known, decide whether a ledger is made, unless the disk fails or memory runs out.
 pub fn ledger_is_made_once<D: Disk>()
     ensures { LedgersAreMadeByBytes D.Disk }
+{}
+
+/// The bytes of a disk's file, if they are known, decide with which joins `keep` and `serve` open a ledger, or for which cause they open none, unless the
+/// disk fails or memory runs out: the file is no ledger, or this is its first bad slot. It can't be that none of the three is so.
+pub fn ledger_is_opened_once<D: Disk>()
+    ensures { LedgersAreOpenedByBytes D.Disk }
 {}
 
 /// A run over connections ends with 7 only if to wait at its address, to take a piece, to make a connection or to give bytes failed, or 1,000,000 pieces
