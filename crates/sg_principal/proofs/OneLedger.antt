@@ -18,13 +18,13 @@ has_bytes [] h = absurd (h refl)
 has_bytes (b ∷ bytes) h = refl
 
 lacks_room : (disk disk' : Disked) (bytes : List ℕ) (e : Ending) → disk.seen ≡ Some bytes → LacksRoom disk disk' e → is_of_outside e ≡ false → e ≢ DiskFailed → asked e ≡ asked_by bytes
-lacks_room disk disk' bytes LedgerNotEmpty seen (some, left) p d = sym (has_bytes bytes (some bytes seen))
+lacks_room disk disk' bytes LedgerNotEmpty seen (some, left, same) p d = sym (has_bytes bytes (some bytes seen))
 lacks_room disk disk' bytes DiskFailed seen h p d = absurd (d refl)
 lacks_room disk disk' bytes NoMemory seen h p d = absurd (cc)
 lacks_room disk disk' bytes _ seen h p d = absurd h
 
 by_bytes : (file bytes : List ℕ) (old new : Output) (disk disk' : Disked) (e : Ending) → disk.seen ≡ Some bytes → Makes file old new disk disk' e → is_of_outside e ≡ false → e ≢ DiskFailed → asked e ≡ asked_by bytes
-by_bytes file bytes old new disk disk' e seen (bound, inl ((empty, left), w)) p d = is_written old new (codes "ledger made\n") e w ∙ sym (ap asked_by (empty bytes seen))
+by_bytes file bytes old new disk disk' e seen (bound, inl ((empty, left, same), w)) p d = is_written old new (codes "ledger made\n") e w ∙ sym (ap asked_by (empty bytes seen))
 by_bytes file bytes old new disk disk' e seen (bound, inr (same, lacks)) p d = lacks_room disk disk' bytes e seen lacks p d
 
 pub ledgers_by_bytes : {D : Type 0} (g : Disk.Ghosts D) → LedgersAreMadeByBytes g
