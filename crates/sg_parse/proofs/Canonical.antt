@@ -14,7 +14,7 @@ use Rattle.sg_parse.specs.Grammar.{IsOrderOf, named, head_tokens, role_tokens, n
 use Rattle.sg_parse.specs.declared.token.Token.{Token}
 use Rattle.sg_parse.specs.declared.token.Token.TheVariants.{Word, Colon, Semicolon, Arrow, End}
 use Rattle.sg_parse.proofs.TookStatements.{SpellsRole, SpellsNode}
-use Rattle.sg_parse.proofs.TookGraph.{in_turn-flat}
+use Rattle.sg_parse.proofs.TookGraph.{in_turn-flat, regroup as behind}
 use Rattle.sg_parse.proofs.Sets.{rising-differ}
 use Rattle.sg_parse.proofs.Lexing.{Lexes, IsSeparate, lex-end, lex-space, lex-line, lex-colon, lex-semicolon, lex-arrow, lex-word}
 
@@ -183,11 +183,10 @@ canonical-spells g is two one =
       is_graph = is;
       two_roles = two;
       has_node = one;
-      of_variables = variables.0;
-      of_edges = edges.0;
-      variables = variables.1;
-      edges = edges.1;
-      spelled = text.go 0 ∙ settle roles.0 (flat_map role_tokens g.roles) variables.0 nodes.0 (flat_map (node_tokens g) g.nodes) (edges.0 ++ End ∷ []) (in_turn-flat role_tokens g.roles roles.0 roles.1) (in_turn-flat (node_tokens g) g.nodes nodes.0 nodes.1);
+      of_graph = head_tokens g.name ++ (flat_map role_tokens g.roles ++ (variables.0 ++ (flat_map (node_tokens g) g.nodes ++ edges.0)));
+      statements = record { of_variables = variables.0; of_edges = edges.0; variables = variables.1; edges = edges.1; spelled = refl };
+      spelled = text.go 0 ∙ settle roles.0 (flat_map role_tokens g.roles) variables.0 nodes.0 (flat_map (node_tokens g) g.nodes) (edges.0 ++ End ∷ []) (in_turn-flat role_tokens g.roles roles.0 roles.1) (in_turn-flat (node_tokens g) g.nodes nodes.0 nodes.1)
+          ∙ sym (behind (head_tokens g.name) (flat_map role_tokens g.roles) variables.0 (flat_map (node_tokens g) g.nodes) edges.0 (End ∷ []));
     }
   where
     regroup : (a b c d e : List ℕ) → a ++ b ++ c ++ d ++ e ≡ a ++ (b ++ (c ++ (d ++ (e ++ []))))

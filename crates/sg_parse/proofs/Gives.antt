@@ -1,5 +1,5 @@
 -- What tokens are read to, whatever follows them.
-use Rattle.std.proofs.Common.{◌≡◌, ℕ, ◌<◌, not, Bool, true, false, ◌&&◌, List, [], ◌∷◌, ◌++◌, length, get_or, codes, Ok, refl, ap, ◌∙◌, append_assoc, if◌then◌else◌}
+use Rattle.std.proofs.Common.{◌≡◌, ℕ, ◌<◌, not, Bool, true, false, ◌&&◌, List, [], ◌∷◌, ◌++◌, length, get_or, codes, Result, Ok, refl, ap, ◌∙◌, append_assoc, if◌then◌else◌}
 use Rattle.std.specs.List.{list_all}
 use Rattle.std.proofs.lemmas.Slice.Eq.{bytes_eq-Decides}
 use Rattle.std.proofs.lemmas.Bool.{and_parts}
@@ -7,10 +7,11 @@ use Rattle.sg_model.specs.Lists.{has_text, all_differ}
 use Rattle.sg_model.specs.Names.{Name, is_name, reserved}
 use Rattle.sg_protocol.specs.Graph.{VariableKind, Int, Text, kind_text, AreNames}
 use Rattle.sg_parse.specs.Tokens.{is_word}
-use Rattle.sg_parse.specs.Reading.{Parser, after, give, is_next, branch, token, skip, name, new_name, known_name, read_kind, fail}
+use Rattle.sg_parse.specs.Reading.{Parsed, Parser, after, give, is_next, branch, token, skip, name, new_name, known_name, read_kind, fail}
 use Rattle.sg_parse.specs.declared.token.TokenAt.{TokenAt}
 use Rattle.sg_parse.specs.declared.token.Token.{Token}
 use Rattle.sg_parse.specs.declared.token.Token.TheVariants.{Word}
+use Rattle.sg_parse.specs.declared.fault.ParseFault.{ParseFault}
 use Rattle.sg_parse.specs.declared.fault.ParseFault.TheVariants.{Twice}
 use Rattle.sg_parse.proofs.Took.{bare}
 use Rattle.sg_parse.proofs.Names.{named_there, index_there}
@@ -41,21 +42,25 @@ pub head-next : (test : Token → Bool) (ps : List TokenAt) → is_next test ps 
 head-next test [] = refl
 head-next test (p ∷ ps) = refl
 
-pub gives-first : {A : Type 0} (test : Token → Bool) (first second : Parser A) (ts us : List Token) (x : A) → head_is test (ts ++ us) ≡ true → Gives first ts us x → Gives (branch test first second) ts us x
-gives-first test first second ts us x h a = record {
+-- a branch reads what the one that is taken reads
+gives-branch : {A : Type 0} (b : Bool) (test : Token → Bool) (first second : Parser A) (ts us : List Token) (x : A) → head_is test (ts ++ us) ≡ b → Gives (if b then first else second) ts us x
+    → Gives (branch test first second) ts us x
+gives-branch {A = A} b test first second ts us x h a = record {
   go = λ ps e.
-      let is : is_next test ps ≡ true = head-next test ps ∙ ap (head_is test) e ∙ h in
+      let is : is_next test ps ≡ b = head-next test ps ∙ ap (head_is test) e ∙ h in
       let g = a.go ps e in
-      (g.0, g.1, rw is g.2);
+      (g.0, g.1, rw is (taken b ps (Ok (record { value = x; rest = g.0 })) g.2));
 }
+  where
+    taken : (b : Bool) (ps : List TokenAt) (o : Result (Parsed A) ParseFault) → (if b then first else second) ps ≡ o → (if b then first ps else second ps) ≡ o
+    taken true ps o e = e
+    taken false ps o e = e
+
+pub gives-first : {A : Type 0} (test : Token → Bool) (first second : Parser A) (ts us : List Token) (x : A) → head_is test (ts ++ us) ≡ true → Gives first ts us x → Gives (branch test first second) ts us x
+gives-first test first second ts us x h a = gives-branch true test first second ts us x h a
 
 pub gives-second : {A : Type 0} (test : Token → Bool) (first second : Parser A) (ts us : List Token) (x : A) → head_is test (ts ++ us) ≡ false → Gives second ts us x → Gives (branch test first second) ts us x
-gives-second test first second ts us x h a = record {
-  go = λ ps e.
-      let is : is_next test ps ≡ false = head-next test ps ∙ ap (head_is test) e ∙ h in
-      let g = a.go ps e in
-      (g.0, g.1, rw is g.2);
-}
+gives-second test first second ts us x h a = gives-branch false test first second ts us x h a
 
 pub gives-skip : (t : Token) (us : List Token) → Gives skip (t ∷ []) us tt
 gives-skip t us = record { go = go }

@@ -15,7 +15,7 @@ use Rattle.sg_parse.proofs.Took.{bare}
 use Rattle.sg_parse.proofs.Readings.{onward}
 use Rattle.sg_parse.proofs.TookStatements.{SpellsRole, SpellsNode}
 use Rattle.sg_parse.proofs.TookText.{adds, in_turn-map}
-use Rattle.sg_parse.proofs.TookGraph.{adds_roles, adds_variables, adds_nodes, adds_edges, graph_of, regroup}
+use Rattle.sg_parse.proofs.TookGraph.{adds_roles, adds_variables, adds_nodes, adds_edges, graph_of}
 use Rattle.sg_parse.proofs.Middle.{name-middle}
 use Rattle.sg_parse.proofs.Gives.{Gives, gives-give, gives-after, gives-token, gives-word, gives-first, name-there, head_is, head-next}
 use Rattle.sg_parse.proofs.GivesStatements.{gives-role, gives-variable, gives-node, gives-edge}
@@ -116,17 +116,17 @@ gives-nodes g m ns us is size h =
     (gives-up_to with_node SpellsNode (codes "node") read_node node_begins (λ g x y ts s. s) gives-node 255 (with_node g m) ns back us few all (flat-in_turn (node_tokens g) ns) h))
 
 -- the statements of a graph behind its name
-statements-read : (n x y : Name) (rs : List Name) (vs : List Variable) (m : Node) (ns : List Node) (es : List Edge) (ts us : List Token) → SpellsStatements (graph_of n (x ∷ y ∷ rs) vs (m ∷ ns) es) ts
+statements-read : (n x y : Name) (rs : List Name) (vs : List Variable) (m : Node) (ns : List Node) (es : List Edge) (ts us : List Token) → IsGraph (graph_of n (x ∷ y ∷ rs) vs (m ∷ ns) es)
+    → SpellsStatements (graph_of n (x ∷ y ∷ rs) vs (m ∷ ns) es) ts
     → head_is (is_word (codes "node")) us ≡ false → head_is (is_word (codes "edge")) us ≡ false
     → (back : List Token) × (ts ≡ head_tokens n ++ back) × Gives (read_statements (no_parts n)) back us (graph_of n (x ∷ y ∷ rs) vs (m ∷ ns) es)
-statements-read n x y rs vs m ns es ts us s no_node no_edge =
+statements-read n x y rs vs m ns es ts us is s no_node no_edge =
     let roles : List Name = x ∷ y ∷ rs in
     let nodes : List Node = m ∷ ns in
     let g : Graph = graph_of n roles vs nodes es in
     let g1 : Graph = graph_of n roles [] [] [] in
     let g2 : Graph = graph_of n roles vs [] [] in
     let g3 : Graph = graph_of n roles vs nodes [] in
-    let is = s.is_graph in
     let is1 : IsGraph g1 = record {
       named = is.named;
       role_names = is.role_names;
@@ -196,44 +196,26 @@ statements-read n x y rs vs m ns es ts us s no_node no_edge =
     edge_first e us h = record { written = h.written; read = h.read; writes = h.writes; reads = h.reads; spelled = h.spelled }
 
 -- the statements of a graph are read
-pub gives-statements : (g : Graph) (ts us : List Token) → SpellsStatements g ts → head_is (is_word (codes "node")) us ≡ false → head_is (is_word (codes "edge")) us ≡ false
+pub gives-statements : (g : Graph) (ts us : List Token) → IsGraph g → 2 ≤ length g.roles → 1 ≤ length g.nodes → SpellsStatements g ts → head_is (is_word (codes "node")) us ≡ false → head_is (is_word (codes "edge")) us ≡ false
     → (back : List Token) × (ts ≡ head_tokens g.name ++ back) × Gives (read_statements (no_parts g.name)) back us g
-gives-statements g ts us s no_node no_edge = go g.name g.roles g.variables g.nodes g.edges s
+gives-statements g ts us is two one s no_node no_edge = go g.name g.roles g.variables g.nodes g.edges is two one s
   where
-    go : (n : Name) (rs : List Name) (vs : List Variable) (ns : List Node) (es : List Edge) → SpellsStatements (graph_of n rs vs ns es) ts
+    go : (n : Name) (rs : List Name) (vs : List Variable) (ns : List Node) (es : List Edge) → IsGraph (graph_of n rs vs ns es) → 2 ≤ length rs → 1 ≤ length ns → SpellsStatements (graph_of n rs vs ns es) ts
         → (back : List Token) × (ts ≡ head_tokens n ++ back) × Gives (read_statements (no_parts n)) back us (graph_of n rs vs ns es)
-    go n [] vs ns es s = absurd (omega (arith, s.two_roles))
-    go n (x ∷ []) vs ns es s = absurd (omega (arith, s.two_roles))
-    go n (x ∷ y ∷ rs) vs [] es s = absurd (omega (arith, s.has_node))
-    go n (x ∷ y ∷ rs) vs (m ∷ ns) es s = statements-read n x y rs vs m ns es ts us s no_node no_edge
-
--- a text has the statements of its graph
-statements-of : (bs : List ℕ) (g : Graph) → SpellsGraph bs g → (ts : List Token) × SpellsStatements g ts × (bare (tokens bs) ≡ ts ++ End ∷ [])
-statements-of bs g s = (
-  head_tokens g.name ++ (flat_map role_tokens g.roles ++ (s.of_variables ++ (flat_map (node_tokens g) g.nodes ++ s.of_edges))),
-  record {
-    is_graph = s.is_graph;
-    two_roles = s.two_roles;
-    has_node = s.has_node;
-    of_variables = s.of_variables;
-    of_edges = s.of_edges;
-    variables = s.variables;
-    edges = s.edges;
-    spelled = refl;
-  },
-  s.spelled ∙ sym (regroup (head_tokens g.name) (flat_map role_tokens g.roles) s.of_variables (flat_map (node_tokens g) g.nodes) s.of_edges (End ∷ [])),
-)
+    go n [] vs ns es is two one s = absurd (omega (arith, two))
+    go n (x ∷ []) vs ns es is two one s = absurd (omega (arith, two))
+    go n (x ∷ y ∷ rs) vs [] es is two one s = absurd (omega (arith, one))
+    go n (x ∷ y ∷ rs) vs (m ∷ ns) es is two one s = statements-read n x y rs vs m ns es ts us is s no_node no_edge
 
 -- a graph that is spelled is read
 pub spells-read : (bs : List ℕ) (g : Graph) → SpellsGraph bs g → read bs ≡ Ok g
 spells-read bs g s =
     let end : List Token = End ∷ [] in
-    let t = statements-of bs g s in
-    let r = gives-statements g t.0 end t.1 refl refl in
+    let r = gives-statements g s.of_graph end s.is_graph s.two_roles s.has_node s.statements refl refl in
     let free = name-middle [] g.name [] s.is_graph.named in
     let last : Gives (after read_end (λ _. give g)) [] end g = gives-after read_end (λ _. give g) [] [] end tt g (gives-first is_end (give tt) _ [] end tt refl (gives-give tt end)) (gives-give g end) in
     let behind : Gives (after (read_statements (no_parts g.name)) (λ g. after read_end λ _. give g)) (r.0 ++ []) end g = gives-after (read_statements (no_parts g.name)) _ r.0 [] end g g r.2 last in
     let text : Gives read_text (head_tokens g.name ++ (r.0 ++ [])) end g = gives-after read_head _ (head_tokens g.name) (r.0 ++ []) end (no_parts g.name) g (gives-head g.name ((r.0 ++ []) ++ end) free.0) behind in
-    let spelled : bare (tokens bs) ≡ (head_tokens g.name ++ (r.0 ++ [])) ++ end = t.2 ∙ ap (λ l. l ++ end) (r.1 ∙ ap (λ l. head_tokens g.name ++ l) (sym (append-nil r.0))) in
+    let spelled : bare (tokens bs) ≡ (head_tokens g.name ++ (r.0 ++ [])) ++ end = s.spelled ∙ ap (λ l. l ++ end) (r.1 ∙ ap (λ l. head_tokens g.name ++ l) (sym (append-nil r.0))) in
     let all = text.go (tokens bs) spelled in
     ap whole all.2

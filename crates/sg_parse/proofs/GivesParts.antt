@@ -1,22 +1,20 @@
 -- Parts that are spelled are read.
-use Rattle.std.proofs.Common.{◌≡◌, ℕ, zero, suc, ◌+◌, ◌<◌, ◌≤◌, ◌==◌, not, Bool, true, false, ◌&&◌, ◌||◌, inl, inr, List, [], ◌∷◌, ◌++◌, length, get_or, codes, bytes_eq, Ok, refl, sym, ap, subst, ◌∙◌, arith, append_assoc, append-nil, length-append, flat_map, if◌then◌else◌}
+use Rattle.std.proofs.Common.{◌≡◌, ℕ, zero, suc, ◌+◌, ◌<◌, ◌≤◌, ◌==◌, not, Bool, true, false, ◌&&◌, ◌||◌, List, [], ◌∷◌, ◌++◌, length, get_or, codes, bytes_eq, Ok, refl, sym, ap, subst, ◌∙◌, arith, append_assoc, append-nil, length-append, flat_map, if◌then◌else◌}
 use Rattle.std.specs.Prelude.{All, Some, slice_get}
 use Rattle.std.specs.List.{list_all}
-use Rattle.std.proofs.lemmas.Bool.{eq-eqb, cases_Bool, not-true, and_parts}
-use Rattle.std.proofs.lemmas.Bool.Decides.{nat_tests}
+use Rattle.std.proofs.lemmas.Bool.{not-true, and_parts}
 use Rattle.std.proofs.lemmas.List.{length-map, map-append, get_or-map}
 use Rattle.std.proofs.lemmas.List.Folds.{list_any-append}
-use Rattle.sg_model.specs.Lists.{has_text, is_in, all_differ}
+use Rattle.sg_model.specs.Lists.{has_text, all_differ}
 use Rattle.sg_model.specs.Names.{Name, is_name, reserved}
-use Rattle.sg_model.proofs.Numbers.{is_in-more}
-use Rattle.sg_model.proofs.Small.{or_true, first_false}
+use Rattle.sg_model.proofs.Small.{first_false}
 use Rattle.sg_protocol.specs.Graph.{Graph, IsGraph, Node, AreNames, node_name}
 use Rattle.sg_graph.specs.Adding.{no_parts}
 use Rattle.sg_graph.specs.Parts.{node_names}
-use Rattle.sg_parse.specs.Grammar.{named, differ, head_tokens, role_tokens, node_tokens, InTurn, Done, Then, SpellsStatements}
+use Rattle.sg_parse.specs.Grammar.{named, head_tokens, role_tokens, node_tokens, InTurn, Done, Then, SpellsStatements}
 use Rattle.sg_parse.specs.Parts.{Part, Use, IsUse, IsPart, AreParts, part_names, use_names}
 use Rattle.sg_parse.specs.PartsGrammar.{use_tokens, SpellsPart, SpellsParts}
-use Rattle.sg_parse.specs.PartsReading.{more_indices, some_indices, repeat, read_use, read_uses, read_part_head, read_part, read_parts, read}
+use Rattle.sg_parse.specs.PartsReading.{some_indices, repeat, read_use, read_uses, read_part_head, read_part, read_parts, read}
 use Rattle.sg_parse.specs.Tokens.{Part as Region, tokens, tokens_from, leading, begun, part_of, goes_on, is_last, is_separator, seen_as, part_tokens, is_word, is_named, is_colon, is_semicolon, is_arrow, is_use, is_as, is_end}
 use Rattle.sg_parse.specs.Reading.{after, give, is_next, token, new_name, known_name, read_statements, read_end, whole}
 use Rattle.sg_parse.specs.declared.token.TokenAt.{TokenAt}
@@ -24,52 +22,12 @@ use Rattle.sg_parse.specs.declared.token.Token.{Token}
 use Rattle.sg_parse.specs.declared.token.Language.TheVariants.{OfParts}
 use Rattle.sg_parse.specs.declared.token.Token.TheVariants.{Word, Colon, Semicolon, Arrow, Use as UseWord, As, End}
 use Rattle.sg_parse.proofs.Took.{bare}
-use Rattle.sg_parse.proofs.Names.{named_there, index_there}
 use Rattle.sg_parse.proofs.Middle.{name-at, name-middle}
 use Rattle.sg_parse.proofs.Gives.{Gives, gives-give, gives-after, gives-token, gives-word, gives-new, gives-known, gives-first, head_is, head-next}
 use Rattle.sg_parse.proofs.GivesGraph.{gives-statements}
+use Rattle.sg_parse.proofs.GivesIndices.{gives-indices}
 use Rattle.sg_parse.proofs.TookParts.{uses-behind}
 use Rattle.sg_parse.proofs.Indices.{repeat-there, repeat-away}
-
--- ---- indices
-
-module _ (names : List Name) (are : AreNames names) where
-  more-there : (order indices : List ℕ) (us : List Token) (ps : List TokenAt) → All (λ r. r < length names) order → differ order ≡ true → ((n : ℕ) → is_in n order ≡ true → is_in n indices ≡ false)
-      → head_is is_named us ≡ false → bare ps ≡ named names order ++ us
-      → (rest : List TokenAt) × (bare rest ≡ us) × (more_indices names indices ps ≡ Ok (record { value = indices ++ order; rest = rest }))
-  more-there [] indices us [] below once apart h e = ([], e, ap (λ l. Ok (record { value = l; rest = [] })) (sym (append-nil indices)))
-  more-there [] indices us (p ∷ ps) below once apart h e =
-      let away : is_named p.token ≡ false = ap (head_is is_named) e ∙ h in
-      (p ∷ ps, e, rw away (ap (λ l. Ok (record { value = l; rest = p ∷ ps })) (sym (append-nil indices))))
-  more-there (x ∷ xs) indices us [] below once apart h e = absurd (cc)
-  more-there (x ∷ xs) indices us (p ∷ ps) below once apart h e =
-      let l : x < length names = below 0 x (omega arith) in
-      let tok : p.token ≡ Word (get_or names x []) = cc in
-      let rest : bare ps ≡ named names xs ++ us = cc in
-      let parts = and_parts (list_all (λ n. is_name n && not (has_text n reserved)) names) (all_differ names) are in
-      let free : has_text (get_or names x []) reserved ≡ false = name-at names x l parts.0 in
-      let same : (x == x) ≡ true = eq-eqb x x refl in
-      let new : is_in x indices ≡ false = apart x (rw same refl) in
-      let once' = and_parts (not (is_in x xs)) (differ xs) once in
-      let out : is_in x xs ≡ false = not-true (is_in x xs) once'.0 in
-      let r = more-there xs (indices ++ x ∷ []) us ps (λ k d l. below (suc k) d (omega (arith, l))) once'.1 (λ n i. is_in-more n x indices ∙ rw (apart n (rw i (or_true (x == n)))) (other n i out)) h rest in
-      (r.0, r.1, rw (tok, free, named_there names x l, index_there names x parts.1 l, new) (r.2 ∙ ap (λ l. Ok (record { value = l; rest = r.0 })) (append_assoc indices (x ∷ []) xs)))
-    where
-      other : (n : ℕ) → is_in n xs ≡ true → is_in x xs ≡ false → (x == n) ≡ false
-      other n i out = elim (cases_Bool (x == n)) [
-        | inl y ↦ (let same : x ≡ n = grind (arith, nat_tests, y) in let clash : is_in n xs ≡ false = subst (λ m. is_in m xs ≡ false) same out in absurd (cc))
-        | inr d ↦ d
-      ]
-
-  gives-indices : (order : List ℕ) (us : List Token) → 1 ≤ length order → All (λ r. r < length names) order → differ order ≡ true → head_is is_named us ≡ false
-      → Gives (some_indices names) (named names order) us order
-  gives-indices [] us some below once h = absurd (omega (arith, some))
-  gives-indices (x ∷ xs) us some below once h =
-      let parts = and_parts (list_all (λ n. is_name n && not (has_text n reserved)) names) (all_differ names) are in
-      let free : has_text (get_or names x []) reserved ≡ false = name-at names x (below 0 x (omega arith)) parts.0 in
-      let begins : head_is is_named (named names (x ∷ xs) ++ us) ≡ true = rw free refl in
-      let more : Gives (more_indices names []) (named names (x ∷ xs)) us (x ∷ xs) = record { go = λ ps e. more-there (x ∷ xs) [] us ps below once (λ n i. refl) h e } in
-      gives-first is_named (more_indices names []) _ (named names (x ∷ xs)) us (x ∷ xs) begins more
 
 -- ---- uses
 
@@ -94,9 +52,12 @@ gives-use names g uses u us are is f free new =
     (gives-after (known_name (node_names g)) _ (Word (node_name g u.to) ∷ []) (As ∷ back) us u.to end
     (subst (λ w. Gives (known_name (node_names g)) (Word w ∷ []) ((As ∷ back) ++ us) u.to) to_word (gives-known (node_names g) u.to _ is.node_names to))
     (gives-after (token is_as) _ (As ∷ []) back us tt end (gives-token is_as As _ refl)
-    (gives-after (some_indices g.roles) _ roles (Semicolon ∷ []) us u.roles end (gives-indices g.roles is.role_names u.roles (Semicolon ∷ us) f.some f.roles f.differ refl)
+    (gives-after (some_indices is_named g.roles) _ roles (Semicolon ∷ []) us u.roles end (gives-indices is_named g.roles is.role_names u.roles (Semicolon ∷ us) f.some f.roles role_word f.differ refl)
     (gives-after (token is_semicolon) _ (Semicolon ∷ []) [] us tt end (gives-token is_semicolon Semicolon _ refl) (gives-give end us))))))))))
   where
+    role_word : All (λ r. is_named (Word (get_or g.roles r [])) ≡ true) u.roles
+    role_word k d l = ap not (name-at g.roles (get_or u.roles k d) (f.roles k d l) (and_parts (list_all (λ n. is_name n && not (has_text n reserved)) g.roles) (all_differ g.roles) is.role_names).0)
+
     node_at' : (n : ℕ) → n < length g.nodes → get_or (node_names g) n [] ≡ node_name g n
     node_at' n l = get_or-map (λ (v : Node). v.name) g.nodes n _ [] l
 
@@ -148,12 +109,12 @@ gives-part bytes parts p ts us are is s new few no_node no_edge no_use =
     let ut : List Token = flat_map (use_tokens names p.graph) p.uses in
     let many : length parts ≡ length names = sym (length-map parts (λ (p : Part). p.graph.name)) in
     let all : All (IsUse (length names) p.graph) p.uses = subst (λ k. All (IsUse k p.graph) p.uses) many is.uses in
-    let g = gives-statements p.graph s.of_graph (ut ++ us) s.graph (uses-ahead (is_word (codes "node")) names p.graph p.uses us refl no_node) (uses-ahead (is_word (codes "edge")) names p.graph p.uses us refl no_edge) in
+    let g = gives-statements p.graph s.of_graph (ut ++ us) is.graph is.two_roles is.has_node s.graph (uses-ahead (is_word (codes "node")) names p.graph p.uses us refl no_node) (uses-ahead (is_word (codes "edge")) names p.graph p.uses us refl no_edge) in
     let lengths : length ts ≡ length s.of_graph + length ut = ap length s.spelled ∙ length-append s.of_graph ut in
     let fit : length p.uses ≤ bytes = omega (arith, uses-few names p.graph p.uses, lengths, few) in
     let uses : Gives (read_uses bytes names p.graph) ut us p.uses = gives-uses names p.graph bytes [] p.uses us are is.graph fit all is.names no_use in
     let end : List Part = parts ++ p ∷ [] in
-    let free = name-middle [] p.graph.name [] (s.graph).is_graph.named in
+    let free = name-middle [] p.graph.name [] is.graph.named in
     let last : Gives (after (read_uses bytes names p.graph) (λ uses. give (parts ++ record { graph = p.graph; uses = uses } ∷ []))) (ut ++ []) us end =
     gives-after (read_uses bytes names p.graph) (λ uses. give (parts ++ record { graph = p.graph; uses = uses } ∷ [])) ut [] us p.uses end uses (gives-give end us) in
     let behind : Gives (after (read_statements (no_parts p.graph.name)) (λ g. after (read_uses bytes names g) λ uses. give (parts ++ record { graph = g; uses = uses } ∷ []))) (g.0 ++ (ut ++ [])) us end =

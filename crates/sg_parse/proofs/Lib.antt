@@ -2,6 +2,7 @@ pub mod Agrees
 pub mod Canonical
 pub mod Gives
 pub mod GivesGraph
+pub mod GivesIndices
 pub mod GivesParts
 pub mod GivesSets
 pub mod GivesStatements
@@ -19,6 +20,7 @@ pub mod Sets
 pub mod Sound
 pub mod Took
 pub mod TookGraph
+pub mod TookIndices
 pub mod TookParts
 pub mod TookSets
 pub mod TookStatements

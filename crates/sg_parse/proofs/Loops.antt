@@ -1,9 +1,9 @@
 -- Statements one after the other, as a loop reads them.
-use Rattle.std.proofs.Common.{◌≡◌, ℕ, zero, suc, ◌+◌, ◌-◌, ◌<◌, ◌≤◌, true, false, List, Result, Ok, Err, refl, sym, ap, ◌∙◌, arith}
+use Rattle.std.proofs.Common.{◌≡◌, ℕ, zero, suc, ◌+◌, ◌-◌, ◌<◌, ◌≤◌, true, false, List, Result, Ok, Err, refl, sym, ap, subst, ◌∙◌, arith}
 use Rattle.sg_protocol.specs.Graph.{Graph}
 use Rattle.sg_parse.specs.Owed.{Refuses, ReadsInto, Reads}
 use Rattle.sg_parse.specs.Tokens.{is_word}
-use Rattle.sg_parse.specs.Reading.{Parsed, Parser, on, give, is_next, statement, up_to, no_more}
+use Rattle.sg_parse.specs.Reading.{Parsed, Parser, on, give, is_next, token, statement, up_to, no_more}
 use Rattle.sg_parse.specs.declared.token.TokenAt.{TokenAt}
 use Rattle.sg_parse.specs.declared.fault.ParseFault.{ParseFault}
 use Rattle.sg_parse.specs.declared.fault.ParseFault.TheVariants.{BadByte, Unexpected, UnknownName, Twice, TooMany, OutOfMemory}
@@ -18,6 +18,18 @@ refuses r s (Twice at) k h = k h
 refuses r s (TooMany at) k h = k h
 
 module _ (first : List ℕ) (reader : Graph → Parser Graph) where
+  -- a statement's first word, and what is read after it
+  pub statement_read : {X : Type 0} (w : List ℕ) (g h : Graph) (ps qs rs : List TokenAt) (result : Result X ParseFault) → w ≡ first → token (is_word w) ps ≡ Ok (record { value = tt; rest = qs })
+      → ReadsInto (reader g) qs rs h result → ReadsInto (statement first reader g) ps rs h result
+  statement_read {X = X} w g h ps qs rs result same word read = go result read
+    where
+      goes_on : statement first reader g ps ≡ reader g qs
+      goes_on = ap (λ r. on r (λ _. reader g)) (subst (λ w. token (is_word w) ps ≡ Ok (record { value = tt; rest = qs })) same word)
+
+      go : (result : Result X ParseFault) → ReadsInto (reader g) qs rs h result → ReadsInto (statement first reader g) ps rs h result
+      go (Ok x) read = goes_on ∙ read
+      go (Err e) read = refuses (reader g qs) (statement first reader g ps) e (λ k. goes_on ∙ k) read
+
   -- the word is there, so a statement is read
   pub up_to-there : (n : ℕ) (g : Graph) (ps : List TokenAt) → is_next (is_word first) ps ≡ true → up_to (suc n) first reader g ps ≡ on (statement first reader g ps) (up_to n first reader)
   unfolding up_to

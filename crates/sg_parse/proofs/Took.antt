@@ -9,7 +9,7 @@ use Rattle.sg_parse.specs.Reading as Reading
 use Rattle.sg_parse.specs.Reading.{Parsed, Parser, on, after, give, is_next, branch, token, skip, word, name, new_name, known_name, index_of}
 use Rattle.sg_parse.specs.declared.token.TokenAt.{TokenAt}
 use Rattle.sg_parse.specs.declared.token.Token.{Token}
-use Rattle.sg_parse.specs.declared.token.Token.TheVariants.{Word, Colon, Semicolon, Arrow, Use, As, End, Long, Bad}
+use Rattle.sg_parse.specs.declared.token.Token.TheVariants.{Word, Colon, Semicolon, Arrow, Use, As, End}
 use Rattle.sg_parse.specs.declared.fault.ParseFault.{ParseFault}
 use Rattle.sg_parse.specs.declared.fault.ParseFault.TheVariants.{Twice, UnknownName}
 use Rattle.sg_parse.proofs.Sound.{IsSpelled, Sound}
@@ -68,94 +68,38 @@ took-token test t (p ∷ ps) o only s h = pick (test p.token) refl h
 
 pub only-word : (w : List ℕ) (u : Token) → is_word w u ≡ true → u ≡ Word w
 only-word w (Word v) h = ap Word ((bytes_eq-Decides v w).0 h)
-only-word w Colon h = absurd (cc)
-only-word w Semicolon h = absurd (cc)
-only-word w Arrow h = absurd (cc)
-only-word w Use h = absurd (cc)
-only-word w As h = absurd (cc)
-only-word w End h = absurd (cc)
-only-word w Long h = absurd (cc)
-only-word w Bad h = absurd (cc)
+only-word w u h = absurd (cc)
 
 pub only-colon : (u : Token) → is_colon u ≡ true → u ≡ Colon
-only-colon (Word v) h = absurd (cc)
 only-colon Colon h = refl
-only-colon Semicolon h = absurd (cc)
-only-colon Arrow h = absurd (cc)
-only-colon Use h = absurd (cc)
-only-colon As h = absurd (cc)
-only-colon End h = absurd (cc)
-only-colon Long h = absurd (cc)
-only-colon Bad h = absurd (cc)
+only-colon u h = absurd (cc)
 
 pub only-semicolon : (u : Token) → is_semicolon u ≡ true → u ≡ Semicolon
-only-semicolon (Word v) h = absurd (cc)
-only-semicolon Colon h = absurd (cc)
 only-semicolon Semicolon h = refl
-only-semicolon Arrow h = absurd (cc)
-only-semicolon Use h = absurd (cc)
-only-semicolon As h = absurd (cc)
-only-semicolon End h = absurd (cc)
-only-semicolon Long h = absurd (cc)
-only-semicolon Bad h = absurd (cc)
+only-semicolon u h = absurd (cc)
 
 pub only-arrow : (u : Token) → is_arrow u ≡ true → u ≡ Arrow
-only-arrow (Word v) h = absurd (cc)
-only-arrow Colon h = absurd (cc)
-only-arrow Semicolon h = absurd (cc)
 only-arrow Arrow h = refl
-only-arrow Use h = absurd (cc)
-only-arrow As h = absurd (cc)
-only-arrow End h = absurd (cc)
-only-arrow Long h = absurd (cc)
-only-arrow Bad h = absurd (cc)
+only-arrow u h = absurd (cc)
 
 pub only-use : (u : Token) → is_use u ≡ true → u ≡ Use
-only-use (Word v) h = absurd (cc)
-only-use Colon h = absurd (cc)
-only-use Semicolon h = absurd (cc)
-only-use Arrow h = absurd (cc)
 only-use Use h = refl
-only-use As h = absurd (cc)
-only-use End h = absurd (cc)
-only-use Long h = absurd (cc)
-only-use Bad h = absurd (cc)
+only-use u h = absurd (cc)
 
 pub only-as : (u : Token) → is_as u ≡ true → u ≡ As
-only-as (Word v) h = absurd (cc)
-only-as Colon h = absurd (cc)
-only-as Semicolon h = absurd (cc)
-only-as Arrow h = absurd (cc)
-only-as Use h = absurd (cc)
 only-as As h = refl
-only-as End h = absurd (cc)
-only-as Long h = absurd (cc)
-only-as Bad h = absurd (cc)
+only-as u h = absurd (cc)
 
 pub only-end : (u : Token) → is_end u ≡ true → u ≡ End
-only-end (Word v) h = absurd (cc)
-only-end Colon h = absurd (cc)
-only-end Semicolon h = absurd (cc)
-only-end Arrow h = absurd (cc)
-only-end Use h = absurd (cc)
-only-end As h = absurd (cc)
 only-end End h = refl
-only-end Long h = absurd (cc)
-only-end Bad h = absurd (cc)
+only-end u h = absurd (cc)
 
 -- ---- names
 
 -- a token that is a name, as its bytes
 pub named-word : (t : Token) → IsSpelled t → is_named t ≡ true → (t ≡ Word (text_of t)) × (is_name (text_of t) ≡ true) × (has_text (text_of t) reserved ≡ false)
 named-word (Word v) s h = (refl, s, not-true (has_text v reserved) h)
-named-word Colon s h = absurd (cc)
-named-word Semicolon s h = absurd (cc)
-named-word Arrow s h = absurd (cc)
-named-word Use s h = absurd (cc)
-named-word As s h = absurd (cc)
-named-word End s h = absurd (cc)
-named-word Long s h = absurd (cc)
-named-word Bad s h = absurd (cc)
+named-word t s h = absurd (cc)
 
 -- a name
 pub took-name : (ps : List TokenAt) (o : Parsed (Name × ℕ)) → Sound ps → name ps ≡ Ok o → Took ps o (Word o.value.0 ∷ []) × (is_name o.value.0 ≡ true) × (has_text o.value.0 reserved ≡ false)

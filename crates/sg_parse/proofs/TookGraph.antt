@@ -10,7 +10,7 @@ use Rattle.sg_parse.specs.Reading as Reading
 use Rattle.sg_parse.specs.Reading.{Parsed, Parser, on, after, give, is_next, branch, token, name, read_role, read_variable, read_node, read_edge, read_head, read_roles, read_variables, read_nodes, read_edges, read_end, read_statements, read_text, statement, up_to, whole, read}
 use Rattle.sg_parse.specs.declared.token.TokenAt.{TokenAt}
 use Rattle.sg_parse.specs.declared.token.Token.{Token}
-use Rattle.sg_parse.specs.declared.token.Token.TheVariants.{Word, Colon, Semicolon, Arrow, Use, As, End, Long, Bad}
+use Rattle.sg_parse.specs.declared.token.Token.TheVariants.{Word, Semicolon, End}
 use Rattle.sg_parse.specs.declared.fault.ParseFault.{ParseFault}
 use Rattle.sg_parse.proofs.Sound.{Sound, sound-tokens}
 use Rattle.sg_parse.proofs.Took.{Took, bare, ok_same, err_ok, on-inv, branch-inv, took-both, took-give, took-token, took-name, only-word, only-semicolon, only-end}
@@ -22,47 +22,32 @@ one_longer xs x = let l : length (xs ++ x ∷ []) ≡ length xs + length (x ∷ 
 
 -- ---- each kind of part
 
-role_grows : (g : Graph) (x : Name) → length (with_role g x).roles ≡ suc (length g.roles)
-role_grows g x = one_longer g.roles x
+-- parts of one kind stand in a list of the graph's, which another list may replace: so those added one after the other stand behind those before
+module _ {A : Type 0} (parts : Graph → List A) (having : Graph → List A → Graph) (own : (g : Graph) → having g (parts g) ≡ g)
+    (had : (g : Graph) (xs : List A) → parts (having g xs) ≡ xs) (again : (g : Graph) (xs ys : List A) → having (having g xs) ys ≡ having g ys) where
+  adds_parts : (g : Graph) (xs : List A) → adds (λ g x. having g (parts g ++ x ∷ [])) g xs ≡ having g (parts g ++ xs)
+  adds_parts g [] = sym (own g) ∙ ap (having g) (sym (append-nil (parts g)))
+  adds_parts g (x ∷ xs) =
+      let h : Graph = having g (parts g ++ x ∷ []) in
+      adds_parts h xs ∙ again g (parts g ++ x ∷ []) (parts h ++ xs) ∙ ap (λ l. having g (l ++ xs)) (had g (parts g ++ x ∷ [])) ∙ ap (having g) (append_assoc (parts g) (x ∷ []) xs)
 
-role_stays : (g : Graph) (x y : Name) (ts : List Token) → SpellsRole (with_role g x) y ts → SpellsRole g y ts
-role_stays g x y ts h = h
+pub adds_roles : (g : Graph) (xs : List Name) → adds with_role g xs ≡ record g { roles = g.roles ++ xs }
+adds_roles = adds_parts (λ g. g.roles) (λ g xs. record g { roles = xs }) (λ g. refl) (λ g xs. refl) (λ g xs ys. refl)
 
-variable_grows : (g : Graph) (x : Variable) → length (with_variable g x).variables ≡ suc (length g.variables)
-variable_grows g x = one_longer g.variables x
+pub adds_variables : (g : Graph) (xs : List Variable) → adds with_variable g xs ≡ record g { variables = g.variables ++ xs }
+adds_variables = adds_parts (λ g. g.variables) (λ g xs. record g { variables = xs }) (λ g. refl) (λ g xs. refl) (λ g xs ys. refl)
 
 variable_stays : (g : Graph) (x y : Variable) (ts : List Token) → SpellsVariable (with_variable g x) y ts → SpellsVariable g y ts
 variable_stays g x y ts h = record { order = h.order; writers = h.writers; spelled = h.spelled }
 
-node_grows : (g : Graph) (x : Node) → length (with_node g x).nodes ≡ suc (length g.nodes)
-node_grows g x = one_longer g.nodes x
+pub adds_nodes : (g : Graph) (xs : List Node) → adds with_node g xs ≡ record g { nodes = g.nodes ++ xs }
+adds_nodes = adds_parts (λ g. g.nodes) (λ g xs. record g { nodes = xs }) (λ g. refl) (λ g xs. refl) (λ g xs ys. refl)
 
-node_stays : (g : Graph) (x y : Node) (ts : List Token) → SpellsNode (with_node g x) y ts → SpellsNode g y ts
-node_stays g x y ts h = h
-
-edge_grows : (g : Graph) (x : Edge) → length (with_edge g x).edges ≡ suc (length g.edges)
-edge_grows g x = one_longer g.edges x
+pub adds_edges : (g : Graph) (xs : List Edge) → adds with_edge g xs ≡ record g { edges = g.edges ++ xs }
+adds_edges = adds_parts (λ g. g.edges) (λ g xs. record g { edges = xs }) (λ g. refl) (λ g xs. refl) (λ g xs ys. refl)
 
 edge_stays : (g : Graph) (x y : Edge) (ts : List Token) → SpellsEdge (with_edge g x) y ts → SpellsEdge g y ts
 edge_stays g x y ts h = record { written = h.written; read = h.read; writes = h.writes; reads = h.reads; spelled = h.spelled }
-
--- ---- the graph with all parts
-
-pub adds_roles : (g : Graph) (xs : List Name) → adds with_role g xs ≡ record g { roles = g.roles ++ xs }
-adds_roles g [] = ap (λ l. record g { roles = l }) (sym (append-nil g.roles))
-adds_roles g (x ∷ xs) = adds_roles (with_role g x) xs ∙ ap (λ l. record g { roles = l }) (append_assoc g.roles (x ∷ []) xs)
-
-pub adds_variables : (g : Graph) (xs : List Variable) → adds with_variable g xs ≡ record g { variables = g.variables ++ xs }
-adds_variables g [] = ap (λ l. record g { variables = l }) (sym (append-nil g.variables))
-adds_variables g (x ∷ xs) = adds_variables (with_variable g x) xs ∙ ap (λ l. record g { variables = l }) (append_assoc g.variables (x ∷ []) xs)
-
-pub adds_nodes : (g : Graph) (xs : List Node) → adds with_node g xs ≡ record g { nodes = g.nodes ++ xs }
-adds_nodes g [] = ap (λ l. record g { nodes = l }) (sym (append-nil g.nodes))
-adds_nodes g (x ∷ xs) = adds_nodes (with_node g x) xs ∙ ap (λ l. record g { nodes = l }) (append_assoc g.nodes (x ∷ []) xs)
-
-pub adds_edges : (g : Graph) (xs : List Edge) → adds with_edge g xs ≡ record g { edges = g.edges ++ xs }
-adds_edges g [] = ap (λ l. record g { edges = l }) (sym (append-nil g.edges))
-adds_edges g (x ∷ xs) = adds_edges (with_edge g x) xs ∙ ap (λ l. record g { edges = l }) (append_assoc g.edges (x ∷ []) xs)
 
 -- statements that are determined, in turn
 pub in_turn-flat : {A : Type 0} (f : A → List Token) (xs : List A) (ts : List Token) → InTurn (λ x us. us ≡ f x) xs ts → ts ≡ flat_map f xs
@@ -91,18 +76,18 @@ took-roles : (g : Graph) (ps : List TokenAt) (o : Parsed Graph) → IsGraph g �
 took-roles g ps o is none s h =
     let a = on-inv (statement (codes "role") read_role g ps) _ o h in
     let room : length g.roles < 16 = omega (arith, none) in
-    let one = took-statement with_role SpellsRole (codes "role") read_role (λ g. length g.roles) 16 role_grows role_stays took-role g ps a.0 is room s a.1 in
+    let one = took-statement with_role SpellsRole (codes "role") read_role (λ g. length g.roles) 16 (λ g x. one_longer g.roles x) (λ g x y ts h. h) took-role g ps a.0 is room s a.1 in
     let is' : IsGraph (a.0).value = subst IsGraph one.2 one.3 in
-    let grown : length (a.0).value.roles ≡ 1 = subst (λ k. length k.roles ≡ 1) one.2 (role_grows g one.0 ∙ ap suc none) in
+    let grown : length (a.0).value.roles ≡ 1 = subst (λ k. length k.roles ≡ 1) one.2 (one_longer g.roles one.0 ∙ ap suc none) in
     let b = on-inv (statement (codes "role") read_role (a.0).value (a.0).rest) _ o a.2 in
     let room' : length (a.0).value.roles < 16 = omega (arith, grown) in
-    let two = took-statement with_role SpellsRole (codes "role") read_role (λ g. length g.roles) 16 role_grows role_stays took-role (a.0).value (a.0).rest b.0 is' room' (one.5).sound b.1 in
+    let two = took-statement with_role SpellsRole (codes "role") read_role (λ g. length g.roles) 16 (λ g x. one_longer g.roles x) (λ g x y ts h. h) took-role (a.0).value (a.0).rest b.0 is' room' (one.5).sound b.1 in
     let is'' : IsGraph (b.0).value = subst IsGraph two.2 two.3 in
-    let grown' : length (b.0).value.roles ≡ 2 = subst (λ k. length k.roles ≡ 2) two.2 (role_grows (a.0).value two.0 ∙ ap suc grown) in
+    let grown' : length (b.0).value.roles ≡ 2 = subst (λ k. length k.roles ≡ 2) two.2 (one_longer (a.0).value.roles two.0 ∙ ap suc grown) in
     let room'' : length (b.0).value.roles + 14 ≤ 16 = omega (arith, grown') in
-    let more = took-up_to with_role SpellsRole (codes "role") read_role (λ g. length g.roles) 16 role_grows role_stays took-role 14 (b.0).value (b.0).rest o is'' room'' (two.5).sound b.2 in
-    let both = one_ran with_role SpellsRole (codes "role") read_role (λ g. length g.roles) 16 role_grows role_stays took-role (a.0).value (a.0).rest b.0 o two.0 two.1 two.2 two.4 two.5 more in
-    let all = one_ran with_role SpellsRole (codes "role") read_role (λ g. length g.roles) 16 role_grows role_stays took-role g ps a.0 o one.0 one.1 one.2 one.4 one.5 both in
+    let more = took-up_to with_role SpellsRole (codes "role") read_role (λ g. length g.roles) 16 (λ g x. one_longer g.roles x) (λ g x y ts h. h) took-role 14 (b.0).value (b.0).rest o is'' room'' (two.5).sound b.2 in
+    let both = one_ran with_role SpellsRole (codes "role") read_role (λ g. length g.roles) 16 (λ g x. one_longer g.roles x) (λ g x y ts h. h) took-role (a.0).value (a.0).rest b.0 o two.0 two.1 two.2 two.4 two.5 more in
+    let all = one_ran with_role SpellsRole (codes "role") read_role (λ g. length g.roles) 16 (λ g x. one_longer g.roles x) (λ g x y ts h. h) took-role g ps a.0 o one.0 one.1 one.2 one.4 one.5 both in
     (all, omega arith)
 
 took-nodes : (g : Graph) (ps : List TokenAt) (o : Parsed Graph) → IsGraph g → length g.nodes ≡ 0 → Sound ps → read_nodes g ps ≡ Ok o
@@ -110,12 +95,12 @@ took-nodes : (g : Graph) (ps : List TokenAt) (o : Parsed Graph) → IsGraph g �
 took-nodes g ps o is none s h =
     let a = on-inv (statement (codes "node") read_node g ps) _ o h in
     let room : length g.nodes < 256 = omega (arith, none) in
-    let one = took-statement with_node SpellsNode (codes "node") read_node (λ g. length g.nodes) 256 node_grows node_stays took-node g ps a.0 is room s a.1 in
+    let one = took-statement with_node SpellsNode (codes "node") read_node (λ g. length g.nodes) 256 (λ g x. one_longer g.nodes x) (λ g x y ts h. h) took-node g ps a.0 is room s a.1 in
     let is' : IsGraph (a.0).value = subst IsGraph one.2 one.3 in
-    let grown : length (a.0).value.nodes ≡ 1 = subst (λ k. length k.nodes ≡ 1) one.2 (node_grows g one.0 ∙ ap suc none) in
+    let grown : length (a.0).value.nodes ≡ 1 = subst (λ k. length k.nodes ≡ 1) one.2 (one_longer g.nodes one.0 ∙ ap suc none) in
     let room' : length (a.0).value.nodes + 255 ≤ 256 = omega (arith, grown) in
-    let more = took-up_to with_node SpellsNode (codes "node") read_node (λ g. length g.nodes) 256 node_grows node_stays took-node 255 (a.0).value (a.0).rest o is' room' (one.5).sound a.2 in
-    let all = one_ran with_node SpellsNode (codes "node") read_node (λ g. length g.nodes) 256 node_grows node_stays took-node g ps a.0 o one.0 one.1 one.2 one.4 one.5 more in
+    let more = took-up_to with_node SpellsNode (codes "node") read_node (λ g. length g.nodes) 256 (λ g x. one_longer g.nodes x) (λ g x y ts h. h) took-node 255 (a.0).value (a.0).rest o is' room' (one.5).sound a.2 in
+    let all = one_ran with_node SpellsNode (codes "node") read_node (λ g. length g.nodes) 256 (λ g x. one_longer g.nodes x) (λ g x y ts h. h) took-node g ps a.0 o one.0 one.1 one.2 one.4 one.5 more in
     (all, omega arith)
 
 -- the end of the text
@@ -124,15 +109,8 @@ took-end [] o s h = absurd (cc)
 took-end (p ∷ ps) o s h = pick (branch-inv is_end (give tt) Reading.refused (p ∷ ps) o h)
   where
     last : (t : Token) → is_end t ≡ true → is_last t ≡ true
-    last (Word v) h = absurd (cc)
-    last Colon h = absurd (cc)
-    last Semicolon h = absurd (cc)
-    last Arrow h = absurd (cc)
-    last Use h = absurd (cc)
-    last As h = absurd (cc)
     last End h = refl
-    last Long h = absurd (cc)
-    last Bad h = absurd (cc)
+    last t h = absurd (cc)
 
     pick : ((is_end p.token ≡ true) × (give tt (p ∷ ps) ≡ Ok o)) ⊎ ((is_end p.token ≡ false) × (Reading.refused (p ∷ ps) ≡ Ok o)) → bare (p ∷ ps) ≡ End ∷ []
     pick (inl (e, k)) = (let none : ps ≡ [] = s.1 (last p.token e) in rw (none, only-end p.token e) refl)
@@ -155,7 +133,7 @@ regroup h a b c d e = simp append_assoc
 spells-parts : (ps : List TokenAt) (n : Name) (a b c d e : Parsed Graph) → no_parts n ≡ a.value → Took ps a (head_tokens n)
     → (roles : Ran with_role SpellsRole a.value a.rest b) → 2 ≤ length roles.parts → Ran with_variable SpellsVariable b.value b.rest c
     → (nodes : Ran with_node SpellsNode c.value c.rest d) → 1 ≤ length nodes.parts → Ran with_edge SpellsEdge d.value d.rest e
-    → (ts : List Token) × SpellsStatements e.value ts × Took ps e ts × (n ≡ e.value.name)
+    → (ts : List Token) × SpellsStatements e.value ts × Took ps e ts × (n ≡ e.value.name) × IsGraph e.value × (2 ≤ length e.value.roles) × (1 ≤ length e.value.nodes)
 spells-parts ps n a b c d e e0 head roles two variables nodes one edges =
     let rs : List Name = roles.parts in
     let vs : List Variable = variables.parts in
@@ -182,9 +160,6 @@ spells-parts ps n a b c d e e0 head roles two variables nodes one edges =
     all ∙ rw (of_roles, of_nodes) refl in (
       ts,
       subst (λ k. SpellsStatements k ts) e4 (record {
-        is_graph = subst IsGraph (sym e4) edges.is_graph;
-        two_roles = two;
-        has_node = one;
         of_variables = variables.tokens;
         of_edges = edges.tokens;
         variables = of_variables;
@@ -196,6 +171,9 @@ spells-parts ps n a b c d e e0 head roles two variables nodes one edges =
         sound = edges.took.sound;
       },
       ap (λ k. k.name) e4,
+      edges.is_graph,
+      subst (λ k. 2 ≤ length k.roles) e4 two,
+      subst (λ k. 1 ≤ length k.nodes) e4 one,
     )
   where
     variable_in : (x : Variable) (us : List Token) → SpellsVariable (graph_of n roles.parts [] [] []) x us → SpellsVariable (graph_of n roles.parts variables.parts nodes.parts edges.parts) x us
@@ -217,7 +195,7 @@ nodes_keep g xs h e = subst (λ k. length k.edges ≡ length g.edges) (sym (adds
 -- the statements behind the graph's name
 pub took-statements : (ps : List TokenAt) (n : Name) (a w : Parsed Graph) → no_parts n ≡ a.value → IsGraph (no_parts n) → Took ps a (head_tokens n)
     → read_statements a.value a.rest ≡ Ok w
-    → (ts : List Token) × SpellsStatements w.value ts × Took ps w ts × (n ≡ w.value.name)
+    → (ts : List Token) × SpellsStatements w.value ts × Took ps w ts × (n ≡ w.value.name) × IsGraph w.value × (2 ≤ length w.value.roles) × (1 ≤ length w.value.nodes)
 took-statements ps n a w e0 is head h =
     let b = on-inv (read_roles a.value a.rest) _ w h in
     let is₀ : IsGraph a.value = subst IsGraph e0 is in
@@ -229,7 +207,7 @@ took-statements ps n a w e0 is head h =
     subst (λ k. (length k.variables ≡ 0) × (length k.nodes ≡ 0) × (length k.edges ≡ 0)) e0 (refl, refl, refl) in
     let c = on-inv (read_variables (b.0).value (b.0).rest) _ w b.2 in
     let room : length (b.0).value.variables + 32 ≤ 32 = omega (arith, keep.0, none.0) in
-    let variables = took-up_to with_variable SpellsVariable (codes "var") read_variable (λ g. length g.variables) 32 variable_grows variable_stays took-variable 32 (b.0).value (b.0).rest c.0 roles.is_graph room roles.took.sound c.1 in
+    let variables = took-up_to with_variable SpellsVariable (codes "var") read_variable (λ g. length g.variables) 32 (λ g x. one_longer g.variables x) variable_stays took-variable 32 (b.0).value (b.0).rest c.0 roles.is_graph room roles.took.sound c.1 in
     let keep' = variables_keep (b.0).value variables.parts (c.0).value variables.value in
     let d = on-inv (read_nodes (c.0).value (c.0).rest) _ w c.2 in
     let no_nodes : length (c.0).value.nodes ≡ 0 = keep'.0 ∙ keep.1 ∙ none.1 in
@@ -237,21 +215,8 @@ took-statements ps n a w e0 is head h =
     let keep'' = nodes_keep (c.0).value (nodes.0).parts (d.0).value (nodes.0).value in
     let no_edges : length (d.0).value.edges ≡ 0 = keep'' ∙ keep'.1 ∙ keep.2 ∙ none.2 in
     let room' : length (d.0).value.edges + 512 ≤ 512 = omega (arith, no_edges) in
-    let edges = took-up_to with_edge SpellsEdge (codes "edge") read_edge (λ g. length g.edges) 512 edge_grows edge_stays took-edge 512 (d.0).value (d.0).rest w (nodes.0).is_graph room' ((nodes.0).took).sound d.2 in
+    let edges = took-up_to with_edge SpellsEdge (codes "edge") read_edge (λ g. length g.edges) 512 (λ g x. one_longer g.edges x) edge_stays took-edge 512 (d.0).value (d.0).rest w (nodes.0).is_graph room' ((nodes.0).took).sound d.2 in
     spells-parts ps n a b.0 c.0 d.0 w e0 head roles r.1 variables nodes.0 nodes.1 edges
-
--- the statements of a graph, and the end, are its text
-pub text-spelled : (bs : List ℕ) (g : Graph) (ts : List Token) → SpellsStatements g ts → bare (tokens bs) ≡ ts ++ End ∷ [] → SpellsGraph bs g
-text-spelled bs g ts s e = record {
-  is_graph = s.is_graph;
-  two_roles = s.two_roles;
-  has_node = s.has_node;
-  of_variables = s.of_variables;
-  of_edges = s.of_edges;
-  variables = s.variables;
-  edges = s.edges;
-  spelled = e ∙ ap (λ l. l ++ End ∷ []) s.spelled ∙ regroup (head_tokens g.name) (flat_map role_tokens g.roles) s.of_variables (flat_map (node_tokens g) g.nodes) s.of_edges (End ∷ []);
-}
 
 -- a graph that is read is spelled
 pub read-spells : (bs : List ℕ) (g : Graph) → read bs ≡ Ok g → SpellsGraph bs g
@@ -265,4 +230,4 @@ read-spells bs g h =
     let end = took-end (b.0).rest f.0 (t.2).sound f.1 in
     let same : record { value = (b.0).value; rest = (f.0).rest } ≡ w.0 = ok_same (record { value = (b.0).value; rest = (f.0).rest }) w.0 f.2 in
     let spelled : bare (tokens bs) ≡ t.0 ++ End ∷ [] = (t.2).begins ∙ ap (λ l. t.0 ++ l) end in
-    subst (SpellsGraph bs) (ap (λ (r : Parsed Graph). r.value) same ∙ w.2) (text-spelled bs (b.0).value t.0 t.1 spelled)
+    subst (SpellsGraph bs) (ap (λ (r : Parsed Graph). r.value) same ∙ w.2) (record { is_graph = t.4; two_roles = t.5; has_node = t.6; of_graph = t.0; statements = t.1; spelled = spelled })

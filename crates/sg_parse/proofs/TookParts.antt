@@ -1,144 +1,42 @@
 -- Parts that are read are spelled by the text.
-use Rattle.std.proofs.Common.{◌≡◌, ℕ, zero, suc, ◌+◌, ◌<◌, ◌≤◌, ◌==◌, not, Bool, true, false, ◌&&◌, ◌||◌, ◌⊎◌, inl, inr, List, [], ◌∷◌, ◌++◌, length, get_or, codes, Ok, Err, refl, sym, ap, subst, ◌∙◌, arith, if◌then◌else◌, append_assoc, append-nil, length-append, flat_map}
+use Rattle.std.proofs.Common.{◌≡◌, ℕ, zero, suc, ◌+◌, ◌<◌, not, Bool, true, false, ◌&&◌, List, [], ◌∷◌, ◌++◌, length, get_or, codes, Ok, refl, sym, ap, subst, ◌∙◌, arith, append_assoc, append-nil, length-append, flat_map}
 use Rattle.std.specs.Prelude.{All, Some, slice_get}
 use Rattle.std.specs.List.{list_all}
-use Rattle.std.proofs.lemmas.Bool.{eq-eqb, cases_Bool, and_parts}
-use Rattle.std.proofs.lemmas.Bool.Decides.{nat_tests}
+use Rattle.std.proofs.lemmas.Bool.{and_parts}
 use Rattle.std.proofs.lemmas.List.{length-map, map-append}
 use Rattle.std.proofs.lemmas.List.Folds.{list_all-append}
-use Rattle.sg_model.specs.Lists.{has_text, is_in, all_differ}
+use Rattle.sg_model.specs.Lists.{has_text, all_differ}
 use Rattle.sg_model.specs.Names.{Name, is_name, reserved}
-use Rattle.sg_model.proofs.Numbers.{is_in-more}
 use Rattle.sg_model.proofs.Differ.{all_differ-append}
-use Rattle.sg_model.proofs.Small.{or_true, first_false}
 use Rattle.sg_protocol.specs.Graph.{Graph, IsGraph, AreNames, node_name}
 use Rattle.sg_graph.specs.Adding.{no_parts}
 use Rattle.sg_graph.specs.Parts.{node_names}
 use Rattle.sg_graph.proofs.Growth.{IsGraph-no_parts}
-use Rattle.sg_parse.specs.Grammar.{named, differ, head_tokens, InTurn, Done, Then}
+use Rattle.sg_parse.specs.Grammar.{named, head_tokens, InTurn, Done, Then}
 use Rattle.sg_parse.specs.Parts.{Part, Use, IsUse, IsPart, part_names, use_names}
 use Rattle.sg_parse.specs.PartsGrammar.{use_tokens, SpellsPart, SpellsParts}
-use Rattle.sg_parse.specs.PartsReading.{with_index, more_indices, some_indices, repeat, read_use, read_uses, read_part_head, read_part, read_parts, read}
+use Rattle.sg_parse.specs.PartsReading.{some_indices, repeat, read_use, read_uses, read_part_head, read_part, read_parts, read}
 use Rattle.sg_parse.specs.Tokens.{part_tokens, is_word, is_named, is_colon, is_semicolon, is_arrow, is_use, is_as, text_of}
-use Rattle.sg_parse.specs.Reading as Reading
-use Rattle.sg_parse.specs.Reading.{Parsed, Parser, on, after, give, known, is_next, branch, token, name, new_name, known_name, index_of, read_statements, read_end, whole}
+use Rattle.sg_parse.specs.Reading.{Parsed, Parser, give, is_next, token, new_name, known_name, read_statements, read_end}
 use Rattle.sg_parse.specs.declared.token.TokenAt.{TokenAt}
 use Rattle.sg_parse.specs.declared.token.Token.{Token}
 use Rattle.sg_parse.specs.declared.token.Token.TheVariants.{Word, Colon, Semicolon, Arrow, Use as UseWord, As, End}
-use Rattle.sg_parse.specs.declared.fault.ParseFault.TheVariants.{Twice, UnknownName}
 use Rattle.sg_parse.proofs.Sound.{Sound, sound-part_tokens}
-use Rattle.sg_parse.proofs.Took.{Took, IsFresh, bare, ok_same, err_ok, on-inv, branch-inv, took-both, took-give, took-token, took-new, took-known, named-word, index_has, only-word, only-colon, only-semicolon, only-arrow, only-use, only-as}
+use Rattle.sg_parse.proofs.Took.{Took, IsFresh, bare, ok_same, on-inv, took-both, took-give, took-token, took-new, took-known, named-word, index_has, only-word, only-colon, only-semicolon, only-arrow, only-use, only-as}
 use Rattle.sg_parse.proofs.TookStatements.{node_at}
 use Rattle.sg_parse.proofs.TookGraph.{took-statements, took-end, whole-inv}
+use Rattle.sg_parse.proofs.TookIndices.{took-indices}
 use Rattle.sg_parse.proofs.Indices.{repeat-there, repeat-away, repeat-none}
 
 -- ---- names that differ, with one more
 
 -- names with one more
-names-one_more : (ns : List Name) (n : Name) → AreNames ns → IsFresh ns n → AreNames (ns ++ n ∷ [])
+pub names-one_more : (ns : List Name) (n : Name) → AreNames ns → IsFresh ns n → AreNames (ns ++ n ∷ [])
 names-one_more ns n are f =
     let p : Name → Bool = λ n. is_name n && not (has_text n reserved) in
     let parts = and_parts (list_all p ns) (all_differ ns) are in
     let all : list_all p (ns ++ n ∷ []) ≡ true = list_all-append p ns (n ∷ []) ∙ rw (parts.0, f.name, f.free) refl in
     rw (all, all_differ-append ns n parts.1 f.new) refl
-
--- ---- indices
-
--- what holds of each number of a list
-all-in : (P : ℕ → Type 0) (xs : List ℕ) → ((n : ℕ) → is_in n xs ≡ true → P n) → All P xs
-all-in P [] h k d l = absurd (omega arith)
-all-in P (x ∷ xs) h zero d l = (let same : (x == x) ≡ true = eq-eqb x x refl in h x (rw same refl))
-all-in P (x ∷ xs) h (suc k) d l = all-in P xs (λ n i. h n (rw i (or_true (x == n)))) k d (omega (arith, l))
-
-record TookIndices (names : List Name) (indices : List ℕ) (ps : List TokenAt) (o : Parsed (List ℕ)) : Type 0 where
-  order : List ℕ
-  took : Took ps o (named names order)
-  value : indices ++ order ≡ o.value
-  once : differ order ≡ true
-  apart : (n : ℕ) → is_in n order ≡ true → is_in n indices ≡ false
-  below : (n : ℕ) → is_in n order ≡ true → n < length names
-  some : is_next is_named ps ≡ true → 1 ≤ length order
-
-no_more : (names : List Name) (indices : List ℕ) (ps : List TokenAt) (o : Parsed (List ℕ)) → Sound ps → is_next is_named ps ≡ false → give indices ps ≡ Ok o → TookIndices names indices ps o
-no_more names indices ps o s away h =
-    let g = took-give indices ps o s h in
-    record {
-      order = [];
-      took = g.1;
-      value = append-nil indices ∙ g.0;
-      once = refl;
-      apart = λ n e. absurd (cc);
-      below = λ n e. absurd (cc);
-      some = λ e. absurd (cc);
-    }
-
-module _ (names : List Name) where
-  one_index-took : (indices : List ℕ) (p : TokenAt) (ps : List TokenAt) (o : Parsed (List ℕ)) → p.token ≡ Word (text_of p.token)
-      → has_text (text_of p.token) names ≡ true → is_in (index_of (text_of p.token) names) indices ≡ false
-      → TookIndices names (indices ++ index_of (text_of p.token) names ∷ []) ps o → TookIndices names indices (p ∷ ps) o
-  one_index-took indices p ps o w has new t =
-      let index : ℕ = index_of (text_of p.token) names in
-      let there = index_has (text_of p.token) names has in
-      let same : (index == index) ≡ true = eq-eqb index index refl in
-      let absent : is_in index t.order ≡ false = elim (cases_Bool (is_in index t.order)) [
-        | inl y ↦
-            (let clash : is_in index (indices ++ index ∷ []) ≡ true = is_in-more index index indices ∙ rw (new, same) refl in
-            let clash' : is_in index (indices ++ index ∷ []) ≡ false = t.apart index y in
-            absurd (cc))
-        | inr n ↦ n
-      ] in
-      record {
-        order = index ∷ t.order;
-        took = record { begins = (rw there.1 (ap (λ u. u ∷ bare ps) w)) ∙ ap (λ l. Word (get_or names index []) ∷ l) t.took.begins; sound = t.took.sound };
-        value = sym (append_assoc indices (index ∷ []) t.order) ∙ t.value;
-        once = rw (absent, t.once) refl;
-        apart = λ n e. apart' index n t.order new e (λ i. sym (is_in-more n index indices) ∙ t.apart n i);
-        below = λ n e. below' index n t.order there.0 e (t.below n);
-        some = λ e. omega arith;
-      }
-    where
-      apart' : (index n : ℕ) (order : List ℕ) → is_in index indices ≡ false → is_in n (index ∷ order) ≡ true → (is_in n order ≡ true → (is_in n indices || (index == n)) ≡ false) → is_in n indices ≡ false
-      apart' index n order new e later = elim (cases_Bool (index == n)) [
-        | inl y ↦ (let same : index ≡ n = grind (arith, nat_tests, y) in subst (λ k. is_in k indices ≡ false) same new)
-        | inr d ↦ first_false (is_in n indices) (index == n) (later (rw d at e))
-      ]
-
-      below' : (index n : ℕ) (order : List ℕ) → index < length names → is_in n (index ∷ order) ≡ true → (is_in n order ≡ true → n < length names) → n < length names
-      below' index n order l e later = elim (cases_Bool (index == n)) [
-        | inl y ↦ (let same : index ≡ n = grind (arith, nat_tests, y) in subst (λ k. k < length names) same l)
-        | inr d ↦ later (rw d at e)
-      ]
-
-  -- one or more indices
-  took-more-indices : (indices : List ℕ) (ps : List TokenAt) (o : Parsed (List ℕ)) → Sound ps → more_indices names indices ps ≡ Ok o → TookIndices names indices ps o
-  took-more-indices indices [] o s h = no_more names indices [] o s refl h
-  took-more-indices indices (p ∷ ps) o s h = first (is_named p.token) refl h (λ next k. took-more-indices next ps o s.2 k)
-    where
-      second : (x y : Bool) → p.token ≡ Word (text_of p.token) → has_text (text_of p.token) names ≡ x → is_in (index_of (text_of p.token) names) indices ≡ y
-          → on (known (if x then (if y then Err (Twice p.at) else Ok (indices ++ index_of (text_of p.token) names ∷ [])) else Err (UnknownName p.at)) ps) (λ next _. more_indices names next ps) ≡ Ok o
-          → ((next : List ℕ) → more_indices names next ps ≡ Ok o → TookIndices names next ps o) → TookIndices names indices (p ∷ ps) o
-      second true true w ex ey k rest = err_ok (Twice p.at) o k
-      second false y w ex ey k rest = err_ok (UnknownName p.at) o k
-      second true false w ex ey k rest = one_index-took indices p ps o w ex ey (rest (indices ++ index_of (text_of p.token) names ∷ []) k)
-
-      first : (b : Bool) → is_named p.token ≡ b
-          → (if b then on (known (with_index names indices (text_of p.token, p.at)) ps) (λ next _. more_indices names next ps) else give indices (p ∷ ps)) ≡ Ok o
-          → ((next : List ℕ) → more_indices names next ps ≡ Ok o → TookIndices names next ps o) → TookIndices names indices (p ∷ ps) o
-      first true e k rest = second (has_text (text_of p.token) names) (is_in (index_of (text_of p.token) names) indices) (named-word p.token s.0 e).0 refl refl k rest
-      first false e k rest = no_more names indices (p ∷ ps) o s e k
-
-  -- the indices of names
-  took-indices : (ps : List TokenAt) (o : Parsed (List ℕ)) → Sound ps → some_indices names ps ≡ Ok o
-      → Took ps o (named names o.value) × (1 ≤ length o.value) × All (λ r. r < length names) o.value × (differ o.value ≡ true)
-  took-indices ps o s h = pick (branch-inv is_named (more_indices names []) Reading.refused ps o h)
-    where
-      pick : ((is_next is_named ps ≡ true) × (more_indices names [] ps ≡ Ok o)) ⊎ ((is_next is_named ps ≡ false) × (Reading.refused ps ≡ Ok o))
-          → Took ps o (named names o.value) × (1 ≤ length o.value) × All (λ r. r < length names) o.value × (differ o.value ≡ true)
-      pick (inl (e, k)) =
-          let t = took-more-indices [] ps o s k in
-          subst (λ (l : List ℕ). Took ps o (named names l) × (1 ≤ length l) × All (λ r. r < length names) l × (differ l ≡ true)) t.value
-          (t.took, t.some e, all-in (λ r. r < length names) t.order t.below, t.once)
-      pick (inr (e, k)) = err_ok (Reading.refusal ps) o k
 
 -- ---- uses
 
@@ -161,8 +59,8 @@ took-use names g uses ps o s h =
     let target = took-known (node_names g) (f.0).rest k.0 arrow.sound k.1 in
     let l = on-inv (token is_as (k.0).rest) _ o k.2 in
     let as' = took-token is_as As (k.0).rest l.0 only-as (target.0).sound l.1 in
-    let m = on-inv (some_indices g.roles (l.0).rest) _ o l.2 in
-    let roles = took-indices g.roles (l.0).rest m.0 as'.sound m.1 in
+    let m = on-inv (some_indices is_named g.roles (l.0).rest) _ o l.2 in
+    let roles = took-indices is_named g.roles (λ r. r < length g.roles) (λ t w n. ((named-word t w n).0, (λ h. (index_has (text_of t) g.roles h).0))) (l.0).rest m.0 as'.sound m.1 in
     let q = on-inv (token is_semicolon (m.0).rest) _ o m.2 in
     let last = took-token is_semicolon Semicolon (m.0).rest q.0 only-semicolon (roles.0).sound q.1 in
     let u : Use = record { name = (b.0).value; part = (d.0).value; from = (e.0).value; to = (k.0).value; roles = (m.0).value } in
@@ -269,9 +167,9 @@ took-part bytes parts ps o s h =
       done.0,
       (
         record {
-          graph = (g.1).is_graph;
-          two_roles = (g.1).two_roles;
-          has_node = (g.1).has_node;
+          graph = g.4;
+          two_roles = g.5;
+          has_node = g.6;
           names = us.0;
           uses = subst (λ k. All (IsUse k (b.0).value) u.0) many us.1;
         },

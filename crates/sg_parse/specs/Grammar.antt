@@ -58,11 +58,8 @@ pub data InTurn {A : Type 0} (Spells : A → List Token → Type 0) : List A →
   Done : InTurn Spells [] []
   Then : {x : A} {xs : List A} {ts us : List Token} → Spells x ts → InTurn Spells xs us → InTurn Spells (x ∷ xs) (ts ++ us)
 
--- the tokens are the statements of a graph that has two roles and a node
+-- the tokens are the statements of the graph
 pub record SpellsStatements (g : Graph) (ts : List Token) : Type 0 where
-  pub is_graph : IsGraph g
-  pub two_roles : 2 ≤ length g.roles
-  pub has_node : 1 ≤ length g.nodes
   pub of_variables : List Token
   pub of_edges : List Token
   pub variables : InTurn (SpellsVariable g) g.variables of_variables
@@ -74,9 +71,6 @@ pub record SpellsGraph (bs : List ℕ) (g : Graph) : Type 0 where
   pub is_graph : IsGraph g
   pub two_roles : 2 ≤ length g.roles
   pub has_node : 1 ≤ length g.nodes
-  pub of_variables : List Token
-  pub of_edges : List Token
-  pub variables : InTurn (SpellsVariable g) g.variables of_variables
-  pub edges : InTurn (SpellsEdge g) g.edges of_edges
-  pub spelled : map (λ p. p.token) (tokens bs)
-      ≡ head_tokens g.name ++ (flat_map role_tokens g.roles ++ (of_variables ++ (flat_map (node_tokens g) g.nodes ++ (of_edges ++ End ∷ []))))
+  pub of_graph : List Token
+  pub statements : SpellsStatements g of_graph
+  pub spelled : map (λ p. p.token) (tokens bs) ≡ of_graph ++ End ∷ []

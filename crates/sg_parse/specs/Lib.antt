@@ -1,5 +1,6 @@
 pub mod FaultText
 pub mod Grammar
+pub mod Kinds
 pub mod Owed
 pub mod Parts
 pub mod PartsGrammar

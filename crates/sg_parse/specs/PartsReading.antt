@@ -21,16 +21,16 @@ with_index names indices n =
 abbrev pub one_index : List Name → List ℕ → Parser (List ℕ)
 one_index names indices = after name λ n. known (with_index names indices n)
 
--- the indices, with those of all names that follow
-abbrev pub more_indices : List Name → List ℕ → Parser (List ℕ)
-more_indices names indices [] = give indices []
-more_indices names indices (p ∷ ps) =
-    if is_named p.token then on (known (with_index names indices (text_of p.token, p.at)) ps) (λ next _. more_indices names next ps)
+-- the indices, with those of all names that follow and pass the test
+abbrev pub more_indices : (Token → Bool) → List Name → List ℕ → Parser (List ℕ)
+more_indices test names indices [] = give indices []
+more_indices test names indices (p ∷ ps) =
+    if test p.token then on (known (with_index names indices (text_of p.token, p.at)) ps) (λ next _. more_indices test names next ps)
     else give indices (p ∷ ps)
 
--- one or more of these names, each once: their indices in the order in which they stand
-abbrev pub some_indices : List Name → Parser (List ℕ)
-some_indices names = branch is_named (more_indices names []) refused
+-- one or more of these names that pass the test, each once: their indices in the order in which they stand
+abbrev pub some_indices : (Token → Bool) → List Name → Parser (List ℕ)
+some_indices test names = branch test (more_indices test names []) refused
 
 -- one reading after another as long as the next token passes the test, up to n times
 unfoldable pub repeat : {A : Type 0} → ℕ → (Token → Bool) → (A → Parser A) → A → Parser A
@@ -48,7 +48,7 @@ read_use names g uses =
     after (token is_arrow) λ _.
     after (known_name (node_names g)) λ to.
     after (token is_as) λ _.
-    after (some_indices g.roles) λ roles.
+    after (some_indices is_named g.roles) λ roles.
     after (token is_semicolon) λ _.
     give (uses ++ record { name = n; part = part; from = from; to = to; roles = roles } ∷ [])
 

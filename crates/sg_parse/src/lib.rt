@@ -26,21 +26,19 @@
 //! `Scanner` gives the tokens one by one to the readers of other texts in the words of this language.
 #![tactic(auto)]
 
-mod edge;
 mod fault;
+mod kind;
 mod name;
 mod name_set;
-mod node;
 mod part;
 mod part_list;
 mod parts;
-mod role;
 mod scan;
 mod scanner;
+mod statement;
 mod text;
 mod token;
 mod uses;
-mod variable;
 
 pub use fault::ParseFault;
 pub use name_set::NameSet;

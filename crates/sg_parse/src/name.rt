@@ -1,68 +1,43 @@
 //! Names where they are declared, and where they are used.
-ghost use Rattle.std.specs.Prelude.{◌≡◌, ◌≢◌, ◌<◌, false, length, Err, IfOk};
+ghost use Rattle.std.specs.Prelude.{◌≡◌, ◌≢◌, ◌<◌, ◌↔◌, false, length, Err, IfOk, IsTrue};
 ghost use Rattle.sg_model.specs.Lists.{has_text};
 ghost use Rattle.sg_model.specs.Names.{reserved};
 ghost use Rattle.sg_protocol.specs.Graph.{AreNumbers};
-ghost use Rattle.sg_graph.specs.Parts.{variable_names, node_names, edge_names};
+ghost use Rattle.sg_graph.specs.Parts.{variable_names, node_names};
+ghost use Rattle.sg_parse.specs.Kinds.{names_of};
 ghost use Rattle.sg_parse.specs.Owed.{Reads};
 ghost use Rattle.sg_parse.specs.Reading.{new_name, known_name, one_more, some_names};
 
 use crate::fault::ParseFault;
+use crate::kind::Kind;
 use crate::scanner::Scanner;
 use sg_base::{Name, NodeId, Role, RoleSet, VarSet};
 use sg_graph::Graph;
 
-// A name that no role has.
-pub fn new_role(scanner: &mut Scanner, graph: &Graph) -> Result<Name, ParseFault>
-    ensures reads { Reads (new_name graph.now.roles) scanner.old scanner.new result }
+// A name that no part of this kind has.
+pub fn new_name(scanner: &mut Scanner, graph: &Graph, kind: Kind) -> Result<Name, ParseFault>
+    ensures reads { Reads (new_name (names_of kind graph.now)) scanner.old scanner.new result }
     ensures free { IfOk result (λ n. has_text n reserved ≡ false) }
-    ensures new { IfOk result (λ n. has_text n graph.now.roles ≡ false) }
+    ensures new { IfOk result (λ n. has_text n (names_of kind graph.now) ≡ false) }
     ensures early { result ≢ Err ParseFault.OutOfMemory }
 {
     let (name, at) = scanner.name()?;
-    if graph.find_role(&name).is_some() {
+    if has_part(graph, kind, &name) {
         return Err(ParseFault::Twice { at });
     }
     Ok(name)
 }
 
-// A name that no variable has.
-pub fn new_var(scanner: &mut Scanner, graph: &Graph) -> Result<Name, ParseFault>
-    ensures reads { Reads (new_name (variable_names graph.now)) scanner.old scanner.new result }
-    ensures free { IfOk result (λ n. has_text n reserved ≡ false) }
-    ensures new { IfOk result (λ n. has_text n (variable_names graph.now) ≡ false) }
+// A part of this kind has the name.
+fn has_part(graph: &Graph, kind: Kind, name: &Name) -> bool
+    ensures { IsTrue result ↔ IsTrue (has_text name.now (names_of kind graph.now)) }
 {
-    let (name, at) = scanner.name()?;
-    if graph.find_var(&name).is_some() {
-        return Err(ParseFault::Twice { at });
+    match kind {
+        Kind::Role => graph.find_role(name).is_some(),
+        Kind::Var => graph.find_var(name).is_some(),
+        Kind::Node => graph.find_node(name).is_some(),
+        Kind::Edge => graph.find_edge(name).is_some(),
     }
-    Ok(name)
-}
-
-// A name that no node has.
-pub fn new_node(scanner: &mut Scanner, graph: &Graph) -> Result<Name, ParseFault>
-    ensures reads { Reads (new_name (node_names graph.now)) scanner.old scanner.new result }
-    ensures free { IfOk result (λ n. has_text n reserved ≡ false) }
-    ensures new { IfOk result (λ n. has_text n (node_names graph.now) ≡ false) }
-{
-    let (name, at) = scanner.name()?;
-    if graph.find_node(&name).is_some() {
-        return Err(ParseFault::Twice { at });
-    }
-    Ok(name)
-}
-
-// A name that no edge has.
-pub fn new_label(scanner: &mut Scanner, graph: &Graph) -> Result<Name, ParseFault>
-    ensures reads { Reads (new_name (edge_names graph.now)) scanner.old scanner.new result }
-    ensures free { IfOk result (λ n. has_text n reserved ≡ false) }
-    ensures new { IfOk result (λ n. has_text n (edge_names graph.now) ≡ false) }
-{
-    let (name, at) = scanner.name()?;
-    if graph.find_edge(&name).is_some() {
-        return Err(ParseFault::Twice { at });
-    }
-    Ok(name)
 }
 
 // The name of a role.

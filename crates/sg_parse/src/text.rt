@@ -6,13 +6,11 @@ ghost use Rattle.sg_parse.specs.Owed.{Reads, ReadsInto, Refuses};
 ghost use Rattle.sg_parse.specs.Reading.{read, read_beginning, read_text, read_head, read_role, read_statements, statement};
 ghost use Rattle.sg_parse.specs.Tokens.{tokens};
 
-use crate::edge::read_edges;
 use crate::fault::ParseFault;
-use crate::node::read_nodes;
-use crate::role::read_roles;
+use crate::kind::Kind;
 use crate::scanner::Scanner;
+use crate::statement::{read_nodes, read_roles, read_up_to};
 use crate::token::Language;
-use crate::variable::read_vars;
 use sg_graph::Graph;
 use std::alloc::Global;
 
@@ -61,9 +59,9 @@ pub fn read_statements(scanner: &mut Scanner, graph: &mut Graph) -> Result<(), P
     ensures early { IsErr (statement (codes "role") read_role graph.old scanner.old) → result ≢ Err ParseFault.OutOfMemory }
 {
     read_roles(scanner, graph)?;
-    read_vars(scanner, graph)?;
+    read_up_to(scanner, graph, Kind::Var, 32)?;
     read_nodes(scanner, graph)?;
-    read_edges(scanner, graph)
+    read_up_to(scanner, graph, Kind::Edge, 512)
 }
 
 // The graph's name.

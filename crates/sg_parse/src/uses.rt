@@ -6,6 +6,7 @@ ghost use Rattle.sg_parse.specs.Owed.{Reads, ReadsInto};
 ghost use Rattle.sg_parse.specs.Parts.{part_names, use_names};
 ghost use Rattle.sg_parse.specs.PartsReading.{one_index, some_indices, read_use, read_uses};
 ghost use Rattle.sg_parse.specs.Reading.{known_name, new_name};
+ghost use Rattle.sg_parse.specs.Tokens.{is_named};
 
 use crate::fault::ParseFault;
 use crate::name::known_node;
@@ -94,7 +95,7 @@ fn known_part(scanner: &mut Scanner, parts: &PartList) -> Result<usize, ParseFau
 
 // The names of one or more roles, each once, in their order.
 fn some_roles(alloc: Global, scanner: &mut Scanner, graph: &Graph) -> Result<Seq<Role>, ParseFault>
-    ensures { Reads (some_indices graph.now.roles) scanner.old scanner.new result }
+    ensures { Reads (some_indices is_named graph.now.roles) scanner.old scanner.new result }
 {
     if !scanner.at_name() {
         return Err(scanner.refusal());
