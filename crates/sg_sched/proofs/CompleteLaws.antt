@@ -1,5 +1,5 @@
 -- A line of a form is read: edges, keys, sessions and acts.
-use Rattle.std.specs.Prelude.{◌≡◌, ℕ, ◌%◌, ◌==◌, nat_le, Bool, true, false, not, ◌&&◌, ◌||◌, if◌then◌else◌, List, [], ◌∷◌, map, length, codes, bytes_eq, refl, Option, Some, None, option_map}
+use Rattle.std.specs.Prelude.{◌≡◌, ℕ, ◌%◌, ◌==◌, nat_le, Bool, true, false, not, ◌&&◌, ◌||◌, if◌then◌else◌, List, [], ◌∷◌, map, length, codes, bytes_eq, refl, Some, None}
 use Rattle.std.specs.List.{list_all}
 use Rattle.std.specs.Fmt.{decimal}
 use Rattle.std.proofs.Common.{sym, ◌∙◌, ap, arith}
@@ -11,8 +11,8 @@ use Rattle.sg_sched.specs.Words.{names}
 use Rattle.sg_sched.specs.Format.LineContents.{Word, Assignment, EdgeLine, KeyLine, SessionLine, ActLine, joined_names, assignment_word, version_words}
 use Rattle.sg_sched.specs.Format.Forms.{is_form, is_assignment, is_wide, are_names}
 use Rattle.sg_sched.specs.Format.Values.{is_hex_of}
-use Rattle.sg_sched.specs.Format.Reading.{word, edge_form, edge_of, key_form, session_form, version, act_form}
-use Rattle.sg_sched.proofs.FormatWords.{name_list, name_list-joined}
+use Rattle.sg_sched.specs.Format.Reading.{word, edge_form, key_form, session_form, version, act_form}
+use Rattle.sg_sched.proofs.FormatWords.{name_list-joined}
 use Rattle.sg_sched.proofs.FormLaws.{name_ok, hex_ok}
 use Rattle.sg_sched.proofs.NumberLaws.{number_ok, is_wide_of}
 use Rattle.sg_sched.proofs.PartLaws.{assignments_ok}

@@ -1,49 +1,62 @@
 -- A craft of a form is read.
-use Rattle.std.specs.Prelude.{◌≡◌, ℕ, zero, suc, ◌<◌, ◌≤◌, ◌^◌, ◌==◌, nat_le, Bool, true, false, not, ◌&&◌, if◌then◌else◌, List, [], ◌∷◌, ◌++◌, map, flat_map, length, codes, bytes_eq, refl, Option, Some, None, option_map, option_and_then}
+use Rattle.std.specs.Prelude.{◌≡◌, ℕ, zero, suc, ◌<◌, ◌≤◌, ◌^◌, ◌==◌, nat_le, Bool, true, false, not, ◌&&◌, if◌then◌else◌, List, [], ◌∷◌, ◌++◌, map, flat_map, length, codes, bytes_eq, refl, Some, None, option_and_then}
 use Rattle.std.specs.List.{list_all}
-use Rattle.std.specs.Option.{option_map_or}
 use Rattle.std.specs.Fmt.{decimal}
-use Rattle.std.proofs.Common.{sym, ◌∙◌, ap, subst, arith, append-nil, append_assoc}
+use Rattle.std.specs.Str.Parse.{AllDigits}
+use Rattle.std.proofs.Common.{◌∙◌, ap, arith, append_assoc}
 use Rattle.std.proofs.lemmas.Grind.{common_steps}
-use Rattle.std.proofs.lemmas.Bool.{leb-true, le-leb, eqb-true, ltb-true}
+use Rattle.std.proofs.lemmas.Bool.{leb-true, eqb-true, ltb-true}
 use Rattle.std.proofs.lemmas.Fmt.{decimal_is_IsNumeral}
+use Rattle.std.proofs.lemmas.Str.Parse.{digit_from_value}
 use Rattle.sg_model.specs.Names.{Name, is_name}
 use Rattle.sg_model.proofs.Small.{and_left, and_right}
-use Rattle.sg_protocol.specs.Schedule.{CraftJoin}
-use Rattle.sg_base.specs.Words.{name, number}
-use Rattle.sg_sched.specs.Words.{frame}
-use Rattle.sg_sched.specs.Format.LineContents.{Word, Committed, TagSource, FromKey, FromItem, FromSeal, FromZero, ItemContent, CraftContent, LineContent, MakeLine, committed_word, from_words, tag_words, item_words, join_words, list_words, option_words, joined_names}
-use Rattle.sg_sched.specs.Format.Forms.{is_committed, is_source, is_tag, is_item, are_committed, is_join, is_wide, is_short, is_frame, are_names, is_craft, is_form}
+use Rattle.sg_sched.specs.Format.LineContents.{Word, Committed, TagSource, FromKey, FromItem, FromSeal, FromZero, ItemContent, committed_word, from_words, tag_words}
+use Rattle.sg_sched.specs.Format.Forms.{is_committed, is_source, is_tag, is_item, are_committed, is_wide, is_short, is_frame}
 use Rattle.sg_sched.specs.Format.Values.{is_value}
-use Rattle.sg_sched.specs.Format.Reading.{WordsLeft, Taker, word, after, ended, split_at}
-use Rattle.sg_sched.specs.Format.CraftReading.{split_last, last_step, committed, behind_equal, time, run, run_step, few, some_of, listed, copy_source, source, repeated, more_after, tag, item, is_next, all_names, name_list, sixteen, cast, optional, join_parts, join, opened, exactly, ends, seal_form, some_items, craft_form}
-use Rattle.sg_sched.proofs.FormatWords.{both, same_self, name_lacks, name_list as pieces, name_list-joined, wide}
-use Rattle.sg_sched.proofs.FormatCraftReading.{hash_split, hash_step, hash_split-at, digits_lack, digits_no_seal}
-use Rattle.sg_sched.proofs.FormatWholeCraft.{CraftFacts, craft_facts}
+use Rattle.sg_sched.specs.Format.Reading.{WordsLeft, Taker, word}
+use Rattle.sg_sched.specs.Format.CraftReading.{split_last, last_step, committed, behind_equal, time, run, copy_source, source, repeated, tag, item, is_next}
+use Rattle.sg_sched.proofs.FormatWords.{both, same_self, lacks, name_lacks, wide}
 use Rattle.sg_sched.proofs.FormLaws.{name_ok}
 use Rattle.sg_sched.proofs.NumberLaws.{number_ok, frame_ok, is_short_of, is_wide_of}
 use Rattle.sg_sched.proofs.PartLaws.{split_ok}
-use Rattle.sg_sched.proofs.RunLaws.{join_other, listed_other}
-use Rattle.sg_sched.proofs.TakerLaws.{took_then_of, run_words, printed}
+use Rattle.sg_sched.proofs.TakerLaws.{none_before, run_words, printed}
 use Rattle.sg_sched.proofs.ItemLaws.{tag_print, item_print}
 
--- ---- commitments
+-- ---- the last mark
 
--- nothing before a byte
-abbrev prefix : Word → Option (Word × Word)
-prefix cs = Some ([], cs)
-
-one_step : (c : ℕ) (cs : Word) (o : Option (Word × Word)) → last_step 35 c cs o ≡ hash_step c cs (c == 35) o
-one_step c cs (Some p) = refl
-one_step c cs None = by (c == 35)
+-- bytes without the mark are not split
+unsplit : (mark : ℕ) (w : Word) → lacks mark w ≡ true → split_last mark w ≡ None
+unsplit mark [] h = refl
+unsplit mark (c ∷ cs) h = ap (last_step mark c cs) (unsplit mark cs (and_right (not (c == mark)) (lacks mark cs) h)) ∙ by (c == mark) (and_left (not (c == mark)) (lacks mark cs) h)
   where
-    by : (b : Bool) → (if b then prefix cs else None) ≡ hash_step c cs b None
-    by true = refl
-    by false = refl
+    by : (b : Bool) → not b ≡ true → (if b then none_before cs else None) ≡ None
+    by false l = refl
+    by true l = absurd (cc)
 
-same_split : (w : Word) → split_last 35 w ≡ hash_split w
-same_split [] = refl
-same_split (c ∷ cs) = ap (last_step 35 c cs) (same_split cs) ∙ one_step c cs (hash_split cs)
+-- the last mark is the one behind which there is none
+last_ok : (mark : ℕ) (w back : Word) → lacks mark back ≡ true → split_last mark (w ++ mark ∷ back) ≡ Some (w, back)
+last_ok mark [] back h = let same : (mark == mark) ≡ true = grind (arith, common_steps) in rw (unsplit mark back h, same) refl
+last_ok mark (c ∷ cs) back h = ap (last_step mark c (cs ++ mark ∷ back)) (last_ok mark cs back h)
+
+-- ---- digits
+
+digits_lack : (ds : Word) → AllDigits 10 ds → lacks 35 ds ≡ true
+digits_lack [] d = refl
+digits_lack (c ∷ cs) d = both (by (c == 35) refl) (digits_lack cs d.1)
+  where
+    by : (b : Bool) → (c == 35) ≡ b → not b ≡ true
+    by false e = refl
+    by true e = let same : c ≡ 35 = eqb-true c 35 e in absurd (omega (arith, digit_from_value c d.0))
+
+digits_no_seal : (w : Word) → AllDigits 10 w → bytes_eq w (codes "seal") ≡ false
+digits_no_seal [] d = refl
+digits_no_seal (c ∷ cs) d = by (c == 115) refl
+  where
+    by : (b : Bool) → (c == 115) ≡ b → bytes_eq (c ∷ cs) (codes "seal") ≡ false
+    by false e = rw e
+    by true e = let same : c ≡ 115 = eqb-true c 115 e in absurd (omega (arith, digit_from_value c d.0))
+
+-- ---- commitments
 
 committed_ok : (c : Committed) → is_committed c ≡ true → committed (committed_word c) ≡ Some c
 unfolding committed
@@ -51,9 +64,8 @@ committed_ok c h =
     let prefix = and_left (is_name c.variable && is_value c.value) (is_wide c.step) h in
     let low = and_right (is_name c.variable && is_value c.value) (is_wide c.step) h in
     let digits = digits_lack (decimal c.step) (decimal_is_IsNumeral c.step (wide c.step low)).0.1 in
-    let last : split_last 35 (c.value ++ 35 ∷ decimal c.step) ≡ Some (c.value, decimal c.step) = same_split (c.value ++ 35 ∷ decimal c.step) ∙ hash_split-at c.value (decimal c.step) digits in
     ap (option_and_then (λ (p : Word × Word). option_and_then (behind_equal p.0) (split_last 35 p.1))) (split_ok 61 c.variable (c.value ++ 35 ∷ decimal c.step) (name_lacks 61 c.variable refl (and_left (is_name c.variable) (is_value c.value) prefix)))
-    ∙ ap (option_and_then (behind_equal c.variable)) last
+    ∙ ap (option_and_then (behind_equal c.variable)) (last_ok 35 c.value (decimal c.step) digits)
     ∙ rw (prefix, number_ok 18446744073709551615 c.step (omega arith) (is_wide_of c.step low)) refl
 
 pub run_ok : (cs : List Committed) (rest : WordsLeft) → list_all is_committed cs ≡ true → run rest ≡ ([], rest) → run (run_words cs ++ rest) ≡ (cs, rest)

@@ -1,5 +1,5 @@
 -- What the form of a delivery reads is what its words say.
-use Rattle.std.specs.Prelude.{◌≡◌, ℕ, Bool, true, false, ◌&&◌, if◌then◌else◌, List, [], ◌∷◌, codes, bytes_eq, refl, Option, Some, None, option_map, option_and_then}
+use Rattle.std.specs.Prelude.{◌≡◌, ℕ, Bool, true, false, ◌&&◌, if◌then◌else◌, [], ◌∷◌, codes, bytes_eq, refl, Option, Some, None, option_and_then}
 use Rattle.std.specs.Fmt.{decimal}
 use Rattle.std.proofs.Common.{sym, ◌∙◌, ap, subst, arith}
 use Rattle.std.proofs.lemmas.Slice.Eq.{bytes_eq-Decides}
@@ -7,12 +7,12 @@ use Rattle.sg_model.specs.Names.{Name, is_name}
 use Rattle.sg_model.proofs.Small.{and_left, and_right, some_same}
 use Rattle.sg_base.specs.Words.{name, number}
 use Rattle.sg_sched.specs.Words.{frame}
-use Rattle.sg_sched.specs.Format.LineContents.{Word, Delivered, LineContent, DeliverLine, TheFrame, TheFlipped, TheCut, TheBytes, line_words, delivered_words, frame_word}
+use Rattle.sg_sched.specs.Format.LineContents.{Word, Delivered, LineContent, DeliverLine, TheFrame, TheFlipped, TheCut, TheBytes, delivered_words, frame_word}
 use Rattle.sg_sched.specs.Format.Forms.{is_form, is_delivered, is_frame, is_short}
 use Rattle.sg_sched.specs.Format.Values.{is_hex}
 use Rattle.sg_sched.specs.Format.Reading.{WordsLeft, word, after, ended, hex, short, frame_form, what_form, deliver_form}
-use Rattle.sg_sched.proofs.FormatWords.{both, same_self}
-use Rattle.sg_sched.proofs.FormLaws.{none_some, step, ended_is, line_up, name_is, name_ok, Fits, fits}
+use Rattle.sg_sched.proofs.FormatWords.{both}
+use Rattle.sg_sched.proofs.FormLaws.{none_some, step, ended_is, line_up, tested_is, name_is, name_ok, Fits, fits}
 use Rattle.sg_sched.proofs.NumberLaws.{number_is, number_ok, frame_is, frame_ok, short_is, is_short_of}
 
 -- the words behind the name
@@ -47,11 +47,7 @@ frame_gives who n (w ∷ ws) s f h = by (bytes_eq w (codes "flip")) (bytes_eq w 
 
 digits_are : (w d : Word) → hex w ≡ Some d → (w ≡ d) × (is_hex d ≡ true)
 unfolding hex
-digits_are w d h = by (is_hex w) refl h
-  where
-    by : (b : Bool) → is_hex w ≡ b → (if b then Some w else None) ≡ Some d → (w ≡ d) × (is_hex d ≡ true)
-    by true e h = (some_same h, subst (λ v. is_hex v ≡ true) (some_same h) e)
-    by false e h = none_some h
+digits_are w d h = tested_is is_hex w d h
 
 digits_ok : (d : Word) → is_hex d ≡ true → hex d ≡ Some d
 unfolding hex

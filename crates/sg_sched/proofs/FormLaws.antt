@@ -1,22 +1,16 @@
 -- What the forms read is what their words say.
-use Rattle.std.specs.Prelude.{◌≡◌, ℕ, suc, ◌+◌, ◌-◌, ◌*◌, ◌<◌, ◌≤◌, ◌^◌, ◌%◌, ◌==◌, nat_lt, nat_le, Bool, true, false, not, ◌&&◌, ◌||◌, if◌then◌else◌, List, [], ◌∷◌, ◌++◌, map, length, codes, bytes_eq, slice_index, get_or, fold, refl, Option, Some, None, option_map, option_and_then}
-use Rattle.std.specs.List.{list_all}
-use Rattle.std.specs.Fmt.{decimal}
-use Rattle.std.specs.Str.Parse.{AllDigits}
-use Rattle.std.proofs.Common.{sym, ◌∙◌, ap, subst, arith, true≢false}
-use Rattle.std.proofs.lemmas.Bool.{leb-true, le-leb, ltb-true, lt-ltb, eqb-true}
+use Rattle.std.specs.Prelude.{◌≡◌, ℕ, ◌==◌, Bool, true, false, not, ◌&&◌, if◌then◌else◌, [], ◌∷◌, length, codes, bytes_eq, refl, Option, Some, None, option_map, option_and_then}
+use Rattle.std.proofs.Common.{sym, ◌∙◌, ap, subst, arith}
 use Rattle.std.proofs.lemmas.Grind.{common_steps}
 use Rattle.std.proofs.lemmas.Slice.Eq.{bytes_eq-Decides}
-use Rattle.sg_model.specs.Names.{Name, is_name, reserved}
-use Rattle.sg_model.specs.Lists.{has_text, all_differ}
+use Rattle.sg_model.specs.Names.{Name, is_name}
 use Rattle.sg_model.proofs.Small.{and_left, and_right, some_same}
-use Rattle.sg_base.specs.Words.{name, number, up_to}
-use Rattle.sg_sched.specs.Words.{frame}
-use Rattle.sg_sched.specs.Format.LineContents.{Word, LineContent, BlockLine, EdgeLine, HonestLine, KeyLine, StartLine, AbandonLine, line_words}
+use Rattle.sg_base.specs.Words.{name}
+use Rattle.sg_sched.specs.Format.LineContents.{Word, LineContent, BlockLine, HonestLine, KeyLine, StartLine, AbandonLine, line_words}
 use Rattle.sg_sched.specs.Format.Forms.{is_form, are_names}
 use Rattle.sg_sched.specs.Format.Values.{is_hex_of}
-use Rattle.sg_sched.specs.Format.Reading.{WordsLeft, Taker, word, after, ended, hex_of, block_form, honest_form, key_form, key_of, start_form, abandon_form}
-use Rattle.sg_sched.proofs.FormatWords.{both, same_self}
+use Rattle.sg_sched.specs.Format.Reading.{WordsLeft, word, after, ended, hex_of, block_form, honest_form, key_form, key_of, in_session, start_form, abandon_form}
+use Rattle.sg_sched.proofs.FormatWords.{both}
 
 -- ---- steps
 
@@ -53,17 +47,21 @@ line_up a b c = a ∙ (λ i. b i ∷ c i)
 
 -- ---- words
 
+-- a word that passes a test
+pub tested_is : (test : Word → Bool) (w x : Word) → (if test w then Some w else None) ≡ Some x → (w ≡ x) × (test x ≡ true)
+tested_is test w x h = by (test w) refl h
+  where
+    by : (b : Bool) → test w ≡ b → (if b then Some w else None) ≡ Some x → (w ≡ x) × (test x ≡ true)
+    by true e h = (some_same h, subst (λ v. test v ≡ true) (some_same h) e)
+    by false e h = none_some h
+
 pub record NameIs (w n : Word) : Type 0 where
   pub same : w ≡ n
   pub name : is_name n ≡ true
 
 pub name_is : (w n : Word) → name w ≡ Some n → NameIs w n
 unfolding name
-name_is w n h = by (is_name w) refl h
-  where
-    by : (b : Bool) → is_name w ≡ b → (if b then Some w else None) ≡ Some n → NameIs w n
-    by true e h = record { same = some_same h; name = subst (λ v. is_name v ≡ true) (some_same h) e }
-    by false e h = none_some h
+name_is w n h = let t = tested_is is_name w n h in record { same = t.0; name = t.1 }
 
 pub name_ok : (n : Name) → is_name n ≡ true → name n ≡ Some n
 unfolding name
@@ -91,33 +89,44 @@ pub honest_complete : (who : Name) → is_form (HonestLine who) ≡ true → hon
 unfolding honest_form word
 honest_complete who h = rw (name_ok who h) refl
 
-pub start_sound : (ws : WordsLeft) (s : LineContent) → start_form ws ≡ Some s → Fits (codes "start" ∷ ws) s
-unfolding start_form
-start_sound ws s h =
-    let a = step name (λ who. after (word name) λ session. ended (Some (StartLine who session))) ws s h in
-    let b = step name (λ session. ended (Some (StartLine a.value session))) a.rest s a.more in
-    let e = ended_is (Some (StartLine a.value b.value)) b.rest s b.more in
+in_session_is : (ws : WordsLeft) (p : Name × Name) → in_session ws ≡ Some p → (ws ≡ p.0 ∷ p.1 ∷ []) × (are_names (p.0 ∷ p.1 ∷ []) ≡ true)
+unfolding in_session
+in_session_is ws p h =
+    let a = step name (λ who. after (word name) λ session. ended (Some (who, session))) ws p h in
+    let b = step name (λ session. ended (Some (a.value, session))) a.rest p a.more in
+    let e = ended_is (Some (a.value, b.value)) b.rest p b.more in
     let m = name_is a.first a.value a.was in
     let n = name_is b.first b.value b.was in
-    fits {s = StartLine a.value b.value} (ap (λ r. codes "start" ∷ r) (line_up a.all m.same (line_up b.all n.same e.0))) (both m.name (both n.name refl)) e.1
+    subst (λ (p : Name × Name). (ws ≡ p.0 ∷ p.1 ∷ []) × (are_names (p.0 ∷ p.1 ∷ []) ≡ true)) (some_same e.1) (line_up a.all m.same (line_up b.all n.same e.0), both m.name (both n.name refl))
+
+in_session_ok : (who session : Name) → are_names (who ∷ session ∷ []) ≡ true → in_session (who ∷ session ∷ []) ≡ Some (who, session)
+unfolding in_session word
+in_session_ok who session h = rw (name_ok who (and_left (is_name who) (is_name session && true) h), name_ok session (and_left (is_name session) true (and_right (is_name who) (is_name session && true) h))) refl
+
+-- what a principal does in a session
+does_sound : (first : Word) (does : Name → Name → LineContent) → ((who session : Name) → first ∷ who ∷ session ∷ [] ≡ line_words (does who session)) → ((who session : Name) → are_names (who ∷ session ∷ []) ≡ true → is_form (does who session) ≡ true)
+    → (ws : WordsLeft) (s : LineContent) → option_map (λ (p : Name × Name). does p.0 p.1) (in_session ws) ≡ Some s → Fits (first ∷ ws) s
+does_sound first does spelled form ws s h = by (in_session ws) refl h
+  where
+    by : (o : Option (Name × Name)) → in_session ws ≡ o → option_map (λ (p : Name × Name). does p.0 p.1) o ≡ Some s → Fits (first ∷ ws) s
+    by None e h = none_some h
+    by (Some p) e h = let i = in_session_is ws p e in fits {s = does p.0 p.1} (ap (λ r. first ∷ r) i.0 ∙ spelled p.0 p.1) (form p.0 p.1 i.1) h
+
+pub start_sound : (ws : WordsLeft) (s : LineContent) → start_form ws ≡ Some s → Fits (codes "start" ∷ ws) s
+unfolding start_form
+start_sound = does_sound (codes "start") StartLine (λ who session. refl) (λ who session h. h)
 
 pub abandon_sound : (ws : WordsLeft) (s : LineContent) → abandon_form ws ≡ Some s → Fits (codes "abandon" ∷ ws) s
 unfolding abandon_form
-abandon_sound ws s h =
-    let a = step name (λ who. after (word name) λ session. ended (Some (AbandonLine who session))) ws s h in
-    let b = step name (λ session. ended (Some (AbandonLine a.value session))) a.rest s a.more in
-    let e = ended_is (Some (AbandonLine a.value b.value)) b.rest s b.more in
-    let m = name_is a.first a.value a.was in
-    let n = name_is b.first b.value b.was in
-    fits {s = AbandonLine a.value b.value} (ap (λ r. codes "abandon" ∷ r) (line_up a.all m.same (line_up b.all n.same e.0))) (both m.name (both n.name refl)) e.1
+abandon_sound = does_sound (codes "abandon") AbandonLine (λ who session. refl) (λ who session h. h)
 
 pub start_complete : (who session : Name) → is_form (StartLine who session) ≡ true → start_form (who ∷ session ∷ []) ≡ Some (StartLine who session)
-unfolding start_form word
-start_complete who session h = rw (name_ok who (and_left (is_name who) (is_name session && true) h), name_ok session (and_left (is_name session) true (and_right (is_name who) (is_name session && true) h))) refl
+unfolding start_form
+start_complete who session h = ap (option_map (λ (p : Name × Name). StartLine p.0 p.1)) (in_session_ok who session h)
 
 pub abandon_complete : (who session : Name) → is_form (AbandonLine who session) ≡ true → abandon_form (who ∷ session ∷ []) ≡ Some (AbandonLine who session)
-unfolding abandon_form word
-abandon_complete who session h = rw (name_ok who (and_left (is_name who) (is_name session && true) h), name_ok session (and_left (is_name session) true (and_right (is_name who) (is_name session && true) h))) refl
+unfolding abandon_form
+abandon_complete who session h = ap (option_map (λ (p : Name × Name). AbandonLine p.0 p.1)) (in_session_ok who session h)
 
 pub block_sound : (ws : WordsLeft) (s : LineContent) → block_form ws ≡ Some s → Fits (codes "graph" ∷ ws) s
 unfolding block_form
@@ -134,11 +143,7 @@ block_sound (w ∷ ws) s h = by (bytes_eq w (codes "{")) refl h
 
 pub hex_is : (n : ℕ) (w d : Word) → hex_of n w ≡ Some d → (w ≡ d) × (is_hex_of n d ≡ true)
 unfolding hex_of
-hex_is n w d h = by (is_hex_of n w) refl h
-  where
-    by : (b : Bool) → is_hex_of n w ≡ b → (if b then Some w else None) ≡ Some d → (w ≡ d) × (is_hex_of n d ≡ true)
-    by true e h = (some_same h, subst (λ v. is_hex_of n v ≡ true) (some_same h) e)
-    by false e h = none_some h
+hex_is n w d h = tested_is (is_hex_of n) w d h
 
 pub hex_ok : (n : ℕ) (d : Word) → is_hex_of n d ≡ true → hex_of n d ≡ Some d
 unfolding hex_of

@@ -17,7 +17,7 @@ use Rattle.sg_sched.specs.Format.Numbered.{made}
 use Rattle.sg_sched.specs.Format.Kinds.{Kind}
 use Rattle.sg_sched.specs.Format.Faults.{fault}
 use Rattle.sg_sched.specs.Format.Spells.{Line, closes, IsBlock, Add, Skip, Say, Show, IsWrong, OfNoForm, OfAForm, NotClosed, NoGraph, SameGraph}
-use Rattle.sg_sched.proofs.FormatReading.{says_one}
+use Rattle.sg_sched.proofs.LineLaws.{says_one}
 use Rattle.sg_sched.proofs.FormatOnce.{not_skipped, head_same, tail_same, first_closing}
 use Rattle.sg_sched.proofs.FormatPieces.{laid, say_or_show, skip_or_show, ok_same}
 

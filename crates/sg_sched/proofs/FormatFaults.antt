@@ -9,7 +9,7 @@ use Rattle.sg_sched.specs.Format.Kinds.{Kind, Form, Unknown, Twice, NotHonest, T
 use Rattle.sg_sched.specs.Format.Faults.{fault, blank_frame}
 use Rattle.sg_protocol.specs.Spelling.{spelling}
 use Rattle.sg_sched.specs.Format.Spells.{IsWrong, OfAForm}
-use Rattle.sg_sched.proofs.FormatHeads.{on_literals, sixty_four, given, committed, session_item, key_item, pair_items, head_p, alice_carl}
+use Rattle.sg_sched.proofs.FormatHeads.{on_literals, sixty_four, given, committed, line_item, crafted, joins, session_item, key_item, pair_items, head_p, alice_carl}
 
 -- the line is wrong after these items, whatever comes behind it
 abbrev WrongLine : List Item → List ℕ → Kind → Type 0
@@ -115,18 +115,9 @@ step_200001 = OfAForm {statement = AbandonLine (codes "a") (codes "s1")} (record
 
 -- ---- crafts
 
--- a frame of one item without commitments, and a list that is known
-abbrev crafted : List Committed → List ℕ → List Committed → List (List ℕ × TagSource) → List Committed → TagSource → LineContent
-crafted know label delta tags openings seal = MakeLine (record {
-  session = codes "s1";
-  from = codes "p";
-  to = codes "c";
-  join = None;
-  know = know;
-  items = record { label = label; time = 1; delta = delta; tags = tags } ∷ [];
-  openings = openings;
-  seal = seal;
-})
+-- a frame of one item from p to c that doesn't join
+abbrev one_item : List Committed → List ℕ → List Committed → List (List ℕ × TagSource) → List Committed → TagSource → LineContent
+one_item know label delta tags openings seal = MakeLine (crafted (codes "p") (codes "c") None know (line_item label 1 delta tags ∷ []) openings seal)
 
 -- q and price, in this order of their numbers, and the other way round
 falling : List Committed
@@ -134,41 +125,32 @@ falling = committed (codes "price") (codes "1") 1 ∷ committed (codes "q") (cod
 
 know_falls : WrongLine alice_carl (codes "craft s1 from p to c know price=1#1 q=1#1 item Pass 1 seal zero\n") Form
 unfolding on_literals falling
-know_falls = OfAForm {statement = crafted falling (codes "Pass") [] [] [] FromZero} (record { spelled = refl; form = refl }) refl
+know_falls = OfAForm {statement = one_item falling (codes "Pass") [] [] [] FromZero} (record { spelled = refl; form = refl }) refl
 
 -- the order of the tags is tested, though the label and the key aren't declared
 tags_fall : WrongLine alice_carl (codes "craft s1 from p to c item Go 1 tag w zero tag c zero seal key x y\n") Form
 unfolding on_literals
-tags_fall = OfAForm {statement = crafted [] (codes "Go") [] ((codes "w", FromZero) ∷ (codes "c", FromZero) ∷ []) [] (FromKey (codes "x") (codes "y"))} (record { spelled = refl; form = refl }) refl
+tags_fall = OfAForm {statement = one_item [] (codes "Go") [] ((codes "w", FromZero) ∷ (codes "c", FromZero) ∷ []) [] (FromKey (codes "x") (codes "y"))} (record { spelled = refl; form = refl }) refl
 
 -- the order of a list waits for all its names
 order_waits : WrongLine alice_carl (codes "craft s1 from p to c item Pass 1 price=1#1 q=1#1 r=1#1 seal zero\n") Unknown
 unfolding on_literals falling
-order_waits = OfAForm {statement = crafted [] (codes "Pass") (falling ++ committed (codes "r") (codes "1") 1 ∷ []) [] [] FromZero} (record { spelled = refl; form = refl }) refl
+order_waits = OfAForm {statement = one_item [] (codes "Pass") (falling ++ committed (codes "r") (codes "1") 1 ∷ []) [] [] FromZero} (record { spelled = refl; form = refl }) refl
 
 -- no key of two principals
 pair_unknown : WrongLine alice_carl (codes "craft s1 from p to c item Pass 1 seal key alice dan\n") Unknown
 unfolding on_literals
-pair_unknown = OfAForm {statement = crafted [] (codes "Pass") [] [] [] (FromKey (codes "alice") (codes "dan"))} (record { spelled = refl; form = refl }) refl
+pair_unknown = OfAForm {statement = one_item [] (codes "Pass") [] [] [] (FromKey (codes "alice") (codes "dan"))} (record { spelled = refl; form = refl }) refl
 
 role_unknown : WrongLine alice_carl (codes "craft s1 from p to c item Pass 1 tag c copy f1 1 z seal zero\n") Unknown
 unfolding on_literals
-role_unknown = OfAForm {statement = crafted [] (codes "Pass") [] ((codes "c", FromItem 1 1 (codes "z")) ∷ []) [] FromZero} (record { spelled = refl; form = refl }) refl
+role_unknown = OfAForm {statement = one_item [] (codes "Pass") [] ((codes "c", FromItem 1 1 (codes "z")) ∷ []) [] FromZero} (record { spelled = refl; form = refl }) refl
 
 -- ---- the length of a crafted frame
 
 -- a craft of n items without commitments
 abbrev long : ℕ → LineContent
-long n = MakeLine (record {
-  session = codes "s1";
-  from = codes "p";
-  to = codes "c";
-  join = None;
-  know = [];
-  items = replicate n (record { label = codes "Pass"; time = 1; delta = []; tags = [] });
-  openings = [];
-  seal = FromZero;
-})
+long n = MakeLine (crafted (codes "p") (codes "c") None [] (replicate n (line_item (codes "Pass") 1 [] [])) [] FromZero)
 
 -- 4 + 1 + 32 + 1 + 1 + 2 + 6658 * 9 + 1 + 32 bytes are 59,996
 length_fits : fault alice_carl (long 6658) ≡ None
@@ -183,14 +165,5 @@ length_waits = refl
 
 -- a joining frame of the words of an example has 4 + 1 + 32 + 1 + 1 + 32 + 16 + 1 + 4 + 2 + 9 + 1 + 32 bytes
 joins_short : length (spelling (blank_frame None (record { name = codes "s1"; graph = 0; nonce = 1; names = codes "a" ∷ codes "b" ∷ []; version = 1 })
-    (record {
-      session = codes "s1";
-      from = codes "a";
-      to = codes "b";
-      join = Some (record { nonce = None; names = None });
-      know = [];
-      items = record { label = codes "Request"; time = 1; delta = []; tags = [] } ∷ [];
-      openings = [];
-      seal = FromKey (codes "a") (codes "b");
-    }))) ≡ 136
+    (crafted (codes "a") (codes "b") joins [] (line_item (codes "Request") 1 [] [] ∷ []) [] (FromKey (codes "a") (codes "b"))))) ≡ 136
 joins_short = refl

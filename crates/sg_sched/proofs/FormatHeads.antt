@@ -1,19 +1,39 @@
 -- What is computed on literal lines, and the heads of the examples: what the lines before declare.
-use Rattle.std.specs.Prelude.{ℕ, ⊤, List, [], ◌∷◌, ◌++◌, map, replicate, codes}
+use Rattle.std.specs.Prelude.{◌≡◌, ℕ, ⊤, true, List, [], ◌∷◌, ◌++◌, map, replicate, codes, Option, Some, None}
 use Rattle.std.specs.Fmt.{digits}
 use Rattle.std.specs.Str.{is_utf8, chars}
 use lib.Utf8.{encode}
 use Rattle.hex.specs.Hex.{decode_pairs}
 use Rattle.sg_sched.proofs.FormatGraphs.{shop, relay}
-use Rattle.sg_base.specs.Words.{number}
+use Rattle.sg_base.specs.Words.{name, number}
+use Rattle.sg_sched.specs.Words.{frame, names}
 use Rattle.sg_sched.specs.Pair.{edge}
-use Rattle.sg_sched.specs.Format.LineContents.{Word, Assignment, Committed}
+use Rattle.sg_sched.specs.Text.{content, words}
+use Rattle.sg_sched.specs.Format.LineContents.{Word, Assignment, Committed, TagSource, ItemContent, CraftContent, LineContent, line_words}
+use Rattle.sg_sched.specs.Format.Forms.{is_form}
+use Rattle.sg_sched.specs.Format.Numbered.{made}
+use Rattle.sg_sched.specs.Format.Faults.{fault}
+use Rattle.sg_sched.specs.Format.Spells.{Line, Add, Say}
+use Rattle.sg_protocol.specs.Schedule.{CraftJoin}
+use Rattle.sg_sched.specs.Format.Reading.{word, hex_of, hex, version, given as an_assignment, block_form, edge_form, honest_form, key_form, session_form, in_session, start_form, act_form, abandon_form, frame_form, what_form, deliver_form}
+use Rattle.sg_sched.specs.Format.CraftReading.{committed as a_commitment, cast, time, listed, copy_source, source, tag, item, join_parts, join, ends, seal_form, craft_form}
+use Rattle.sg_sched.specs.Format.Form.{form}
 use Rattle.sg_sched.specs.Format.Items.{Item, GraphItem, EdgeItem, HonestItem, KeyItem, SessionItem}
 
 -- what the check of a literal line unfolds
 unfoldable pub on_literals : ⊤
 unfolding digits number is_utf8 chars encode decode_pairs
 on_literals = tt
+
+-- what the check of the form of a literal line unfolds
+unfoldable pub on_forms : ⊤
+unfolding on_literals form block_form edge_form honest_form key_form session_form in_session start_form act_form abandon_form deliver_form craft_form word name names frame hex_of hex version an_assignment frame_form what_form
+    a_commitment cast time listed copy_source source tag item join_parts join ends seal_form
+on_forms = tt
+
+-- a line of a form that is right adds its item
+pub said : {before : List Item} {line : Line} {item : Item} (statement : LineContent) → words (content line) ≡ line_words statement → is_form statement ≡ true → fault before statement ≡ None → made before statement ≡ Some item → Add before (line ∷ []) (item ∷ [])
+said statement spelled form right makes = Say (record { spelled = spelled; form = form }) right makes
 
 -- the digit c, 64 times
 abbrev pub sixty_four : ℕ → Word
@@ -38,6 +58,18 @@ given variable value = record { variable = variable; value = value }
 -- VAR=VALUE#K
 abbrev pub committed : List ℕ → List ℕ → ℕ → Committed
 committed variable value step = record { variable = variable; value = value; step = step }
+
+-- an item of a craft's line
+abbrev pub line_item : List ℕ → ℕ → List Committed → List (List ℕ × TagSource) → ItemContent
+line_item label time delta tags = record { label = label; time = time; delta = delta; tags = tags }
+
+-- the words of a craft in s1
+abbrev pub crafted : (from to : List ℕ) → Option CraftJoin → (know : List Committed) → List ItemContent → (openings : List Committed) → TagSource → CraftContent
+crafted from to join know items openings seal = record { session = codes "s1"; from = from; to = to; join = join; know = know; items = items; openings = openings; seal = seal }
+
+-- with its own nonce and cast
+abbrev pub joins : Option CraftJoin
+joins = Some (record { nonce = None; names = None })
 
 -- the edges of `pair`
 abbrev pub pair_items : List Item

@@ -1,5 +1,5 @@
 -- Lines declare one list of items at most.
-use Rattle.std.specs.Prelude.{◌≡◌, ℕ, suc, ◌==◌, nat_lt, Bool, true, false, not, ◌||◌, List, [], ◌∷◌, ◌++◌, filter, length, refl}
+use Rattle.std.specs.Prelude.{◌≡◌, ℕ, ◌==◌, nat_lt, Bool, true, false, not, ◌||◌, List, [], ◌∷◌, ◌++◌, filter, length, refl}
 use Rattle.std.specs.List.{list_all, slice_split, onto_first}
 use Rattle.std.proofs.Common.{sym, ◌∙◌, ap, subst, arith}
 use Rattle.std.proofs.lemmas.Bool.{eqb-true}
@@ -9,78 +9,47 @@ use Rattle.sg_sched.specs.Format.LineContents.{Word, LineContent, BlockLine, Edg
 use Rattle.sg_sched.specs.Format.Forms.{SaysLine, is_comment, is_skipped}
 use Rattle.sg_sched.specs.Format.Spells.{Line, closes}
 
-true_false : true ≡ false → ⊥
-true_false e = cc
-
 -- ---- a line of a form is not skipped
 
--- the first word begins with #
-abbrev first_hash : List Word → Bool
-first_hash [] = false
-first_hash ([] ∷ ws) = false
-first_hash ((c ∷ cs) ∷ ws) = c == 35
+-- a first word, which doesn't begin with #
+abbrev begins : List Word → Bool
+begins [] = false
+begins ([] ∷ ws) = false
+begins ((c ∷ cs) ∷ ws) = not (c == 35)
 
-no_hash : (statement : LineContent) → first_hash (line_words statement) ≡ false
-no_hash BlockLine = refl
-no_hash (EdgeLine label from to) = refl
-no_hash (HonestLine who) = refl
-no_hash (KeyLine one two ds) = refl
-no_hash (SessionLine name graph n names version) = refl
-no_hash (StartLine who session) = refl
-no_hash (ActLine who session label values) = refl
-no_hash (AbandonLine who session) = refl
-no_hash (DeliverLine who what) = refl
-no_hash (MakeLine c) = refl
+says_begins : (statement : LineContent) → begins (line_words statement) ≡ true
+says_begins BlockLine = refl
+says_begins (EdgeLine label from to) = refl
+says_begins (HonestLine who) = refl
+says_begins (KeyLine one two ds) = refl
+says_begins (SessionLine name graph n names version) = refl
+says_begins (StartLine who session) = refl
+says_begins (ActLine who session label values) = refl
+says_begins (AbandonLine who session) = refl
+says_begins (DeliverLine who what) = refl
+says_begins (MakeLine c) = refl
 
--- no word
-abbrev is_empty : List Word → Bool
-is_empty [] = true
-is_empty (w ∷ ws) = false
+blank_begins : (ws : List Word) → (length ws == 0) ≡ true → begins ws ≡ false
+blank_begins [] e = refl
+blank_begins (w ∷ ws) e = let none : length (w ∷ ws) ≡ 0 = eqb-true (length (w ∷ ws)) 0 e in absurd (omega arith)
 
-suc_zero : (n : ℕ) → (suc n == 0) ≡ false
-suc_zero n = by (suc n == 0) refl
+comment_begins : (text : List ℕ) → is_comment text ≡ true → begins (words text) ≡ false
+comment_begins [] h = refl
+comment_begins (c ∷ cs) h = subst (λ (b : ℕ). begins (words (b ∷ cs)) ≡ false) (sym (eqb-true c 35 h)) (by (slice_split (λ b. b == 32) cs))
   where
-    by : (b : Bool) → (suc n == 0) ≡ b → b ≡ false
-    by false e = refl
-    by true e = let same : suc n ≡ 0 = eqb-true (suc n) 0 e in absurd (omega arith)
-
-empty_is : (ws : List Word) → (length ws == 0) ≡ true → is_empty ws ≡ true
-empty_is [] e = refl
-empty_is (w ∷ ws) e = absurd (contradicts e (suc_zero (length ws)))
-
-some_word : (statement : LineContent) → is_empty (line_words statement) ≡ false
-some_word BlockLine = refl
-some_word (EdgeLine label from to) = refl
-some_word (HonestLine who) = refl
-some_word (KeyLine one two ds) = refl
-some_word (SessionLine name graph n names version) = refl
-some_word (StartLine who session) = refl
-some_word (ActLine who session label values) = refl
-some_word (AbandonLine who session) = refl
-some_word (DeliverLine who what) = refl
-some_word (MakeLine c) = refl
-
-hash_first : (text : List ℕ) → is_comment text ≡ true → first_hash (words text) ≡ true
-hash_first [] h = absurd (cc)
-hash_first (c ∷ cs) h = subst (λ (b : ℕ). first_hash (words (b ∷ cs)) ≡ true) (sym (eqb-true c 35 h)) (by (slice_split (λ b. b == 32) cs))
-  where
-    by : (parts : List Word) → first_hash (filter (λ w. nat_lt 0 (length w)) (onto_first 35 parts)) ≡ true
+    by : (parts : List Word) → begins (filter (λ w. nat_lt 0 (length w)) (onto_first 35 parts)) ≡ false
     by [] = refl
     by (p ∷ ps) = rw (zero_less (length p))
 
 pub not_skipped : (line : Line) (statement : LineContent) → SaysLine line statement → is_skipped line ≡ true → ⊥
-not_skipped line statement says skipped = by (is_comment (content line)) refl
+not_skipped line statement says skipped = contradicts (ap begins says.spelled ∙ says_begins statement) (by (is_comment (content line)) refl comment_or_blank)
   where
     comment_or_blank : (is_comment (content line) || length (words (content line)) == 0) ≡ true
     comment_or_blank = and_right (list_all (λ b. nat_lt b 128) (content line)) (is_comment (content line) || length (words (content line)) == 0) skipped
 
-    blank : (a b : Bool) → (a || b) ≡ true → a ≡ false → b ≡ true
-    blank true b p q = absurd (true_false q)
-    blank false b p q = p
-
-    by : (b : Bool) → is_comment (content line) ≡ b → ⊥
-    by true e = contradicts (hash_first (content line) e) (ap first_hash says.spelled ∙ no_hash statement)
-    by false e = contradicts (empty_is (words (content line)) (blank (is_comment (content line)) (length (words (content line)) == 0) comment_or_blank e)) (ap is_empty says.spelled ∙ some_word statement)
+    by : (b : Bool) → is_comment (content line) ≡ b → (b || length (words (content line)) == 0) ≡ true → begins (words (content line)) ≡ false
+    by true e h = comment_begins (content line) e
+    by false e h = blank_begins (words (content line)) h
 
 -- ---- a block ends at its first closing line
 

@@ -1,16 +1,17 @@
 -- A text with edge lines and a block of a graph named `pair` spells no schedule.
-use Rattle.std.specs.Prelude.{◌≡◌, ℕ, Bool, true, false, List, [], ◌∷◌, ◌++◌, codes, refl, Option, Some, None, Result, Ok}
+use Rattle.std.specs.Prelude.{◌≡◌, ℕ, Bool, true, false, ◌||◌, List, [], ◌∷◌, ◌++◌, codes, refl, Option, Some, None}
+use Rattle.std.specs.List.{list_any}
 use Rattle.std.proofs.Common.{sym, ◌∙◌, ap, subst, append-nil}
+use Rattle.std.proofs.lemmas.List.Folds.{list_any-append}
 use Rattle.sg_model.specs.Lists.{has_text}
 use Rattle.sg_model.specs.Names.{Name}
 use Rattle.sg_model.proofs.Differ.{later_text}
-use Rattle.sg_model.proofs.Small.{contradicts}
+use Rattle.sg_model.proofs.Small.{contradicts, or_true}
 use Rattle.sg_protocol.specs.Graph.{Graph, Edge}
 use Rattle.sg_protocol.specs.Texts.{Hash}
 use Rattle.sg_protocol.specs.Schedule.{Schedule}
 use Rattle.sg_parse.specs.Grammar.{SpellsGraph}
 use Rattle.sg_parse.specs.Reading.{read}
-use Rattle.sg_parse.specs.declared.fault.ParseFault.{ParseFault}
 use Rattle.sg_parse.proofs.GivesGraph.{spells-read}
 use Rattle.sg_sched.specs.Text.{lines}
 use Rattle.sg_sched.specs.Pair.{edge, graphs_of}
@@ -19,40 +20,26 @@ use Rattle.sg_sched.specs.Format.Forms.{SaysLine, is_skipped}
 use Rattle.sg_sched.specs.Format.Items.{Item, GraphItem, EdgeItem, HonestItem, KeyItem, SessionItem, StepItem, blocks, edges, graphs, graph_names}
 use Rattle.sg_sched.specs.Format.Numbered.{made}
 use Rattle.sg_sched.specs.Format.Spells.{Line, IsBlock, Skip, Say, Show, SpellsSchedule, IsPairAt}
-use Rattle.sg_sched.proofs.FormatReading.{says_one}
+use Rattle.sg_sched.proofs.LineLaws.{says_one}
 use Rattle.sg_sched.proofs.FormatOnce.{not_skipped, head_same}
-use Rattle.sg_sched.proofs.FormatPieces.{laid, say_or_show, skip_or_show}
+use Rattle.sg_sched.proofs.FormatPieces.{laid, say_or_show, skip_or_show, ok_same}
 use Rattle.sg_sched.proofs.FormatOne.{Prefix, Done, More, of_declare}
 use Rattle.sg_sched.proofs.FormatApart.{one_text, names_append}
 use Rattle.sg_sched.proofs.FormatNotBoth.{behind}
 
 -- an edge is declared
+abbrev is_edge : Item → Bool
+is_edge (EdgeItem e) = true
+is_edge other = false
+
 abbrev some_edge : List Item → Bool
-some_edge [] = false
-some_edge (EdgeItem e ∷ is) = true
-some_edge (GraphItem g ∷ is) = some_edge is
-some_edge (HonestItem n ∷ is) = some_edge is
-some_edge (KeyItem k ∷ is) = some_edge is
-some_edge (SessionItem s ∷ is) = some_edge is
-some_edge (StepItem s ∷ is) = some_edge is
+some_edge is = list_any is_edge is
 
 edge_kept : (xs ys : List Item) → some_edge xs ≡ true → some_edge (xs ++ ys) ≡ true
-edge_kept [] ys h = absurd (cc)
-edge_kept (EdgeItem e ∷ is) ys h = refl
-edge_kept (GraphItem g ∷ is) ys h = edge_kept is ys h
-edge_kept (HonestItem n ∷ is) ys h = edge_kept is ys h
-edge_kept (KeyItem k ∷ is) ys h = edge_kept is ys h
-edge_kept (SessionItem s ∷ is) ys h = edge_kept is ys h
-edge_kept (StepItem s ∷ is) ys h = edge_kept is ys h
+edge_kept xs ys h = list_any-append is_edge xs ys ∙ ap (λ b. b || some_edge ys) h
 
 edge_last : (xs : List Item) (e : Edge) → some_edge (xs ++ EdgeItem e ∷ []) ≡ true
-edge_last [] e = refl
-edge_last (EdgeItem d ∷ is) e = refl
-edge_last (GraphItem g ∷ is) e = edge_last is e
-edge_last (HonestItem n ∷ is) e = edge_last is e
-edge_last (KeyItem k ∷ is) e = edge_last is e
-edge_last (SessionItem s ∷ is) e = edge_last is e
-edge_last (StepItem s ∷ is) e = edge_last is e
+edge_last xs e = list_any-append is_edge xs (EdgeItem e ∷ []) ∙ or_true (some_edge xs)
 
 prefix_edge : {before all : List Item} {ls : List Line} → Prefix before ls all → some_edge before ≡ true → some_edge all ≡ true
 prefix_edge Done h = h
@@ -101,19 +88,14 @@ no_pair before all _ block rest text g (More {rest = r} (Say {line = l} {stateme
 no_pair before all _ block rest text g (More {rest = r} (Show {block = block'} {text = text'} {g = g'} b' spells' fresh) f) h b spells named e =
     let same : g' ≡ g = ok_same g' g (read text') (spells-read text' g' spells') (ap read (one_text before block' block r rest text' text b' b e) ∙ spells-read text g spells) in
     contradicts (pair_named before h) (ap (λ n. has_text n (graph_names (graphs before))) (sym (ap (λ (x : Graph). x.name) same ∙ named)) ∙ fresh)
-  where
-    ok_same : (g h : Graph) (r : Result Graph ParseFault) → r ≡ Ok g → r ≡ Ok h → g ≡ h
-    ok_same g h r p q = ap inside (sym p ∙ q)
-      where
-        inside : Result Graph ParseFault → Graph
-        inside (Ok x) = x
-        inside other = g
 
 -- bytes that spell a schedule have no block of a graph named `pair` beside edge lines
 pub no_pair_at : (sha : Hash) (bytes : List ℕ) (s : Schedule) (n : ℕ) → SpellsSchedule sha bytes s → IsPairAt (lines bytes) n → ⊥
 no_pair_at sha bytes s n p w =
+    let f = w.first_edge in
     let whole : Prefix [] (lines bytes) p.items = subst (λ ls. Prefix [] ls p.items) (append-nil (lines bytes)) (of_declare p.declared [] p.items Done) in
-    let cut : Prefix w.later (w.block ++ w.rest) p.items = behind w.declared_later (w.block ++ w.rest) p.items (subst (λ ls. Prefix [] ls p.items) w.all whole) in
-    let first : Prefix [] (w.right ++ w.edge_line ∷ w.more) w.later = subst (λ ls. Prefix [] ls w.later) (append-nil (w.right ++ w.edge_line ∷ w.more)) (of_declare w.declared_later [] w.later Done) in
-    let edged : some_edge w.later ≡ true = edge_then w.items w.later (w.edge_line ∷ w.more) w.more w.edge_line w.label w.from w.to (behind w.declared (w.edge_line ∷ w.more) w.later first) w.is_edge refl in
-    no_pair w.later p.items (w.block ++ w.rest) w.block w.rest w.text w.graph cut edged w.is_block w.spelled w.named refl
+    let cut : Prefix w.items (w.block ++ w.rest) p.items = behind w.declared (w.block ++ w.rest) p.items (subst (λ ls. Prefix [] ls p.items) w.all whole) in
+    let first : Prefix [] w.right w.items = subst (λ ls. Prefix [] ls w.items) (append-nil w.right) (of_declare w.declared [] w.items Done) in
+    let further : Prefix f.items (f.edge_line ∷ f.more) w.items = behind f.declared (f.edge_line ∷ f.more) w.items (subst (λ ls. Prefix [] ls w.items) f.all first) in
+    let edged : some_edge w.items ≡ true = edge_then f.items w.items (f.edge_line ∷ f.more) f.more f.edge_line f.label f.from f.to further f.is_edge refl in
+    no_pair w.items p.items (w.block ++ w.rest) w.block w.rest w.text w.graph cut edged w.is_block w.spelled w.named refl

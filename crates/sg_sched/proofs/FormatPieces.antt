@@ -13,7 +13,7 @@ use Rattle.sg_sched.specs.Format.Forms.{SaysLine, is_skipped}
 use Rattle.sg_sched.specs.Format.Items.{Item, GraphItem}
 use Rattle.sg_sched.specs.Format.Numbered.{made}
 use Rattle.sg_sched.specs.Format.Spells.{Line, IsBlock, Add, Skip, Say, Show}
-use Rattle.sg_sched.proofs.FormatReading.{says_one}
+use Rattle.sg_sched.proofs.LineLaws.{says_one}
 use Rattle.sg_sched.proofs.FormatOnce.{not_skipped, head_same, tail_same, first_closing}
 
 -- the same lines that add the same items, and the same rest

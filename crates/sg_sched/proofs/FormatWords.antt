@@ -1,17 +1,14 @@
 -- What single words can say: numbers, names with commas, VAR=VALUE, and frames.
-use Rattle.std.specs.Prelude.{◌≡◌, ℕ, ◌<◌, ◌^◌, ◌==◌, nat_lt, nat_le, Bool, true, false, not, ◌&&◌, if◌then◌else◌, List, [], ◌∷◌, ◌++◌, map, length, bytes_eq, refl, Option, Some, None, option_map, option_and_then}
+use Rattle.std.specs.Prelude.{◌≡◌, ℕ, ◌<◌, ◌^◌, ◌==◌, nat_le, Bool, true, false, not, ◌&&◌, List, [], ◌∷◌, ◌++◌, length, bytes_eq, refl}
 use Rattle.std.specs.List.{list_all, slice_split, onto_first}
-use Rattle.std.specs.Fmt.{decimal}
-use Rattle.std.specs.Str.Parse.{digits_value}
-use Rattle.std.proofs.Common.{sym, ◌∙◌, ap, subst, arith, cond}
-use Rattle.std.proofs.lemmas.Bool.{leb-true, ltb-true, eqb-true}
-use Rattle.std.proofs.lemmas.Fmt.{decimal_is_IsNumeral}
+use Rattle.std.proofs.Common.{sym, ◌∙◌, ap, subst, cond}
+use Rattle.std.proofs.lemmas.Bool.{ltb-true, eqb-true}
 use Rattle.std.proofs.lemmas.Slice.Eq.{bytes_eq-Decides}
 use Rattle.sg_model.specs.Names.{Name, is_letter, is_name, is_name_byte}
 use Rattle.sg_model.proofs.Small.{and_left, and_right}
 use Rattle.sg_protocol.proofs.GraphText.{letter_byte}
-use Rattle.sg_sched.specs.Format.LineContents.{Word, Assignment, joined_names, assignment_word}
-use Rattle.sg_sched.specs.Format.Forms.{is_wide, is_short, is_frame, is_assignment}
+use Rattle.sg_sched.specs.Format.LineContents.{Word, joined_names}
+use Rattle.sg_sched.specs.Format.Forms.{is_wide}
 
 -- ---- tests
 
@@ -21,16 +18,6 @@ both {a = false} p q = p
 
 pub same_self : (w : Word) → bytes_eq w w ≡ true
 same_self w = (bytes_eq-Decides w w).1 refl
-
--- ---- numbers
-
--- the number whose decimal digits the word is
-abbrev pub number_word : Word → Option ℕ
-number_word w = let n = digits_value 10 w in if bytes_eq (decimal n) w then Some n else None
-
-pub number_decimal : (n : ℕ) → n < 2 ^ 64 → number_word (decimal n) ≡ Some n
-number_decimal n small = let same : digits_value 10 (decimal n) ≡ n = (decimal_is_IsNumeral n small).1 in
-    rw (same, same_self (decimal n))
 
 -- ---- bytes that names and numbers don't have
 
@@ -92,62 +79,7 @@ name_list-joined n [] h = one_part n (name_lacks 44 n refl (and_left (is_name n)
 name_list-joined n (m ∷ ms) h = first_part n (joined_names (m ∷ ms)) (name_lacks 44 n refl (and_left (is_name n) _ h))
     ∙ ap (λ (r : List Name). n ∷ r) (name_list-joined m ms (and_right (is_name n) _ h))
 
--- ---- VAR=VALUE
-
--- a byte before what is split, or the = itself
-abbrev pub equal_step : ℕ → Word → Bool → Option (Word × Word) → Option (Word × Word)
-equal_step c cs true o = Some ([], cs)
-equal_step c cs false o = option_map (λ (p : Word × Word). (c ∷ p.0, p.1)) o
-
--- what stands before the first = and behind it
-abbrev pub equal_split : Word → Option (Word × Word)
-equal_split [] = None
-equal_split (c ∷ cs) = equal_step c cs (c == 61) (equal_split cs)
-
-pub equal_split-at : (n v : Word) → lacks 61 n ≡ true → equal_split (n ++ 61 ∷ v) ≡ Some (n, v)
-equal_split-at [] v h = refl
-equal_split-at (c ∷ cs) v h = by (c == 61) (equal_split-at cs v (and_right (not (c == 61)) (lacks 61 cs) h)) (and_left (not (c == 61)) (lacks 61 cs) h)
-  where
-    by : (b : Bool) → equal_split (cs ++ 61 ∷ v) ≡ Some (cs, v) → not b ≡ true → equal_step c (cs ++ 61 ∷ v) b (equal_split (cs ++ 61 ∷ v)) ≡ Some (c ∷ cs, v)
-    by false ih l = rw ih
-    by true ih l = absurd (cc)
-
--- a word as VAR=VALUE
-abbrev pub assignment_read : Word → Option Assignment
-assignment_read w = option_map (λ (p : Word × Word). record { variable = p.0; value = p.1 }) (equal_split w)
-
--- every word as VAR=VALUE
-abbrev pub assignments_statement : List Word → Option (List Assignment)
-assignments_statement [] = Some []
-assignments_statement (w ∷ ws) = option_and_then (λ v. option_map (λ vs. v ∷ vs) (assignments_statement ws)) (assignment_read w)
-
-pub assignments_complete : (vs : List Assignment) → list_all is_assignment vs ≡ true → assignments_statement (map assignment_word vs) ≡ Some vs
-assignments_complete [] h = refl
-assignments_complete (v ∷ vs) h = rw (
-  equal_split-at v.variable v.value (name_lacks 61 v.variable refl (and_left (is_name v.variable) _ (and_left (is_assignment v) _ h))),
-  assignments_complete vs (and_right (is_assignment v) _ h),
-)
-
--- ---- frames
-
--- f and the digits of a number
-abbrev pub frame_number : Word → Option ℕ
-frame_number [] = None
-frame_number (c ∷ cs) = if c == 102 then number_word cs else None
-
 -- ---- bounds
-
-pub short_is_wide : (n : ℕ) → is_short n ≡ true → n < 2 ^ 64
-short_is_wide n h = let l = ltb-true n 4294967296 h in omega arith
-
-pub frame_is_wide : (n : ℕ) → is_frame n ≡ true → n < 2 ^ 64
-frame_is_wide n h = short_is_wide n (and_right (nat_lt 0 n) (is_short n) h)
-
-pub byte_is_wide : (n : ℕ) → nat_le n 255 ≡ true → n < 2 ^ 64
-byte_is_wide n h = let l = leb-true n 255 h in omega arith
-
-pub time_is_wide : (n : ℕ) → nat_le n 1000000 ≡ true → n < 2 ^ 64
-time_is_wide n h = let l = leb-true n 1000000 h in omega arith
 
 pub wide : (n : ℕ) → is_wide n ≡ true → n < 2 ^ 64
 wide n h = ltb-true n 18446744073709551616 h

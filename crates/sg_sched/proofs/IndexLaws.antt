@@ -1,5 +1,5 @@
 -- The index that is found is that of the name.
-use Rattle.std.proofs.Common.{◌≡◌, ◌∙◌, ap, sym, refl, Bool, true, false, true≢false, List, [], Some, None, Option, IsSome, IfSome, IsTrue, ◌↔◌, ℕ, ◌<◌, length, get_or, map, bytes_eq, position}
+use Rattle.std.proofs.Common.{◌≡◌, ◌∙◌, sym, refl, Bool, true, false, true≢false, List, [], Some, None, Option, IsSome, IfSome, IsTrue, ◌↔◌, ℕ, ◌<◌, length, get_or, map, bytes_eq, position}
 use Rattle.std.proofs.lemmas.List.{length-map, get_or-map}
 use Rattle.sg_model.specs.Names.{Name}
 use Rattle.sg_model.specs.Lists.{has_text, all_differ}

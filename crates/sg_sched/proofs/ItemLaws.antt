@@ -1,26 +1,19 @@
 -- What the takers of items and of a craft's parts take off is what the words say.
-use Rattle.std.specs.Prelude.{◌≡◌, ℕ, zero, suc, ◌<◌, ◌≤◌, ◌^◌, ◌==◌, nat_lt, nat_le, Bool, true, false, not, ◌&&◌, if◌then◌else◌, List, [], ◌∷◌, ◌++◌, map, flat_map, length, codes, bytes_eq, refl, Option, Some, None, option_map, option_and_then}
-use Rattle.std.specs.List.{list_all}
-use Rattle.std.specs.Option.{option_map_or}
+use Rattle.std.specs.Prelude.{◌≡◌, ℕ, nat_le, Bool, true, false, if◌then◌else◌, List, ◌∷◌, ◌++◌, map, flat_map, length, codes, refl, Option, Some, None, option_and_then}
 use Rattle.std.specs.Fmt.{decimal}
-use Rattle.std.proofs.Common.{sym, ◌∙◌, ap, subst, arith, append-nil, append_assoc}
-use Rattle.std.proofs.lemmas.Grind.{common_steps}
-use Rattle.std.proofs.lemmas.Bool.{leb-true, le-leb, eqb-true}
-use Rattle.std.proofs.lemmas.Slice.Eq.{bytes_eq-Decides}
-use Rattle.sg_model.specs.Names.{Name, is_name}
+use Rattle.std.proofs.Common.{sym, ◌∙◌, ap, subst, arith, append_assoc}
+use Rattle.std.proofs.lemmas.Bool.{le-leb}
+use Rattle.sg_model.specs.Names.{Name}
 use Rattle.sg_model.proofs.Small.{some_same}
-use Rattle.sg_protocol.specs.Schedule.{CraftJoin}
 use Rattle.sg_base.specs.Words.{name, number}
-use Rattle.sg_sched.specs.Words.{frame}
-use Rattle.sg_sched.specs.Format.LineContents.{Word, Committed, TagSource, ItemContent, CraftContent, LineContent, MakeLine, committed_word, from_words, tag_words, item_words, join_words, list_words, option_words, joined_names, craft_words}
-use Rattle.sg_sched.specs.Format.Forms.{is_committed, is_source, is_tag, is_item, are_committed, is_join, is_wide, are_names, is_craft, is_form}
-use Rattle.sg_sched.specs.Format.Reading.{WordsLeft, Taker, word, after, ended}
-use Rattle.sg_sched.specs.Format.CraftReading.{time, run, few, some_of, listed, source, repeated, tag, item, is_next, all_names, name_list, sixteen, cast, optional, join_parts, join, opened, exactly, ends, ends_of, seal_form, some_items, craft_form}
+use Rattle.sg_sched.specs.Format.LineContents.{Word, Committed, TagSource, ItemContent, committed_word, from_words, tag_words}
+use Rattle.sg_sched.specs.Format.Forms.{is_tag, is_item, are_committed}
+use Rattle.sg_sched.specs.Format.Reading.{WordsLeft, word, after}
+use Rattle.sg_sched.specs.Format.CraftReading.{time, run, few, source, repeated, tag, item}
 use Rattle.sg_sched.proofs.FormatWords.{both}
-use Rattle.sg_sched.proofs.FormLaws.{none_some, step, ended_is, line_up, name_is, Fits, fits}
-use Rattle.sg_sched.proofs.NumberLaws.{number_is, wide_is}
-use Rattle.sg_sched.proofs.PartLaws.{joined_back}
-use Rattle.sg_sched.proofs.TakerLaws.{TookThen, took_then_is, took_then_of, Took, took, run_words, run_is, source_is, printed, TookAll, repeated_is}
+use Rattle.sg_sched.proofs.FormLaws.{none_some, step, line_up, name_is}
+use Rattle.sg_sched.proofs.NumberLaws.{number_is}
+use Rattle.sg_sched.proofs.TakerLaws.{took_then_is, took_then_of, Took, took, run_words, run_is, source_is, repeated_is}
 
 -- ---- tags
 

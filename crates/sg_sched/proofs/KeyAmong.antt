@@ -1,5 +1,5 @@
 -- A pair of principals has a key, whichever of them stands first in its line.
-use Rattle.std.proofs.Common.{◌≡◌, Bool, true, false, ◌&&◌, ◌||◌, List, [], ◌∷◌, bytes_eq, refl, sym, ap, ◌∙◌}
+use Rattle.std.proofs.Common.{◌≡◌, Bool, true, false, ◌&&◌, ◌||◌, List, [], ◌∷◌, bytes_eq, refl, ◌∙◌}
 use Rattle.std.specs.List.{list_any}
 use Rattle.sg_model.specs.Names.{Name}
 use Rattle.sg_protocol.specs.Schedule.{PairKey}

@@ -10,10 +10,6 @@ mod FormatCrafts
 mod FormatFaults
 mod FormatTexts
 pub mod FormatWords
-pub mod FormatReading
-pub mod FormatCraftReading
-pub mod FormatItemReading
-pub mod FormatWholeCraft
 mod FormatForms
 mod FormatFirst
 pub mod FormatOnce

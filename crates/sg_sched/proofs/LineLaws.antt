@@ -1,7 +1,8 @@
 -- What the form of a line reads is what its words say, and nothing is left out.
-use Rattle.std.specs.Prelude.{◌≡◌, ℕ, Bool, true, false, if◌then◌else◌, List, [], ◌∷◌, ◌++◌, map, codes, bytes_eq, refl, Option, Some, None, option_map, MatchOption}
+use Rattle.std.specs.Prelude.{◌≡◌, ℕ, Bool, true, false, if◌then◌else◌, List, [], ◌∷◌, codes, bytes_eq, refl, Option, Some, None, option_map, MatchOption}
 use Rattle.std.proofs.Common.{sym, ◌∙◌, ap}
 use Rattle.std.proofs.lemmas.Slice.Eq.{bytes_eq-Decides}
+use Rattle.sg_model.proofs.Small.{some_same}
 use Rattle.sg_sched.specs.Format.LineContents.{Word, LineContent, BlockLine, EdgeLine, HonestLine, KeyLine, SessionLine, StartLine, ActLine, AbandonLine, DeliverLine, MakeLine, line_words}
 use Rattle.sg_sched.specs.Format.Forms.{is_form, SaysLine}
 use Rattle.sg_sched.specs.Format.Model.{statement}
@@ -62,6 +63,10 @@ form_complete (MakeLine c) h = craft_reads c h
 -- nothing is of a form
 pub says_none : (line : List ℕ) → form (words (content line)) ≡ None → (s : LineContent) → SaysLine line s → ⊥
 says_none line h s says = none_some {P = ⊥} (sym h ∙ ap form says.spelled ∙ form_complete s says.form)
+
+-- a line says one thing at most
+pub says_one : (line : List ℕ) (s t : LineContent) → SaysLine line s → SaysLine line t → s ≡ t
+says_one line s t p q = some_same (sym (form_complete s p.form) ∙ ap form (sym p.spelled ∙ q.spelled) ∙ form_complete t q.form)
 
 -- what is read is said
 pub says_some : (line : List ℕ) (s : LineContent) → form (words (content line)) ≡ Some s → SaysLine line s

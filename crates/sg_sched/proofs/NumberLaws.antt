@@ -1,8 +1,7 @@
 -- Decimal digits without a needless zero, and the number that they spell.
-use Rattle.std.specs.Prelude.{◌≡◌, ℕ, zero, suc, ◌+◌, ◌-◌, ◌*◌, ◌<◌, ◌≤◌, ◌^◌, ◌==◌, nat_lt, nat_le, Bool, true, false, not, ◌&&◌, if◌then◌else◌, List, [], ◌∷◌, length, slice_index, get_or, fold, refl, Option, Some, None, option_and_then}
+use Rattle.std.specs.Prelude.{◌≡◌, ℕ, zero, suc, ◌+◌, ◌-◌, ◌*◌, ◌<◌, ◌^◌, ◌==◌, nat_lt, nat_le, Bool, true, false, not, ◌&&◌, if◌then◌else◌, [], ◌∷◌, length, slice_index, get_or, fold, refl, Option, Some, None, option_and_then}
 use Rattle.std.specs.List.{list_all}
 use Rattle.std.specs.Fmt.{decimal}
-use Rattle.std.specs.Str.Parse.{AllDigits}
 use Rattle.std.proofs.Common.{sym, ◌∙◌, ap, subst, arith, true≢false}
 use Rattle.std.proofs.lemmas.Grind.{common_steps}
 use Rattle.std.proofs.lemmas.Bool.{leb-true, le-leb, ltb-true, lt-ltb, eqb-true}
@@ -10,7 +9,7 @@ use Rattle.std.proofs.lemmas.Fmt.{decimal_is_IsNumeral, first_decimal, decimal-d
 use Rattle.std.proofs.lemmas.Str.Parse.{IsNumeralModel, IsDigitsTest, numerals_by_fold}
 use Rattle.sg_model.proofs.Small.{and_left, and_right, some_same}
 use Rattle.sg_base.specs.Words.{number, from_one, up_to, value, is_digit, has_needless_zero}
-use Rattle.sg_sched.specs.Words.{frame}
+use Rattle.sg_sched.specs.Words.{frame, numbered}
 use Rattle.sg_sched.specs.Format.LineContents.{Word, frame_word}
 use Rattle.sg_sched.specs.Format.Forms.{is_short, is_wide, is_frame}
 use Rattle.sg_sched.proofs.FormLaws.{none_some}
@@ -80,27 +79,35 @@ wide_is n h = lt-ltb n 18446744073709551616 (omega (arith, leb-true n 1844674407
 pub is_wide_of : (n : ℕ) → is_wide n ≡ true → nat_le n 18446744073709551615 ≡ true
 is_wide_of n h = le-leb n 18446744073709551615 (omega (arith, ltb-true n 18446744073709551616 h))
 
--- ---- frames
+-- ---- a letter and a number
 
-pub frame_is : (w : Word) (n : ℕ) → frame w ≡ Some n → (w ≡ frame_word n) × (is_frame n ≡ true)
-unfolding frame
-frame_is [] n h = none_some h
-frame_is (c ∷ cs) n h = by (c == 102) refl h
+pub numbered_is : (letter : ℕ) (w : Word) (n : ℕ) → numbered letter w ≡ Some n → (w ≡ letter ∷ decimal n) × (is_frame n ≡ true)
+numbered_is letter [] n h = none_some h
+numbered_is letter (c ∷ cs) n h = by (c == letter) refl h
   where
-    from : (k : ℕ) → number 4294967295 cs ≡ Some k → (c == 102) ≡ true → (b : Bool) → nat_lt 0 k ≡ b → (if b then Some k else None) ≡ Some n → ((c ∷ cs) ≡ frame_word n) × (is_frame n ≡ true)
+    from : (k : ℕ) → number 4294967295 cs ≡ Some k → (c == letter) ≡ true → (b : Bool) → nat_lt 0 k ≡ b → (if b then Some k else None) ≡ Some n → ((c ∷ cs) ≡ letter ∷ decimal n) × (is_frame n ≡ true)
     from k e f true z h =
         let d = number_is 4294967295 cs k (omega arith) e in
-        subst (λ m. ((c ∷ cs) ≡ frame_word m) × (is_frame m ≡ true)) (some_same h) ((λ i. eqb-true c 102 f i ∷ d.same i), both z (short_is k d.within))
+        subst (λ m. ((c ∷ cs) ≡ letter ∷ decimal m) × (is_frame m ≡ true)) (some_same h) ((λ i. eqb-true c letter f i ∷ d.same i), both z (short_is k d.within))
     from k e f false z h = none_some h
 
-    found : (o : Option ℕ) → number 4294967295 cs ≡ o → (c == 102) ≡ true → option_and_then from_one o ≡ Some n → ((c ∷ cs) ≡ frame_word n) × (is_frame n ≡ true)
+    found : (o : Option ℕ) → number 4294967295 cs ≡ o → (c == letter) ≡ true → option_and_then from_one o ≡ Some n → ((c ∷ cs) ≡ letter ∷ decimal n) × (is_frame n ≡ true)
     found None e f h = none_some h
     found (Some k) e f h = from k e f (nat_lt 0 k) refl h
 
-    by : (b : Bool) → (c == 102) ≡ b → (if b then option_and_then from_one (number 4294967295 cs) else None) ≡ Some n → ((c ∷ cs) ≡ frame_word n) × (is_frame n ≡ true)
+    by : (b : Bool) → (c == letter) ≡ b → (if b then option_and_then from_one (number 4294967295 cs) else None) ≡ Some n → ((c ∷ cs) ≡ letter ∷ decimal n) × (is_frame n ≡ true)
     by true e h = found (number 4294967295 cs) refl e h
     by false e h = none_some h
 
+pub numbered_ok : (letter n : ℕ) → is_frame n ≡ true → numbered letter (letter ∷ decimal n) ≡ Some n
+numbered_ok letter n h =
+    let same : (letter == letter) ≡ true = grind (arith, common_steps) in
+    rw (same, number_ok 4294967295 n (omega arith) (is_short_of n (and_right (nat_lt 0 n) (is_short n) h)), and_left (nat_lt 0 n) (is_short n) h) refl
+
+pub frame_is : (w : Word) (n : ℕ) → frame w ≡ Some n → (w ≡ frame_word n) × (is_frame n ≡ true)
+unfolding frame
+frame_is = numbered_is 102
+
 pub frame_ok : (n : ℕ) → is_frame n ≡ true → frame (frame_word n) ≡ Some n
 unfolding frame
-frame_ok n h = rw (number_ok 4294967295 n (omega arith) (is_short_of n (and_right (nat_lt 0 n) (is_short n) h)), and_left (nat_lt 0 n) (is_short n) h) refl
+frame_ok = numbered_ok 102

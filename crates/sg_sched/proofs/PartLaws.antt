@@ -1,24 +1,24 @@
 -- What the forms with numbers, names, values and frames read is what their words say.
-use Rattle.std.specs.Prelude.{◌≡◌, ℕ, suc, ◌<◌, ◌≤◌, ◌^◌, ◌%◌, ◌==◌, nat_lt, nat_le, Bool, true, false, not, ◌&&◌, ◌||◌, if◌then◌else◌, List, [], ◌∷◌, ◌++◌, map, length, codes, bytes_eq, refl, Option, Some, None, option_map, option_and_then}
-use Rattle.std.specs.List.{list_all, slice_split, onto_first}
+use Rattle.std.specs.Prelude.{◌≡◌, ℕ, ◌%◌, ◌==◌, nat_le, Bool, true, false, not, ◌&&◌, ◌||◌, if◌then◌else◌, List, [], ◌∷◌, ◌++◌, map, length, codes, bytes_eq, refl, Option, Some, None, option_map, option_and_then}
+use Rattle.std.specs.List.{list_all, onto_first}
 use Rattle.std.specs.Fmt.{decimal}
 use Rattle.std.proofs.Common.{sym, ◌∙◌, ap, subst, arith, append-nil, true≢false}
 use Rattle.std.proofs.lemmas.Grind.{common_steps}
-use Rattle.std.proofs.lemmas.Bool.{leb-true, le-leb, ltb-true, lt-ltb, eqb-true}
+use Rattle.std.proofs.lemmas.Bool.{le-leb, eqb-true}
 use Rattle.std.proofs.lemmas.List.Splits.{slice_split-cons_yes, slice_split-cons_no}
 use Rattle.std.proofs.lemmas.Slice.Eq.{bytes_eq-Decides}
 use Rattle.sg_model.specs.Names.{Name, is_name, reserved}
 use Rattle.sg_model.specs.Lists.{has_text, all_differ}
 use Rattle.sg_model.proofs.Small.{and_left, and_right, some_same}
 use Rattle.sg_base.specs.Words.{name, number}
-use Rattle.sg_sched.specs.Words.{names, frame}
-use Rattle.sg_sched.specs.Format.LineContents.{Word, Assignment, LineContent, EdgeLine, SessionLine, ActLine, DeliverLine, TheFrame, TheFlipped, TheCut, TheBytes, line_words, joined_names, assignment_word, version_words}
-use Rattle.sg_sched.specs.Format.Forms.{is_form, is_assignment, is_wide, is_short, are_names}
-use Rattle.sg_sched.specs.Format.Values.{is_value, is_hex}
-use Rattle.sg_sched.specs.Format.Reading.{WordsLeft, Taker, word, after, ended, edge_form, edge_of, session_form, version, act_form, given, assignment_of, assignments, split_at, split_step, hex, short, frame_form, what_form, deliver_form}
-use Rattle.sg_sched.proofs.FormatWords.{both, same_self, lacks, name_lacks, name_list, name_list-joined}
-use Rattle.sg_sched.proofs.FormLaws.{none_some, step, ended_is, line_up, name_is, name_ok, Fits, fits}
-use Rattle.sg_sched.proofs.NumberLaws.{number_is, number_ok, frame_is, frame_ok, short_is, is_short_of, wide_is, is_wide_of}
+use Rattle.sg_sched.specs.Words.{names}
+use Rattle.sg_sched.specs.Format.LineContents.{Word, Assignment, LineContent, EdgeLine, SessionLine, ActLine, joined_names, assignment_word, version_words}
+use Rattle.sg_sched.specs.Format.Forms.{is_assignment, are_names}
+use Rattle.sg_sched.specs.Format.Values.{is_value}
+use Rattle.sg_sched.specs.Format.Reading.{WordsLeft, word, after, ended, edge_form, edge_of, session_form, version, act_form, given, assignment_of, assignments, split_at}
+use Rattle.sg_sched.proofs.FormatWords.{both, lacks, name_lacks, name_list}
+use Rattle.sg_sched.proofs.FormLaws.{none_some, step, ended_is, line_up, name_is, Fits, fits}
+use Rattle.sg_sched.proofs.NumberLaws.{number_is, wide_is}
 
 -- ---- edges
 

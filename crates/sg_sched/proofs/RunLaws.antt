@@ -1,8 +1,8 @@
 -- What stands first on a line, word by word.
 use Rattle.std.proofs.Common.{◌≡◌, ℕ, zero, suc, ◌+◌, ◌≤◌, ◌<◌, ◌==◌, true, false, List, [], ◌∷◌, ◌++◌, length, take, drop, get_or, append_assoc, append-nil, bytes_eq, codes, Option, Some, None, option_map, option_and_then, refl, sym, ap, ◌∙◌, arith}
-use Rattle.std.proofs.lemmas.List.{drop_more, drop_all}
+use Rattle.std.proofs.lemmas.List.{drop_more}
 use Rattle.sg_sched.specs.Format.LineContents.{Word, Committed}
-use Rattle.sg_sched.specs.Format.Reading.{WordsLeft, Taker, after}
+use Rattle.sg_sched.specs.Format.Reading.{WordsLeft, Taker}
 use Rattle.sg_sched.specs.Format.CraftReading.{split_last, last_step, run, some_of, listed, is_next, optional, repeated, more_after, join, join_parts}
 use Rattle.sg_sched.specs.Format.Reading.{word}
 use Rattle.sg_sched.proofs.FormatWords.{same_self}
@@ -37,27 +37,34 @@ before_more : {A : Type 0} (found : List A) (x : A) (o : Option (List A × Words
 before_more found x None = refl
 before_more {A} found x (Some p) = ap (λ (xs : List A). Some (xs, p.1)) (sym (append_assoc found (x ∷ []) p.0))
 
-pub repeated_more : {A : Type 0} (first : List ℕ) (take : Taker A) (n m : ℕ) (found : List A) (w : Word) (ws rest : WordsLeft) (x : A) → m ≡ suc n → bytes_eq w first ≡ true → take ws ≡ Some (x, rest)
+repeated_more : {A : Type 0} (first : List ℕ) (take : Taker A) (n m : ℕ) (found : List A) (w : Word) (ws rest : WordsLeft) (x : A) → m ≡ suc n → bytes_eq w first ≡ true → take ws ≡ Some (x, rest)
     → found_before found (repeated first take m (w ∷ ws)) ≡ found_before (found ++ x ∷ []) (repeated first take n rest)
 repeated_more first take n m found w ws rest x s e h = rw (s, e, h) (before_more found x (repeated first take n rest))
 
-pub repeated_stops : {A : Type 0} (first : List ℕ) (take : Taker A) (n m : ℕ) (found : List A) (w : Word) (ws : WordsLeft) → m ≡ suc n → bytes_eq w first ≡ false
+repeated_stops : {A : Type 0} (first : List ℕ) (take : Taker A) (n m : ℕ) (found : List A) (w : Word) (ws : WordsLeft) → m ≡ suc n → bytes_eq w first ≡ false
     → found_before found (repeated first take m (w ∷ ws)) ≡ Some (found, w ∷ ws)
 repeated_stops {A} first take n m found w ws s e = rw (s, e) (ap (λ (xs : List A). Some (xs, w ∷ ws)) (append-nil found))
 
-pub repeated_ends : {A : Type 0} (first : List ℕ) (take : Taker A) (n m : ℕ) (found : List A) → m ≡ suc n → found_before found (repeated first take m []) ≡ Some (found, [])
+repeated_ends : {A : Type 0} (first : List ℕ) (take : Taker A) (n m : ℕ) (found : List A) → m ≡ suc n → found_before found (repeated first take m []) ≡ Some (found, [])
 repeated_ends {A} first take n m found s = rw s (ap (λ (xs : List A). Some (xs, [])) (append-nil found))
 
 pub repeated_full : {A : Type 0} (first : List ℕ) (take : Taker A) (m : ℕ) (found : List A) (ws : WordsLeft) → m ≡ 0 → found_before found (repeated first take m ws) ≡ Some (found, ws)
 repeated_full {A} first take m found ws s = rw s (ap (λ (xs : List A). Some (xs, ws)) (append-nil found))
 
-pub stops : {A : Type 0} (first : List ℕ) (take : Taker A) (n m : ℕ) (found : List A) (ws : WordsLeft) → m ≡ suc n → is_next first ws ≡ false → found_before found (repeated first take m ws) ≡ Some (found, ws)
-stops first take n m found [] s e = repeated_ends first take n m found s
-stops first take n m found (w ∷ ws) s e = repeated_stops first take n m found w ws s e
+-- another word is next, and the words are as they were
+pub stops : {A : Type 0} (first : List ℕ) (take : Taker A) (n m : ℕ) (found : List A) (ws rest : WordsLeft) → m ≡ suc n → (rest ≡ ws) × (is_next first ws ≡ false) → found_before found (repeated first take m ws) ≡ Some (found, rest)
+stops {A} first take n m found ws rest s e = by ws e.1 ∙ ap (λ ws. Some (found, ws)) (sym e.0)
+  where
+    by : (ws : WordsLeft) → is_next first ws ≡ false → found_before found (repeated first take m ws) ≡ Some (found, ws)
+    by [] e = repeated_ends first take n m found s
+    by (w ∷ ws) e = repeated_stops first take n m found w ws s e
 
-pub goes_on : {A : Type 0} (first : List ℕ) (take : Taker A) (n m : ℕ) (found : List A) (ws rest : WordsLeft) (x : A) → m ≡ suc n → take ws ≡ Some (x, rest)
-    → found_before found (repeated first take m (first ∷ ws)) ≡ found_before (found ++ x ∷ []) (repeated first take n rest)
-goes_on first take n m found ws rest x s h = repeated_more first take n m found first ws rest x s (same_self first) h
+-- the word is next, and one more is taken behind it
+pub goes_on : {A : Type 0} (first : List ℕ) (take : Taker A) (n m : ℕ) (found : List A) {more : List A} {ws behind rest : WordsLeft} {x : A} → m ≡ suc n → ws ≡ first ∷ behind → take behind ≡ Some (x, rest) → more ≡ found ++ x ∷ []
+    → found_before found (repeated first take m ws) ≡ found_before more (repeated first take n rest)
+goes_on {A} first take n m found {behind = behind} {rest = rest} {x = x} s e h p = ap (λ ws. found_before found (repeated first take m ws)) e
+    ∙ repeated_more first take n m found first behind rest x s (same_self first) h
+    ∙ ap (λ found. found_before found (repeated first take n rest)) (sym p)
 
 -- ---- a word and what is behind it, or nothing
 

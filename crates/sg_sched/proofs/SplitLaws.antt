@@ -1,9 +1,9 @@
 -- Where a word is split at its first mark.
-use Rattle.std.proofs.Common.{◌≡◌, ℕ, zero, suc, ◌+◌, ◌-◌, ◌<◌, ◌≤◌, ◌==◌, Bool, true, false, nat_lt, List, [], ◌∷◌, length, take, drop, Option, Some, None, option_map, refl, sym, ap, ◌∙◌, arith, if◌then◌else◌}
+use Rattle.std.proofs.Common.{◌≡◌, ℕ, zero, suc, ◌+◌, ◌-◌, ◌<◌, ◌≤◌, ◌==◌, Bool, true, false, nat_lt, [], ◌∷◌, length, take, drop, Option, Some, None, option_map, refl, sym, ap, ◌∙◌, arith, if◌then◌else◌}
 use Rattle.std.proofs.lemmas.Grind.{common_steps}
 use Rattle.std.proofs.lemmas.List.{take_all}
 use Rattle.sg_sched.specs.Format.LineContents.{Word}
-use Rattle.sg_sched.specs.Format.Reading.{split_at, split_step}
+use Rattle.sg_sched.specs.Format.Reading.{split_at}
 use Rattle.sg_sched.proofs.TextLaws.{index, index_yes, index_no}
 
 -- what stands before offset n and behind it, if there is such an offset

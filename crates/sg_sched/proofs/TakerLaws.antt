@@ -1,22 +1,22 @@
 -- What the takers of a craft's words take off is what the words say: commitments, sources, tags and items.
-use Rattle.std.specs.Prelude.{◌≡◌, ℕ, zero, suc, ◌<◌, ◌≤◌, ◌^◌, ◌==◌, nat_lt, nat_le, Bool, true, false, not, ◌&&◌, if◌then◌else◌, List, [], ◌∷◌, ◌++◌, map, flat_map, length, codes, bytes_eq, refl, Option, Some, None, option_map, option_and_then}
+use Rattle.std.specs.Prelude.{◌≡◌, ℕ, zero, suc, ◌≤◌, ◌==◌, Bool, true, false, ◌&&◌, if◌then◌else◌, List, [], ◌∷◌, ◌++◌, map, flat_map, length, codes, bytes_eq, refl, Option, Some, None, option_map, option_and_then}
 use Rattle.std.specs.List.{list_all}
 use Rattle.std.specs.Fmt.{decimal}
-use Rattle.std.proofs.Common.{sym, ◌∙◌, ap, subst, arith, append-nil, append_assoc}
-use Rattle.std.proofs.lemmas.Bool.{leb-true, le-leb, eqb-true}
+use Rattle.std.proofs.Common.{sym, ◌∙◌, ap, subst, arith, append_assoc}
+use Rattle.std.proofs.lemmas.Bool.{eqb-true}
 use Rattle.std.proofs.lemmas.Slice.Eq.{bytes_eq-Decides}
-use Rattle.sg_model.specs.Names.{Name, is_name}
+use Rattle.sg_model.specs.Names.{is_name}
 use Rattle.sg_model.proofs.Small.{some_same}
 use Rattle.sg_base.specs.Words.{name, number}
 use Rattle.sg_sched.specs.Words.{frame}
-use Rattle.sg_sched.specs.Format.LineContents.{Word, Committed, TagSource, FromKey, FromItem, FromSeal, FromZero, ItemContent, committed_word, from_words, tag_words, item_words}
-use Rattle.sg_sched.specs.Format.Forms.{is_committed, is_source, is_tag, is_item, is_wide, is_short, is_frame, are_committed}
+use Rattle.sg_sched.specs.Format.LineContents.{Word, Committed, TagSource, FromKey, FromItem, FromSeal, FromZero, committed_word, from_words}
+use Rattle.sg_sched.specs.Format.Forms.{is_committed, is_source, is_frame}
 use Rattle.sg_sched.specs.Format.Values.{is_value}
-use Rattle.sg_sched.specs.Format.Reading.{WordsLeft, Taker, word, after, ended, split_at}
-use Rattle.sg_sched.specs.Format.CraftReading.{split_last, last_step, committed, behind_equal, time, run, run_step, few, copy_source, source, repeated, more_after, tag, item, is_next}
-use Rattle.sg_sched.proofs.FormatWords.{both, same_self}
-use Rattle.sg_sched.proofs.FormLaws.{none_some, step, Step, line_up, name_is, name_ok}
-use Rattle.sg_sched.proofs.NumberLaws.{number_is, number_ok, frame_is, frame_ok, short_is, is_short_of, wide_is, is_wide_of}
+use Rattle.sg_sched.specs.Format.Reading.{WordsLeft, Taker, word, after, split_at}
+use Rattle.sg_sched.specs.Format.CraftReading.{split_last, last_step, committed, behind_equal, run, run_step, copy_source, source, repeated, more_after, item}
+use Rattle.sg_sched.proofs.FormatWords.{both}
+use Rattle.sg_sched.proofs.FormLaws.{none_some, step, line_up, name_is}
+use Rattle.sg_sched.proofs.NumberLaws.{number_is, frame_is, short_is, wide_is}
 use Rattle.sg_sched.proofs.PartLaws.{split_is}
 
 -- ---- steps
@@ -50,7 +50,7 @@ took {A} print ok {ws = ws} w f h = subst (λ (p : A × WordsLeft). Took print o
 -- ---- commitments
 
 -- nothing before the mark
-abbrev none_before : Word → Option (Word × Word)
+abbrev pub none_before : Word → Option (Word × Word)
 none_before cs = Some ([], cs)
 
 pub split_last_is : (mark : ℕ) (w f b : Word) → split_last mark w ≡ Some (f, b) → w ≡ f ++ mark ∷ b

@@ -1,6 +1,6 @@
 -- Where lines and words end.
-use Rattle.std.proofs.Common.{◌≡◌, ◌≢◌, ℕ, suc, ◌+◌, ◌-◌, ◌<◌, ◌≤◌, ◌==◌, Bool, true, false, nat_lt, List, [], ◌∷◌, length, take, drop, filter, refl, sym, ap, ◌∙◌, arith}
-use Rattle.std.specs.List.{position_or_len, slice_split, onto_first}
+use Rattle.std.proofs.Common.{◌≡◌, ◌≢◌, ℕ, suc, ◌+◌, ◌-◌, ◌<◌, ◌≤◌, ◌==◌, Bool, true, false, nat_lt, if◌then◌else◌, List, [], ◌∷◌, ◌++◌, length, take, drop, filter, refl, sym, ap, ◌∙◌, arith}
+use Rattle.std.specs.List.{concat, position_or_len, slice_split, onto_first}
 use Rattle.std.proofs.lemmas.Grind.{common_steps}
 use Rattle.std.proofs.lemmas.List.{length-take-le, take_all}
 use Rattle.std.proofs.lemmas.List.Splits.{slice_split-cons_yes, slice_split-cons_no}
@@ -25,6 +25,27 @@ lines_first (c ∷ cs) h = by (c == 10) refl (lines_first cs)
     by : (b : Bool) → (c == 10) ≡ b → (0 < length cs → FirstLine cs) → FirstLine (c ∷ cs)
     by true e ih = grind (arith, common_steps)
     by false e ih = first_onto c cs ih e
+
+-- ---- lines that are joined
+
+onto : (c : ℕ) (ls : List (List ℕ)) → concat (onto_first c ls) ≡ c ∷ concat ls
+onto c [] = refl
+onto c (l ∷ ls) = refl
+
+-- lines that are joined are the text
+pub joined : (bytes : List ℕ) → concat (lines bytes) ≡ bytes
+joined [] = refl
+joined (c ∷ cs) = by (c == 10) (joined cs)
+  where
+    by : (b : Bool) → concat (lines cs) ≡ cs → concat (if b then (c ∷ []) ∷ lines cs else onto_first c (lines cs)) ≡ c ∷ cs
+    by true h = ap (λ xs. c ∷ xs) h
+    by false h = onto c (lines cs) ∙ ap (λ xs. c ∷ xs) h
+
+pub take_prefix : (xs ys : List ℕ) → take (length xs) (xs ++ ys) ≡ xs
+take_prefix [] ys = refl
+take_prefix (x ∷ xs) ys = ap (λ zs. x ∷ zs) (take_prefix xs ys)
+
+-- ---- parts
 
 -- the parts after the first one
 abbrev pub parts_after : ℕ → List ℕ → List (List ℕ)

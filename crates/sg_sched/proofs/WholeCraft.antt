@@ -1,25 +1,23 @@
 -- A whole craft of a form is read.
-use Rattle.std.specs.Prelude.{◌≡◌, ℕ, suc, ◌≤◌, ◌==◌, nat_le, true, false, not, ◌&&◌, if◌then◌else◌, List, [], ◌∷◌, ◌++◌, map, flat_map, length, codes, bytes_eq, refl, Option, Some, None, option_map, option_and_then}
+use Rattle.std.specs.Prelude.{◌≡◌, ℕ, ◌≤◌, ◌==◌, nat_le, true, false, not, ◌&&◌, if◌then◌else◌, List, [], ◌∷◌, ◌++◌, flat_map, length, codes, bytes_eq, refl, Option, Some, None, option_map, option_and_then}
 use Rattle.std.specs.List.{list_all}
 use Rattle.std.specs.Option.{option_map_or}
 use Rattle.std.specs.Fmt.{decimal}
 use Rattle.std.proofs.Common.{sym, ◌∙◌, ap, arith, append-nil, append_assoc}
 use Rattle.std.proofs.lemmas.Grind.{common_steps}
-use Rattle.std.proofs.lemmas.Bool.{not-true}
+use Rattle.std.proofs.lemmas.Bool.{leb-true, not-true}
 use Rattle.sg_model.specs.Names.{Name, is_name}
 use Rattle.sg_model.proofs.Small.{and_left, and_right}
 use Rattle.sg_protocol.specs.Schedule.{CraftJoin}
-use Rattle.sg_base.specs.Words.{name, number}
-use Rattle.sg_sched.specs.Format.LineContents.{Word, Committed, TagSource, ItemContent, CraftContent, LineContent, MakeLine, committed_word, from_words, item_words, join_words, list_words, option_words, joined_names}
+use Rattle.sg_base.specs.Words.{number}
+use Rattle.sg_sched.specs.Format.LineContents.{Word, Committed, TagSource, ItemContent, CraftContent, LineContent, MakeLine, from_words, item_words, join_words, list_words, option_words, joined_names}
 use Rattle.sg_sched.specs.Format.Forms.{is_committed, is_source, is_item, are_committed, is_join, is_wide, are_names, is_craft}
-use Rattle.sg_sched.specs.Format.Reading.{WordsLeft, Taker, word, after, ended}
-use Rattle.sg_sched.specs.Format.CraftReading.{committed, run, few, some_of, listed, source, repeated, item, is_next, all_names, name_list, sixteen, cast, optional, join_parts, join, opened, exactly, ends, seal_form, some_items, craft_form}
-use Rattle.sg_sched.proofs.FormatWords.{both, same_self, name_list as pieces, name_list-joined}
-use Rattle.sg_sched.proofs.FormatWholeCraft.{CraftFacts, craft_facts, craft_rest}
+use Rattle.sg_sched.specs.Format.Reading.{WordsLeft, word, after, ended}
+use Rattle.sg_sched.specs.Format.CraftReading.{committed, run, few, some_of, listed, source, repeated, item, is_next, all_names, sixteen, cast, optional, join_parts, join, opened, ends, seal_form, some_items, craft_form}
+use Rattle.sg_sched.proofs.FormatWords.{both, same_self, name_list-joined}
 use Rattle.sg_sched.proofs.FormLaws.{name_ok}
 use Rattle.sg_sched.proofs.NumberLaws.{number_ok, is_wide_of}
 use Rattle.sg_sched.proofs.RunLaws.{join_other, listed_other}
-use Rattle.sg_sched.proofs.TakerLaws.{took_then_of, run_words, printed}
 use Rattle.sg_sched.proofs.ItemLaws.{item_print}
 use Rattle.sg_sched.proofs.CraftComplete.{source_ok, run_ok, repeated_ok, item_repeats, item_behind, Behind}
 
@@ -46,7 +44,7 @@ optional_ok first read print None [] r e = refl
 optional_ok first read print None (w ∷ ws) r e = rw e refl
 optional_ok first read print (Some x) rest r e = rw (same_self first, r x refl) refl
 
-cast_ok : (ns : List Name) → (nat_le 2 (length ns) && nat_le (length ns) 16 && are_names ns) ≡ true → cast (joined_names ns) ≡ Some ns
+pub cast_ok : (ns : List Name) → (nat_le 2 (length ns) && nat_le (length ns) 16 && are_names ns) ≡ true → cast (joined_names ns) ≡ Some ns
 unfolding cast
 cast_ok [] h = absurd (cc h)
 cast_ok (n ∷ ns) h =
@@ -104,6 +102,55 @@ ends_ok session from to rest h d =
 
 -- ---- the whole
 
+-- the words from behind craft
+abbrev pub craft_rest : CraftContent → List Word
+craft_rest c = c.session ∷ codes "from" ∷ c.from ∷ codes "to" ∷ c.to ∷ (join_words c.join ++ (list_words (codes "know") c.know
+    ++ (flat_map item_words c.items ++ (list_words (codes "open") c.openings ++ codes "seal" ∷ from_words c.seal))))
+
+-- what a craft of a form has
+record CraftFacts (c : CraftContent) : Type 0 where
+  pub names : are_names (c.session ∷ c.from ∷ c.to ∷ []) ≡ true
+  pub differ : not (bytes_eq c.from c.to) ≡ true
+  pub join : option_map_or is_join c.join true ≡ true
+  pub know : list_all is_committed c.know ≡ true
+  pub some : nat_le 1 (length c.items) ≡ true
+  pub count : length c.items ≤ 65535
+  pub items : list_all is_item c.items ≡ true
+  pub few_openings : nat_le (length c.openings) 32 ≡ true
+  pub openings : list_all is_committed c.openings ≡ true
+  pub seal : is_source c.seal ≡ true
+
+craft_facts : (c : CraftContent) → is_craft c ≡ true → CraftFacts c
+craft_facts c h =
+    let names = are_names (c.session ∷ c.from ∷ c.to ∷ []) in
+    let differ = not (bytes_eq c.from c.to) in
+    let t0 = names && differ in
+    let t1 = t0 && option_map_or is_join c.join true in
+    let t2 = t1 && list_all is_committed c.know in
+    let t3 = t2 && nat_le 1 (length c.items) in
+    let t4 = t3 && nat_le (length c.items) 65535 in
+    let t5 = t4 && list_all is_item c.items in
+    let t6 = t5 && are_committed c.openings in
+    let h6 : t6 ≡ true = and_left t6 (is_source c.seal) h in
+    let h5 : t5 ≡ true = and_left t5 (are_committed c.openings) h6 in
+    let h4 : t4 ≡ true = and_left t4 (list_all is_item c.items) h5 in
+    let h3 : t3 ≡ true = and_left t3 (nat_le (length c.items) 65535) h4 in
+    let h2 : t2 ≡ true = and_left t2 (nat_le 1 (length c.items)) h3 in
+    let h1 : t1 ≡ true = and_left t1 (list_all is_committed c.know) h2 in
+    let h0 : t0 ≡ true = and_left t0 (option_map_or is_join c.join true) h1 in
+    record {
+      names = and_left names differ h0;
+      differ = and_right names differ h0;
+      join = and_right t0 (option_map_or is_join c.join true) h1;
+      know = and_right t1 (list_all is_committed c.know) h2;
+      some = and_right t2 (nat_le 1 (length c.items)) h3;
+      count = leb-true (length c.items) 65535 (and_right t3 (nat_le (length c.items) 65535) h4);
+      items = and_right t4 (list_all is_item c.items) h5;
+      few_openings = and_left (nat_le (length c.openings) 32) (list_all is_committed c.openings) (and_right t5 (are_committed c.openings) h6);
+      openings = and_right (nat_le (length c.openings) 32) (list_all is_committed c.openings) (and_right t5 (are_committed c.openings) h6);
+      seal = and_right t6 (is_source c.seal) h;
+    }
+
 seal_next : (ws : WordsLeft) → Behind (codes "seal" ∷ ws)
 unfolding committed
 seal_next ws = record { no_run = refl; no_tag = refl }
@@ -131,14 +178,14 @@ craft_up_to n =
     some_items is (after opened λ openings.
     λ ws. option_map (λ seal. MakeLine (record { session = e.0; from = e.1; to = e.2; join = j; know = know; items = is; openings = openings; seal = seal })) (seal_form ws))
 
-craft_with : (n : ℕ) (c : CraftContent) (i : ItemContent) (is : List ItemContent) → CraftFacts c → are_names (c.session ∷ c.from ∷ c.to ∷ []) ≡ true → not (bytes_eq c.from c.to) ≡ true → length (i ∷ is) ≤ n → list_all is_item (i ∷ is) ≡ true
+craft_with : (n : ℕ) (c : CraftContent) (i : ItemContent) (is : List ItemContent) → CraftFacts c → length (i ∷ is) ≤ n → list_all is_item (i ∷ is) ≡ true
     → craft_up_to n (craft_rest (record c { items = i ∷ is })) ≡ Some (MakeLine (record c { items = i ∷ is }))
-craft_with n c i is f names d l a =
+craft_with n c i is f l a =
     let tail = list_words (codes "open") c.openings ++ codes "seal" ∷ from_words c.seal in
     let more = (item_print i ++ flat_map item_words is) ++ tail in
     let some : (length (i ∷ is) == 0) ≡ false = grind (arith, common_steps) in
     rw (
-      ends_ok c.session c.from c.to (join_words c.join ++ (list_words (codes "know") c.know ++ codes "item" ∷ more)) names d,
+      ends_ok c.session c.from c.to (join_words c.join ++ (list_words (codes "know") c.know ++ codes "item" ∷ more)) f.names f.differ,
       join_ok c.join (list_words (codes "know") c.know ++ codes "item" ∷ more) f.join (know_after c.know more),
       listed_ok (codes "know") c.know (codes "item" ∷ more) f.know refl ((item_behind more).no_run),
       repeated_ok (codes "item") item item_print is_item Behind item_repeats n (i ∷ is) tail l a (open_next c.openings (from_words c.seal)) (open_no_item c.openings (from_words c.seal)),
@@ -147,27 +194,11 @@ craft_with n c i is f names d l a =
       seal_ok c.seal f.seal,
     ) refl
 
-craft_found : (n : ℕ) (c : CraftContent) (is : List ItemContent) → CraftFacts c → are_names (c.session ∷ c.from ∷ c.to ∷ []) ≡ true → not (bytes_eq c.from c.to) ≡ true → nat_le 1 (length is) ≡ true → length is ≤ n → list_all is_item is ≡ true
+craft_found : (n : ℕ) (c : CraftContent) (is : List ItemContent) → CraftFacts c → nat_le 1 (length is) ≡ true → length is ≤ n → list_all is_item is ≡ true
     → craft_up_to n (craft_rest (record c { items = is })) ≡ Some (MakeLine (record c { items = is }))
-craft_found n c [] f names d some l a = absurd (cc some)
-craft_found n c (i ∷ is) f names d some l a = craft_with n c i is f names d l a
-
--- the names of a craft of a form, and that its ends differ
-prefix : (c : CraftContent) → is_craft c ≡ true → (are_names (c.session ∷ c.from ∷ c.to ∷ []) && not (bytes_eq c.from c.to)) ≡ true
-prefix c h =
-    let t0 = are_names (c.session ∷ c.from ∷ c.to ∷ []) && not (bytes_eq c.from c.to) in
-    let t1 = t0 && option_map_or is_join c.join true in
-    let t2 = t1 && list_all is_committed c.know in
-    let t3 = t2 && nat_le 1 (length c.items) in
-    let t4 = t3 && nat_le (length c.items) 65535 in
-    let t5 = t4 && list_all is_item c.items in
-    let t6 = t5 && are_committed c.openings in
-    and_left t0 (option_map_or is_join c.join true) (and_left t1 (list_all is_committed c.know) (and_left t2 (nat_le 1 (length c.items)) (and_left t3 (nat_le (length c.items) 65535)
-    (and_left t4 (list_all is_item c.items) (and_left t5 (are_committed c.openings) (and_left t6 (is_source c.seal) h))))))
+craft_found n c [] f some l a = absurd (cc some)
+craft_found n c (i ∷ is) f some l a = craft_with n c i is f l a
 
 pub craft_reads : (c : CraftContent) → is_craft c ≡ true → craft_form (craft_rest c) ≡ Some (MakeLine c)
 unfolding craft_form
-craft_reads c h =
-    let f = craft_facts c h in
-    let t = prefix c h in
-    craft_found 65535 c c.items f (and_left (are_names (c.session ∷ c.from ∷ c.to ∷ [])) (not (bytes_eq c.from c.to)) t) (and_right (are_names (c.session ∷ c.from ∷ c.to ∷ [])) (not (bytes_eq c.from c.to)) t) f.some f.count f.items
+craft_reads c h = let f = craft_facts c h in craft_found 65535 c c.items f f.some f.count f.items

@@ -5,10 +5,14 @@ use Rattle.sg_model.specs.Names.{Name, is_name}
 use Rattle.sg_model.specs.Lists.{all_differ}
 use Rattle.sg_base.specs.Words.{number, from_one}
 
--- a recorded frame: f and a number from 1 on that is below 2 ^ 32
+-- a letter and a number from 1 on that is below 2 ^ 32
+abbrev pub numbered : (letter : ℕ) → List ℕ → Option ℕ
+numbered letter [] = None
+numbered letter (c ∷ cs) = if c == letter then option_and_then from_one (number 4294967295 cs) else None
+
+-- a recorded frame: f and its number
 unfoldable pub frame : List ℕ → Option ℕ
-frame [] = None
-frame (c ∷ cs) = if c == 102 then option_and_then from_one (number 4294967295 cs) else None
+frame = numbered 102
 
 -- different names with commas between them
 unfoldable pub names : List ℕ → Option (List Name)

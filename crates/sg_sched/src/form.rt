@@ -2,7 +2,7 @@
 ghost use Rattle.std.specs.Prelude.{◌≡◌, ◌≤◌, codes, IfOk, IsNone, IsOk, IfSome, option_map, option_copied, length};
 ghost use Rattle.sg_base.specs.Words.{name, number};
 ghost use Rattle.sg_sched.specs.Words.{names, frame};
-ghost use Rattle.sg_sched.specs.Format.Reading.{word, hex_of, hex, short, version, given, assignments, block_form, edge_form, honest_form, key_form, session_form, start_form, act_form, abandon_form, frame_form, what_form, deliver_form};
+ghost use Rattle.sg_sched.specs.Format.Reading.{word, hex_of, hex, short, version, given, assignments, block_form, edge_form, honest_form, key_form, session_form, in_session, start_form, act_form, abandon_form, frame_form, what_form, deliver_form};
 ghost use Rattle.sg_sched.specs.Format.CraftReading.{exactly};
 ghost use Rattle.sg_sched.specs.Format.Early.{deliver_beginning, session_beginning};
 ghost use Rattle.sg_sched.specs.Format.Model.{statement, taken, delivered};
@@ -161,16 +161,25 @@ pub(crate) fn session<'a>(
     }))
 }
 
-/// `NAME SESSION` of a start.
-#[tactic(auto, unfolding(crate::specs::Format::Reading::start_form))]
-pub(crate) fn start<'a>(words: &mut Words<'a>) -> Option<Line<'a>>
-    ensures { option_map statement result ≡ start_form words.old }
+/// `NAME SESSION`, and no more.
+#[tactic(auto, unfolding(crate::specs::Format::Reading::in_session))]
+fn in_session(words: &mut Words) -> Option<(Name, Name)>
+    ensures { result ≡ in_session words.old }
 {
     let who = take_name(words)?;
     let session = take_name(words)?;
     if !words.is_empty() {
         return None;
     }
+    Some((who, session))
+}
+
+/// `NAME SESSION` of a start.
+#[tactic(auto, unfolding(crate::specs::Format::Reading::start_form))]
+pub(crate) fn start<'a>(words: &mut Words<'a>) -> Option<Line<'a>>
+    ensures { option_map statement result ≡ start_form words.old }
+{
+    let (who, session) = in_session(words)?;
     Some(Line::Start { who, session })
 }
 
@@ -179,11 +188,7 @@ pub(crate) fn start<'a>(words: &mut Words<'a>) -> Option<Line<'a>>
 pub(crate) fn abandon<'a>(words: &mut Words<'a>) -> Option<Line<'a>>
     ensures { option_map statement result ≡ abandon_form words.old }
 {
-    let who = take_name(words)?;
-    let session = take_name(words)?;
-    if !words.is_empty() {
-        return None;
-    }
+    let (who, session) = in_session(words)?;
     Some(Line::Abandon { who, session })
 }
 

@@ -8,7 +8,7 @@ use Rattle.sg_base.specs.Words.{name, number}
 use Rattle.sg_sched.specs.Words.{frame}
 use Rattle.sg_sched.specs.Format.LineContents.{Word, Committed, TagSource, FromKey, FromItem, FromSeal, FromZero, ItemContent, LineContent, MakeLine}
 use Rattle.sg_sched.specs.Format.Values.{is_value}
-use Rattle.sg_sched.specs.Format.Reading.{WordsLeft, Taker, word, after, ended, short, split_at}
+use Rattle.sg_sched.specs.Format.Reading.{WordsLeft, Taker, word, after, ended, split_at}
 
 -- ---- words
 

@@ -114,12 +114,16 @@ session_form =
     after version λ version.
     ended (Some (SessionLine session graph nonce cast version))
 
--- NAME SESSION
-unfoldable pub start_form : WordsLeft → Option LineContent
-start_form =
+-- a principal and a session, and no more
+unfoldable pub in_session : WordsLeft → Option (Name × Name)
+in_session =
     after (word name) λ who.
     after (word name) λ session.
-    ended (Some (StartLine who session))
+    ended (Some (who, session))
+
+-- NAME SESSION
+unfoldable pub start_form : WordsLeft → Option LineContent
+start_form ws = option_map (λ (p : Name × Name). StartLine p.0 p.1) (in_session ws)
 
 -- NAME SESSION LABEL VAR=VALUE ..
 unfoldable pub act_form : WordsLeft → Option LineContent
@@ -131,10 +135,7 @@ act_form =
 
 -- NAME SESSION
 unfoldable pub abandon_form : WordsLeft → Option LineContent
-abandon_form =
-    after (word name) λ who.
-    after (word name) λ session.
-    ended (Some (AbandonLine who session))
+abandon_form ws = option_map (λ (p : Name × Name). AbandonLine p.0 p.1) (in_session ws)
 
 -- a number, below 2 ^ 32
 abbrev pub short : Taker ℕ

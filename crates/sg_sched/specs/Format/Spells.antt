@@ -84,29 +84,35 @@ pub record IsWrongAt (ls : List Line) (n : ℕ) (kind : Kind) : Type 0 where
   pub wrong : IsWrong items these rest kind
   pub number : n ≡ length right + length these
 
--- the line of this number is the first edge line, and after right lines comes a block of a graph named `pair`
-pub record IsPairAt (ls : List Line) (n : ℕ) : Type 0 where
+-- the first edge line among these lines has this number
+pub record IsFirstEdge (ls : List Line) (n : ℕ) : Type 0 where
   pub right : List Line
   pub edge_line : Line
   pub more : List Line
-  pub block : List Line
-  pub rest : List Line
   pub items : List Item
-  pub later : List Item
-  pub text : List ℕ
-  pub all : ls ≡ (right ++ edge_line ∷ more) ++ (block ++ rest)
+  pub all : ls ≡ right ++ edge_line ∷ more
   pub declared : Declare right items
   pub no_edge : edges items ≡ []
   pub label : List ℕ
   pub from : ℕ
   pub to : ℕ
   pub is_edge : SaysLine edge_line (EdgeLine label from to)
-  pub declared_later : Declare (right ++ edge_line ∷ more) later
-  pub is_block : IsBlock later block text
+  pub number : n ≡ suc (length right)
+
+-- the line of this number is the first edge line, and after right lines comes a block of a graph named `pair`
+pub record IsPairAt (ls : List Line) (n : ℕ) : Type 0 where
+  pub right : List Line
+  pub block : List Line
+  pub rest : List Line
+  pub items : List Item
+  pub text : List ℕ
+  pub all : ls ≡ right ++ (block ++ rest)
+  pub first_edge : IsFirstEdge right n
+  pub declared : Declare right items
+  pub is_block : IsBlock items block text
   pub graph : AGraph
   pub spelled : SpellsGraph text graph
   pub named : graph.name ≡ codes "pair"
-  pub number : n ≡ suc (length right)
 
 -- the first wrong line of the bytes and what is wrong with it
 pub data IsFirstFault (bytes : List ℕ) : ℕ → Kind → Type 0 where

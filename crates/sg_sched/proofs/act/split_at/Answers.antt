@@ -1,5 +1,3 @@
-use Rattle.std.proofs.Common.{◌≡◌, ◌∙◌, ap, sym, drop, take, Some, List, ℕ, length, ◌<◌, ◌≤◌, ◌-◌}
-use Rattle.std.proofs.lemmas.Grind.{common_steps}
 use Rattle.sg_sched.proofs.SplitLaws.{split_none, split_some}
 use Rattle.sg_sched.proofs.act.split_at.Goals as goal
 

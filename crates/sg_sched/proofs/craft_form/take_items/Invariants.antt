@@ -1,4 +1,4 @@
-use Rattle.std.proofs.Common.{◌≡◌, ◌≤◌, codes}
+use Rattle.std.proofs.Common.{◌≡◌, codes}
 use Rattle.sg_sched.specs.Format.CraftReading.{repeated, item}
 use Rattle.sg_sched.proofs.RunLaws.{found_before}
 use Rattle.sg_sched.proofs.craft_form.take_items.Given as goal

@@ -1,4 +1,4 @@
-use Rattle.std.proofs.Common.{◌≡◌, ◌++◌, length}
+use Rattle.std.proofs.Common.{◌≡◌, length}
 use Rattle.sg_sched.specs.Format.CraftReading.{run}
 use Rattle.sg_sched.proofs.RunLaws.{run_after}
 use Rattle.sg_sched.proofs.craft_form.take_run.Given as goal

@@ -1,4 +1,4 @@
-use Rattle.std.proofs.Common.{◌≡◌, ◌∙◌, ap, sym, Some, None}
+use Rattle.std.proofs.Common.{◌∙◌, ap, sym, Some}
 use Rattle.sg_model.specs.Values.{TextValue}
 use Rattle.sg_sched.proofs.ValueLaws.{text_kept, text_refused}
 use Rattle.sg_sched.proofs.value.as_text.Goals as goal
