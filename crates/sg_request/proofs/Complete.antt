@@ -11,10 +11,11 @@ use Rattle.sg_sched.specs.Format.Reading.{word}
 use Rattle.sg_sched.proofs.FormLaws.{name_ok}
 use Rattle.sg_sched.proofs.NumberLaws.{number_ok}
 use Rattle.sg_sched.proofs.PartLaws.{assignments_ok}
+use Rattle.sg_sched.proofs.WholeCraft.{cast_ok}
 use Rattle.sg_request.specs.declared.request.Request.{Request}
 use Rattle.sg_request.specs.declared.request.Request.TheVariants.{Start, Act, Abandon, Receive, Again, Turn, Id, Quit}
 use Rattle.sg_request.specs.Request.{start_form, act_form, receive_form, session_form, quit_form, short_form, form, request_words, session_word, is_request, is_session, is_cast}
-use Rattle.sg_request.proofs.WordLaws.{is_version, session_ok, version_ok, cast_ok}
+use Rattle.sg_request.proofs.WordLaws.{is_version, session_ok, version_ok}
 
 start_complete : (graph : Name) (v : ℕ) (names : List Name) → is_request (Start graph v names) ≡ true → start_form (graph ∷ decimal v ∷ joined_names names ∷ []) ≡ Some (Start graph v names)
 unfolding start_form word

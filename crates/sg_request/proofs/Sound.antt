@@ -12,10 +12,11 @@ use Rattle.sg_sched.proofs.FormatWords.{both}
 use Rattle.sg_sched.proofs.FormLaws.{none_some, step, ended_is, line_up, name_is}
 use Rattle.sg_sched.proofs.NumberLaws.{number_is}
 use Rattle.sg_sched.proofs.PartLaws.{assignments_are}
+use Rattle.sg_sched.proofs.CraftLaws.{cast_is}
 use Rattle.sg_request.specs.declared.request.Request.{Request}
 use Rattle.sg_request.specs.declared.request.Request.TheVariants.{Start, Act, Abandon, Receive, Again, Turn, Id, Quit}
 use Rattle.sg_request.specs.Request.{session, version, start_form, act_form, receive_form, session_form, quit_form, short_form, form, request_words, session_word, is_request, is_session}
-use Rattle.sg_request.proofs.WordLaws.{session_is, version_is, cast_is}
+use Rattle.sg_request.proofs.WordLaws.{session_is, version_is}
 
 -- the words are those of the request, and each field holds what it may hold
 pub record Says (ws : WordsLeft) (r : Request) : Type 0 where

@@ -1,10 +1,11 @@
 -- What a line of input asks for.
-use Rattle.std.specs.Prelude.{◌≡◌, ℕ, ◌==◌, nat_le, Bool, true, ◌&&◌, ◌||◌, if◌then◌else◌, List, [], ◌∷◌, map, length, codes, bytes_eq, Option, Some, None, option_map, option_and_then, IsTrue}
+use Rattle.std.specs.Prelude.{◌≡◌, ℕ, ◌==◌, nat_le, Bool, true, ◌&&◌, ◌||◌, if◌then◌else◌, List, [], ◌∷◌, map, length, codes, bytes_eq, Option, Some, None, option_map, IsTrue}
 use Rattle.std.specs.Fmt.{decimal}
 use Rattle.std.specs.List.{list_all}
 use Rattle.sg_model.specs.Limits.{most_roles}
 use Rattle.sg_model.specs.Names.{Name, is_name}
-use Rattle.sg_base.specs.Words.{name, number, from_one}
+use Rattle.sg_base.specs.Words.{name, number}
+use Rattle.sg_sched.specs.Words.{numbered}
 use Rattle.sg_sched.specs.Text.{words, without_last}
 use Rattle.sg_sched.specs.Format.LineContents.{Word, assignment_word, joined_names}
 use Rattle.sg_sched.specs.Format.Forms.{are_names, is_assignment}
@@ -15,10 +16,9 @@ use Rattle.sg_request.specs.declared.request.Request.TheVariants.{Start, Act, Ab
 
 -- ---- words
 
--- a session: s and a number from 1 on that is below 2 ^ 32
+-- a session: s and its number
 unfoldable pub session : Word → Option ℕ
-session [] = None
-session (c ∷ cs) = if c == 115 then option_and_then from_one (number 4294967295 cs) else None
+session = numbered 115
 
 -- the version of a session's frames: 1 or 2
 unfoldable pub version : Word → Option ℕ

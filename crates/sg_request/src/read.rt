@@ -8,7 +8,7 @@ ghost use Rattle.sg_request.specs.Request.{act_form, content, form, quit_form, r
 
 use crate::request::Request;
 use sg_base::{Name, OutOfMemory, Seq, read_number};
-use sg_sched::word::read_name;
+use sg_sched::word::{read_name, read_numbered};
 use sg_sched::{Words, read_assignments, read_cast};
 use std::alloc::Global;
 
@@ -81,14 +81,7 @@ fn take_name(words: &mut Words) -> Option<Name>
 fn read_session(word: &[u8]) -> Option<u32>
     ensures { result ≡ session word.now }
 {
-    let [b's', digits @ ..] = word else {
-        return None;
-    };
-    let number = read_number(digits, u64::from(u32::MAX))?;
-    if number == 0 {
-        return None;
-    }
-    Some(number as u32)
+    read_numbered(b's', word)
 }
 
 #[tactic(auto, unfolding(sg_sched::specs::Format::Reading::word))]
