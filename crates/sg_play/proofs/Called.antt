@@ -61,12 +61,7 @@ one_frame f to (Some at) = refl
 
 pub is_addressed : (keys : Keyring) (a : Answer) → frames_made (addressed keys (sealed_in a)) ≡ frames_in keys a
 is_addressed keys (Protocol.Sends e to f) = one_frame f to (addr_of keys to)
-is_addressed keys (Protocol.Happened e) = refl
-is_addressed keys Protocol.Abandoned = refl
-is_addressed keys (Protocol.NotStarted x) = refl
-is_addressed keys (Protocol.NotActed x) = refl
-is_addressed keys Protocol.NotAbandoned = refl
-is_addressed keys (Protocol.NotDelivered x) = refl
+is_addressed keys other = refl
 
 -- what comes of an act, with its frame
 pub results_made : (keys : Keyring) (frames counted : ℕ) (old new : NodeState) (past : Past) (call : Call) (number : ℕ) (o : Outcome) (sealed : Option (Name × List ℕ)) (frame : Option (Addr × (Name × List ℕ)))

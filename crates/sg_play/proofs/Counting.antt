@@ -1,8 +1,11 @@
 -- Counts of faults, over calls one after another.
-use Rattle.std.proofs.Common.{◌≡◌, ◌≢◌, ◌≤◌, ℕ, Result, Ok, Err, refl, subst, arith}
+use Rattle.std.proofs.Common.{◌≡◌, ◌≢◌, ◌≤◌, ℕ, Result, Ok, Err, refl, ◌∙◌, subst, arith}
+use Rattle.sg_base.specs.declared.outside.Link as Link
+use Rattle.sg_base.specs.declared.outside.Sink as Sink
 use Rattle.sg_base.specs.Outside.{HasRisen}
 use Rattle.sg_play.specs.declared.fault.PlayFault.{PlayFault}
 use Rattle.sg_play.specs.declared.fault.PlayFault.TheVariants.{LinkFailed, OutOfMemory}
+use Rattle.sg_play.specs.Around.{KeepsLink}
 use Rattle.sg_play.specs.Faults.{Counts, CountsFault, CountsFaultAlone, CountsFaults}
 use Rattle.sg_play.proofs.Rising.{risen_last}
 
@@ -82,11 +85,6 @@ pub counted_then : {A B : Type 0} {old mid new : Counts} {a : A} {r : Result B P
     → CountsFaults old new r
 counted_then {a = a} h k = record { link = counts_then (h.link).falls k.link; out = alone_then ((h.out).same (no_fault a)) k.out }
 
-module _ {A B : Type 0} {old new : Counts} {a : A} where
-  -- a call that went on, and nothing then
-  pub went_on : (b : B) → CountsFaults old new (Ok a) → CountsFaults old new (Ok b)
-  went_on b h = counted_then h (none_counted new b)
-
 -- the link was asked, and then another call was made
 pub asked_then : {A : Type 0} {link link' out : ℕ} {new : Counts} {r : Result A PlayFault}
     → link ≤ link' → CountsFaults (record { link = link'; out = out }) new r → CountsFaults (record { link = link; out = out }) new r
@@ -96,3 +94,27 @@ asked_then l h = record { link = counts_then l h.link; out = h.out }
 pub link_counted : {A : Type 0} {link link' out : ℕ} → link ≤ link' → HasRisen link link'
     → CountsFaults {A = A} (record { link = link; out = out }) (record { link = link'; out = out }) (Err LinkFailed)
 link_counted l h = record { link = counts_rose l h; out = alone_same refl (other_fault refl (λ e. absurd (cc))) }
+
+-- ---- with what is kept of the link
+
+module _ {L O : Type 0} {link : Link.Ghosts L} {out : Sink.Ghosts O} where
+  -- nothing was asked of it
+  pub none_kept : {A : Type 0} {l : L} {o : O} (a : A) → KeepsLink link out l l o o (Ok a)
+  none_kept a = record { bound = refl; deliveries = refl; faults = none_counted _ a }
+
+  -- memory ran out
+  pub memory_kept : {A : Type 0} {l : L} {o : O} {f : PlayFault} {r : Result A PlayFault} → r ≡ Err f → f ≡ OutOfMemory → KeepsLink link out l l o o r
+  memory_kept is m = record { bound = refl; deliveries = refl; faults = memory_counted is m }
+
+  module _ {A B : Type 0} {l m : L} {o p : O} where
+    -- a fault is passed on
+    pub kept_passed : {f : PlayFault} {r : Result B PlayFault} → r ≡ Err f → KeepsLink {A = A} link out l m o p (Err f) → KeepsLink link out l m o p r
+    kept_passed is h = record { bound = h.bound; deliveries = h.deliveries; faults = passed_on is h.faults }
+
+    -- a call that went on, and then another
+    pub kept_then : {n : L} {q : O} {a : A} {r : Result B PlayFault} → KeepsLink link out l m o p (Ok a) → KeepsLink link out m n p q r → KeepsLink link out l n o q r
+    kept_then h k = record { bound = k.bound ∙ h.bound; deliveries = k.deliveries ∙ h.deliveries; faults = counted_then h.faults k.faults }
+
+    -- and nothing then
+    pub kept_on : {a : A} (b : B) → KeepsLink link out l m o p (Ok a) → KeepsLink link out l m o p (Ok b)
+    kept_on b h = kept_then h (none_kept b)

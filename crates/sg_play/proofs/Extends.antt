@@ -3,7 +3,7 @@ use Rattle.std.proofs.Common.{◌≡◌, ℕ, List, [], ◌∷◌, ◌++◌, fin
 use Rattle.std.specs.Option.{option_map_or}
 use Rattle.std.proofs.lemmas.List.{append-nil}
 use Rattle.sg_model.specs.Names.{Name}
-use Rattle.sg_protocol.specs.Calls.{Call, Answer, Start, Abandon, Deliver, Happened, Sends, Abandoned, NotStarted, NotActed, NotAbandoned, NotDelivered}
+use Rattle.sg_protocol.specs.Calls.{Call, Answer, Start, Abandon, Deliver, Sends}
 use Rattle.sg_protocol.specs.Keyring.{Program}
 use Rattle.sg_protocol.specs.Past.{node_of}
 use Rattle.sg_protocol.specs.Session.{Session}
@@ -27,45 +27,58 @@ joined p q r f g = (f.0 ++ g.0, g.1 ∙ ap (λ l. l ++ g.0) f.1 ∙ append_assoc
 pub by_call : (p : Play) (c : Call) → Extends p (called p c)
 by_call p c = (step_in p c ∷ [], refl)
 
-by_leaving : (sid : List ℕ) (p : Play) (a : Answer) → Extends p (or_abandons sid p a)
-by_leaving sid p (Happened e) = by_call p (Abandon sid)
-by_leaving sid p (Sends e to f) = nothing p
-by_leaving sid p Abandoned = by_call p (Abandon sid)
-by_leaving sid p (NotStarted x) = by_call p (Abandon sid)
-by_leaving sid p (NotActed x) = by_call p (Abandon sid)
-by_leaving sid p NotAbandoned = by_call p (Abandon sid)
-by_leaving sid p (NotDelivered x) = by_call p (Abandon sid)
+-- ---- a relation of plays that goes from one to the next
 
-by_act : (sid : List ℕ) (graph : Name) (node : ℕ) (c : Choice) (p : Play) → Extends p (acts sid graph node c p)
-by_act sid graph node c p =
-    let q = called (chosen graph node c p) (act_by sid c p.random) in
-    joined p q (acts sid graph node c p) (step_in (chosen graph node c p) (act_by sid c p.random) ∷ [], refl) (by_leaving sid q (answer_in p (act_by sid c p.random)))
+module _ (R : Play → Play → Type 0) (none : (p : Play) → R p p) (both : (p q r : Play) → R p q → R q r → R p r) where
+  -- over a turn, if it holds over each call of a turn
+  module _ (leaving : (sid : List ℕ) (p : Play) → R p (abandons sid p)) (acting : (sid : List ℕ) (graph : Name) (node : ℕ) (c : Choice) (p : Play) → R p (called (chosen graph node c p) (act_by sid c p.random))) where
+    over_leaving : (sid : List ℕ) (p : Play) (a : Answer) → R p (or_abandons sid p a)
+    over_leaving sid p (Sends e to f) = none p
+    over_leaving sid p other = leaving sid p
 
-by_plays : (sid : List ℕ) (graph : Name) (node : ℕ) (p : Play) → Extends p (plays sid graph node p)
-by_plays sid graph node p = by (find (is_ready graph node) p.choices)
-  where
-    by : (o : Option Choice) → Extends p (option_map_or (λ c. acts sid graph node c p) o (abandons sid p))
-    by None = by_call p (Abandon sid)
-    by (Some c) = by_act sid graph node c p
+    over_act : (sid : List ℕ) (graph : Name) (node : ℕ) (c : Choice) (p : Play) → R p (acts sid graph node c p)
+    over_act sid graph node c p =
+        let q = called (chosen graph node c p) (act_by sid c p.random) in
+        both p q (acts sid graph node c p) (acting sid graph node c p) (over_leaving sid q (answer_in p (act_by sid c p.random)))
 
-by_session : (sid : List ℕ) (node : ℕ) (p : Play) (o : Option (Program × Session)) → Extends p (option_map_or (λ (x : Program × Session). plays sid x.0.graph.name node p) o (abandons sid p))
-by_session sid node p None = by_call p (Abandon sid)
-by_session sid node p (Some x) = by_plays sid x.0.graph.name node p
+    over_plays : (sid : List ℕ) (graph : Name) (node : ℕ) (p : Play) → R p (plays sid graph node p)
+    over_plays sid graph node p = by (find (is_ready graph node) p.choices)
+      where
+        by : (o : Option Choice) → R p (option_map_or (λ c. acts sid graph node c p) o (abandons sid p))
+        by None = leaving sid p
+        by (Some c) = over_act sid graph node c p
 
-pub by_turn : (sid : List ℕ) (p : Play) → Extends p (plays_on sid p)
-by_turn sid p = by (turn_of (node_of p.past) sid)
-  where
-    by : (o : Option ℕ) → Extends p (option_map_or (λ node. option_map_or (λ (x : Program × Session). plays sid x.0.graph.name node p) (live_with (node_of p.past) sid) (abandons sid p)) o p)
-    by None = nothing p
-    by (Some node) = by_session sid node p (live_with (node_of p.past) sid)
+    over_session : (sid : List ℕ) (node : ℕ) (p : Play) (o : Option (Program × Session)) → R p (option_map_or (λ (x : Program × Session). plays sid x.0.graph.name node p) o (abandons sid p))
+    over_session sid node p None = leaving sid p
+    over_session sid node p (Some x) = over_plays sid x.0.graph.name node p
 
--- the turn that a call gives
-pub by_given : (p : Play) (o : Option (List ℕ)) → Extends p (option_map_or (λ sid. plays_on sid p) o p)
-by_given p None = nothing p
-by_given p (Some sid) = by_turn sid p
+    pub over_turn : (sid : List ℕ) (p : Play) → R p (plays_on sid p)
+    over_turn sid p = by (turn_of (node_of p.past) sid)
+      where
+        by : (o : Option ℕ) → R p (option_map_or (λ node. option_map_or (λ (x : Program × Session). plays sid x.0.graph.name node p) (live_with (node_of p.past) sid) (abandons sid p)) o p)
+        by None = none p
+        by (Some node) = over_session sid node p (live_with (node_of p.past) sid)
+
+    -- the turn that a call gives
+    pub over_given : (p : Play) (o : Option (List ℕ)) → R p (option_map_or (λ sid. plays_on sid p) o p)
+    over_given p None = none p
+    over_given p (Some sid) = over_turn sid p
+
+  pub over_starts : ((p : Play) (s : ScriptStart) → R p (starts p s)) → (p : Play) (ss : List ScriptStart) → R p (all_starts p ss)
+  over_starts one p [] = none p
+  over_starts one p (s ∷ ss) = both p (starts p s) (all_starts (starts p s) ss) (one p s) (over_starts one (starts p s) ss)
+
+  pub over_deliveries : ((p : Play) (d : List ℕ) → R p (with_turn p (Deliver d))) → (p : Play) (ds : List (List ℕ)) → R p (all_deliveries p ds)
+  over_deliveries one p [] = none p
+  over_deliveries one p (d ∷ ds) = both p (with_turn p (Deliver d)) (all_deliveries (with_turn p (Deliver d)) ds) (one p d) (over_deliveries one (with_turn p (Deliver d)) ds)
+
+-- ---- each only adds steps
+
+by_act : (sid : List ℕ) (graph : Name) (node : ℕ) (c : Choice) (p : Play) → Extends p (called (chosen graph node c p) (act_by sid c p.random))
+by_act sid graph node c p = (step_in (chosen graph node c p) (act_by sid c p.random) ∷ [], refl)
 
 pub after_call : (p : Play) (c : Call) → Extends (called p c) (with_turn p c)
-after_call p c = by_given (called p c) (sid_answered (answer_in p c))
+after_call p c = over_given Extends nothing joined (λ sid q. by_call q (Abandon sid)) by_act (called p c) (sid_answered (answer_in p c))
 
 pub with_call : (p : Play) (c : Call) → Extends p (with_turn p c)
 with_call p c = joined p (called p c) (with_turn p c) (by_call p c) (after_call p c)
@@ -74,12 +87,10 @@ pub by_start : (p : Play) (s : ScriptStart) → Extends p (starts p s)
 by_start p s = with_call (without 1 p) (Start (cast_of_start p.past.programs s (next_random p.random)))
 
 pub by_starts : (p : Play) (ss : List ScriptStart) → Extends p (all_starts p ss)
-by_starts p [] = nothing p
-by_starts p (s ∷ ss) = joined p (starts p s) (all_starts (starts p s) ss) (by_start p s) (by_starts (starts p s) ss)
+by_starts p ss = over_starts Extends nothing joined by_start p ss
 
 pub by_deliveries : (p : Play) (ds : List (List ℕ)) → Extends p (all_deliveries p ds)
-by_deliveries p [] = nothing p
-by_deliveries p (d ∷ ds) = joined p (with_turn p (Deliver d)) (all_deliveries (with_turn p (Deliver d)) ds) (with_call p (Deliver d)) (by_deliveries (with_turn p (Deliver d)) ds)
+by_deliveries p ds = over_deliveries Extends nothing joined (λ q d. with_call q (Deliver d)) p ds
 
 -- ---- lists one after another
 

@@ -29,22 +29,12 @@ keeps_then a b c f g past s reported =
     (end.0, end.1, end.2, end.3 ∙ mid.3)
 
 acts_join_none : (st : NodeState) (sid : List ℕ) (label : ℕ) (values : Map Value) (confounders : List (List ℕ)) (a : Answer) → (state_after st (Act sid label values confounders) a).joins ≡ st.joins
-acts_join_none st sid label values confounders (Protocol.Happened e) = refl
 acts_join_none st sid label values confounders (Protocol.Sends e to f) = refl
-acts_join_none st sid label values confounders Protocol.Abandoned = refl
-acts_join_none st sid label values confounders (Protocol.NotStarted x) = refl
-acts_join_none st sid label values confounders (Protocol.NotActed x) = refl
-acts_join_none st sid label values confounders Protocol.NotAbandoned = refl
-acts_join_none st sid label values confounders (Protocol.NotDelivered x) = refl
+acts_join_none st sid label values confounders other = refl
 
 leavings_join_none : (st : NodeState) (sid : List ℕ) (a : Answer) → (state_after st (Abandon sid) a).joins ≡ st.joins
-leavings_join_none st sid (Protocol.Happened e) = refl
 leavings_join_none st sid (Protocol.Sends e to f) = refl
-leavings_join_none st sid Protocol.Abandoned = refl
-leavings_join_none st sid (Protocol.NotStarted x) = refl
-leavings_join_none st sid (Protocol.NotActed x) = refl
-leavings_join_none st sid Protocol.NotAbandoned = refl
-leavings_join_none st sid (Protocol.NotDelivered x) = refl
+leavings_join_none st sid other = refl
 
 -- a call that joins nothing
 keeps_by : (number : ℕ) (old new : NodeState) (c : Call) (past : Past) (o : Outcome) (sealed : Option (Name × List ℕ)) → IsAnsweredPast past → IsAsked number old new past c o sealed

@@ -45,11 +45,7 @@ with_events l = record { declared = []; events = l }
 known_by : (m : List (List ℕ)) (k : ℕ) (a : Answer) → with_events (m ++ map sid_of (events_of_answer a)) ≡ known_more (with_events m) (reported_answer k a)
 known_by m k (Protocol.Happened e) = refl
 known_by m k (Protocol.Sends e to f) = refl
-known_by m k Protocol.Abandoned = ap with_events (append-nil m)
-known_by m k (Protocol.NotStarted x) = ap with_events (append-nil m)
-known_by m k (Protocol.NotActed x) = ap with_events (append-nil m)
-known_by m k Protocol.NotAbandoned = ap with_events (append-nil m)
-known_by m k (Protocol.NotDelivered x) = ap with_events (append-nil m)
+known_by m k other = ap with_events (append-nil m)
 
 -- the sessions after a call, by what is reported of it
 pub known_after : (calls : List AnsweredCall) (c : AnsweredCall) (k : ℕ) → known_in (calls ++ c ∷ []) ≡ known_more (known_in calls) (reported_answer k c.answer)
@@ -59,11 +55,7 @@ known_after calls c k = ap with_events (sids_more calls c) ∙ known_by (known_i
 pub reported_given : (k : ℕ) (a : Answer) → sid_reported (reported_answer k a) ≡ sid_answered a
 reported_given k (Protocol.Happened e) = refl
 reported_given k (Protocol.Sends e to f) = refl
-reported_given k Protocol.Abandoned = refl
-reported_given k (Protocol.NotStarted x) = refl
-reported_given k (Protocol.NotActed x) = refl
-reported_given k Protocol.NotAbandoned = refl
-reported_given k (Protocol.NotDelivered x) = refl
+reported_given k other = refl
 
 -- ---- a call
 
@@ -72,53 +64,45 @@ one_more xs x = length-append xs (x ∷ [])
 
 -- what sends no frame has none
 no_frames : (keys : Keyring) (a : Answer) → None ≡ sealed_in a → [] ≡ frames_in keys a
-no_frames keys (Protocol.Happened e) h = refl
 no_frames keys (Protocol.Sends e to f) h = cc
-no_frames keys Protocol.Abandoned h = refl
-no_frames keys (Protocol.NotStarted x) h = refl
-no_frames keys (Protocol.NotActed x) h = refl
-no_frames keys Protocol.NotAbandoned h = refl
-no_frames keys (Protocol.NotDelivered x) h = refl
+no_frames keys other h = refl
 
 no_more : (n : ℕ) → n ≡ n + 0
 no_more n = omega arith
 
--- a call that sends no frame was asked
+-- a call was asked, and these frames are counted
+asked_so : (pl : Player) (n : NodeState) (counted : ℕ) (p : Play) (c : Call) (o : Outcome) (sealed : Option (Name × List ℕ)) (made : List (Addr × List ℕ)) → RepresentsPlay pl p → IsAsked (length (frames_of p.steps) + 1) pl.node n p.past c o sealed
+    → counted ≡ length (frames_of p.steps) + length made → made ≡ frames_in p.past.keys (answer_in p c) → HasAsked (record pl { node = n; frames = counted }) p c o made
+asked_so pl n counted p c o sealed made s h count is = record {
+  node = h.goes_on.represents;
+  answered_past = pasts_go_on p.past c s.answered h.range;
+  keys = s.keys;
+  programs = s.programs;
+  choices = s.choices;
+  names = s.names;
+  steps = s.steps;
+  frames = count;
+  is_reported = h.is_reported;
+  is_graph = h.is_graph;
+  is_made = is;
+}
+
+-- it sends no frame
 pub asked_quiet : (pl : Player) (n : NodeState) (p : Play) (c : Call) (o : Outcome) → RepresentsPlay pl p → ((number : ℕ) → IsAsked number pl.node n p.past c o None) → HasAsked (record pl { node = n }) p c o []
 asked_quiet pl n p c o s h =
     let came = h (length (frames_of p.steps) + 1) in
-    record {
-      node = came.goes_on.represents;
-      answered_past = pasts_go_on p.past c s.answered came.range;
-      keys = s.keys;
-      programs = s.programs;
-      choices = s.choices;
-      names = s.names;
-      steps = s.steps;
-      frames = s.frames ∙ no_more (length (frames_of p.steps));
-      is_reported = came.is_reported;
-      is_graph = came.is_graph;
-      is_made = no_frames p.past.keys (answer_in p c) came.is_sealed;
-    }
+    asked_so pl n pl.frames p c o None [] s came (s.frames ∙ no_more (length (frames_of p.steps))) (no_frames p.past.keys (answer_in p c) came.is_sealed)
 
--- an act was asked, with its frame
+-- by a player that has the rest as before
+pub asked_by : (old new : Player) (p : Play) (c : Call) (o : Outcome) → RepresentsPlay old p → new ≡ record old { node = new.node } → ((number : ℕ) → IsAsked number old.node new.node p.past c o None) → HasAsked new p c o []
+asked_by old new p c o s is h = subst (λ (pl : Player). HasAsked pl p c o []) (sym is) (asked_quiet old new.node p c o s h)
+
+-- it is an act, with its frame
 pub asked_made : (pl : Player) (n : NodeState) (counted : ℕ) (p : Play) (c : Call) (o : Outcome) (frame : Option (Addr × (Name × List ℕ))) → RepresentsPlay pl p → IsAskedWithFrames pl.keys.now pl.frames counted pl.node n p.past c o frame
     → HasAsked (record pl { node = n; frames = counted }) p c o (frames_made frame)
 asked_made pl n counted p c o frame s h =
-    let came = h.is_asked in
-    record {
-      node = came.goes_on.represents;
-      answered_past = pasts_go_on p.past c s.answered came.range;
-      keys = s.keys;
-      programs = s.programs;
-      choices = s.choices;
-      names = s.names;
-      steps = s.steps;
-      frames = h.is_counted ∙ ap (λ k. k + length (frames_made frame)) s.frames;
-      is_reported = came.is_reported ∙ ap (λ k. reported_answer (k + 1) (answer_in p c)) s.frames;
-      is_graph = came.is_graph;
-      is_made = ap frames_made h.is_frame ∙ is_addressed pl.keys.now (answer_in p c) ∙ ap (λ (k : Keyring). frames_in k (answer_in p c)) (sym s.keys);
-    }
+    asked_so pl n counted p c o (sealed_in (answer_in p c)) (frames_made frame) s (subst (λ k. IsAsked (k + 1) pl.node n p.past c o (sealed_in (answer_in p c))) s.frames h.is_asked)
+    (h.is_counted ∙ ap (λ k. k + length (frames_made frame)) s.frames) (ap frames_made h.is_frame ∙ is_addressed pl.keys.now (answer_in p c) ∙ ap (λ (k : Keyring). frames_in k (answer_in p c)) (sym s.keys))
 
 -- what is reported of a call
 abbrev pub reported_in : Play → Call → Reported

@@ -15,7 +15,7 @@ use Rattle.sg_play.specs.Played.{Play, all_deliveries, all_starts, answer_in, be
 use Rattle.sg_play.specs.Representation.{Progressed, RepresentsPlay}
 use Rattle.sg_play.proofs.Coming.{ended_on, failed, no_link, no_memory, no_memory_by}
 use Rattle.sg_play.proofs.Endings.{whole_none}
-use Rattle.sg_play.proofs.Extends.{after_call, by_deliveries, by_starts, joined}
+use Rattle.sg_play.proofs.Extends.{after_call, by_deliveries, by_starts, joined, with_call}
 use Rattle.sg_play.proofs.Looping.{deliveries_on, delivery_next, start_next, starts_on, taken_all}
 
 -- ---- a call
@@ -29,11 +29,15 @@ module _ (start now : Outside) (pl : Player) (random : Option (List (List ℕ)))
   pub call_failed : (r : Result (Unit {0}) PlayFault) (f : PlayFault) → r ≡ Err f → Ended start now (called q c).steps (Err f) → Progressed start now pl random (with_turn q c) r
   call_failed r f e h = failed start now pl random (with_turn q c) r f e (ended_on start now (called q c) (with_turn q c) f (after_call q c) h)
 
+  -- memory ran out for it
+  pub call_full : (r : Result (Unit {0}) PlayFault) (f : PlayFault) → r ≡ Err f → f ≡ OutOfMemory → Whole start now q.steps → Progressed start now pl random (with_turn q c) r
+  call_full r f e is w = failed start now pl random (with_turn q c) r f e (no_memory_by start now q (with_turn q c) f is (with_call q c) w)
+
 -- ---- a start
 
--- a player represents the play with sixteen random bytes less
-pub without_one : (pl : Player) (p : Play) → RepresentsPlay pl p → RepresentsPlay pl (without 1 p)
-without_one pl p s = record { node = s.node; answered = s.answered; keys = s.keys; programs = s.programs; choices = s.choices; names = s.names; steps = s.steps; frames = s.frames }
+-- a player represents the play with fewer random bytes to come
+pub without_some : (n : ℕ) (pl : Player) (p : Play) → RepresentsPlay pl p → RepresentsPlay pl (without n p)
+without_some n pl p s = record { node = s.node; answered = s.answered; keys = s.keys; programs = s.programs; choices = s.choices; names = s.names; steps = s.steps; frames = s.frames }
 
 -- a start with the next sixteen random bytes as its nonce
 pub start_is : (p : Play) (s : ScriptStart) (programs : List Program) (nonce : List ℕ) (cast : Cast) → p.past.programs ≡ programs → nonce ≡ next_random p.random → cast ≡ cast_of_start programs s nonce → with_turn (without 1 p) (Start cast) ≡ starts p s
@@ -74,16 +78,19 @@ module _ (start now : Outside) (pl : Player) (random : Option (List (List ℕ)))
       failed start now pl random (all_deliveries p (take m ds)) r f is
       (ended_on start now (all_deliveries p (take (k + 1) ds)) (all_deliveries p (take m ds)) f (deliveries_on p (k + 1) m ds l) (subst (λ (z : Play). Ended start now z.steps (Err f)) (delivery_next p k ds b e) h))
 
-  -- the link gave none
-  pub link_failed : (m : ℕ) → k ≤ m → Whole start now (all_deliveries p (take k ds)).steps → Progressed start now pl random (all_deliveries p (take m ds)) (Err LinkFailed)
-  link_failed m l w = no_link start now (all_deliveries p (take k ds)) (all_deliveries p (take m ds)) (deliveries_on p k m ds l) w
-
-  pub link_full : (m : ℕ) → k ≤ m → Whole start now (all_deliveries p (take k ds)).steps → Progressed start now pl random (all_deliveries p (take m ds)) (Err OutOfMemory)
-  link_full m l w = no_memory start now (all_deliveries p (take k ds)) (all_deliveries p (take m ds)) (deliveries_on p k m ds l) w
-
   -- the link's end
   pub link_ended : (m : ℕ) → k ≤ m → drop k ds ≡ [] → RepresentsPlay pl (all_deliveries p (take k ds)) → Whole start now (all_deliveries p (take k ds)).steps → random ≡ Some (all_deliveries p (take k ds)).random → Progressed start now pl random (all_deliveries p (take m ds)) (Ok tt)
   link_ended m l e s w left = subst (λ (z : List (List ℕ)). Progressed start now pl random (all_deliveries p z) (Ok tt)) (sym (taken_all k m ds l e)) ((s, w), left)
+
+module _ {old : Option (List (Addr × List ℕ))} (start : Outside) (pl : Player) (random : Option (List (List ℕ))) (p : Play) (ds : List (List ℕ)) (k : ℕ) (written : Option (List ℕ)) (new : Option (List (Addr × List ℕ))) (same : new ≡ old) (m : ℕ) (within : k ≤ m)
+    (w : Whole start (record { written = written; sent = old }) (all_deliveries p (take k ds)).steps) where
+  -- the link gave none
+  pub link_failed : Progressed start (record { written = written; sent = new }) pl random (all_deliveries p (take m ds)) (Err LinkFailed)
+  link_failed = no_link start (record { written = written; sent = new }) (all_deliveries p (take k ds)) (all_deliveries p (take m ds)) (deliveries_on p k m ds within) (nothing_sent start (all_deliveries p (take k ds)) written old new same w)
+
+  -- memory ran out for it
+  pub link_full : Progressed start (record { written = written; sent = new }) pl random (all_deliveries p (take m ds)) (Err OutOfMemory)
+  link_full = no_memory start (record { written = written; sent = new }) (all_deliveries p (take k ds)) (all_deliveries p (take m ds)) (deliveries_on p k m ds within) (nothing_sent start (all_deliveries p (take k ds)) written old new same w)
 
 -- ---- a play
 

@@ -17,13 +17,8 @@ tells_sent (Sends e to n) = true
 tells_sent other = false
 
 answer_sent : (k : ℕ) (a : Answer) → tells_sent (reported_answer k a) ≡ is_sent a
-answer_sent k (Protocol.Happened e) = refl
 answer_sent k (Protocol.Sends e to f) = refl
-answer_sent k Protocol.Abandoned = refl
-answer_sent k (Protocol.NotStarted x) = refl
-answer_sent k (Protocol.NotActed x) = refl
-answer_sent k Protocol.NotAbandoned = refl
-answer_sent k (Protocol.NotDelivered x) = refl
+answer_sent k other = refl
 
 -- the answer is reported so
 reported_so : (k : ℕ) (a : Answer) (t : Reported) → t ≡ reported_answer k a → tells_sent t ≡ is_sent a

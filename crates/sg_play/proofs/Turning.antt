@@ -3,7 +3,7 @@ use Rattle.std.proofs.Common.{◌≡◌, ℕ, Bool, true, false, List, find, if�
 use Rattle.std.specs.Option.{option_map_or}
 use Rattle.std.proofs.lemmas.Option.{same_Some}
 use Rattle.sg_model.specs.Names.{Name}
-use Rattle.sg_protocol.specs.Calls.{Abandon, Answer, Happened, Sends, Abandoned, NotStarted, NotActed, NotAbandoned, NotDelivered}
+use Rattle.sg_protocol.specs.Calls.{Abandon, Answer, Sends}
 use Rattle.sg_protocol.specs.Graph.{Graph}
 use Rattle.sg_protocol.specs.Keyring.{Program}
 use Rattle.sg_protocol.specs.Past.{node_of}
@@ -17,13 +17,8 @@ use Rattle.sg_play.specs.Turns.{acted, acted_by, acted_in, is_sent, or_leaves}
 use Rattle.sg_play.proofs.Extends.{Extends, by_call, nothing}
 
 by_answer : (sid : List ℕ) (q : Play) (a : Answer) → or_abandons sid q a ≡ or_leaves sid (q, is_sent a)
-by_answer sid q (Happened e) = refl
 by_answer sid q (Sends e to f) = refl
-by_answer sid q Abandoned = refl
-by_answer sid q (NotStarted x) = refl
-by_answer sid q (NotActed x) = refl
-by_answer sid q NotAbandoned = refl
-by_answer sid q (NotDelivered x) = refl
+by_answer sid q other = refl
 
 by_choices : (sid : List ℕ) (graph : Name) (node : ℕ) (p : Play) → plays sid graph node p ≡ or_leaves sid (acted_in sid graph node p)
 by_choices sid graph node p = by (find (is_ready graph node) p.choices)

@@ -4,6 +4,7 @@ pub mod Queues
 pub mod Steps
 pub mod Played
 pub mod Ends
+pub mod Around
 pub mod Posting
 pub mod Asking
 pub mod Representation

@@ -46,11 +46,6 @@ pub record HasAsked (pl : Player) (p : Play) (c : Call) (outcome : Outcome) (mad
   pub is_graph : graph_in outcome ≡ graph_named (answer_in p c) (graph_of_call real (node_of p.past) c)
   pub is_made : made ≡ frames_in p.past.keys (answer_in p c)
 
--- whether a call succeeded
-abbrev pub done : {A : Type 0} → Result A PlayFault → Result (Unit {0}) PlayFault
-done (Ok a) = Ok tt
-done (Err fault) = Err fault
-
 -- a play came to this one, all that it gave the outside since the start being whole; or it ended early on the way
 abbrev pub ProgressedOnItsWay : (start now : Outside) → Player → Play → Result (Unit {0}) PlayFault → Type 0
 ProgressedOnItsWay start now pl p (Ok u) = RepresentsPlay pl p × Whole start now p.steps
@@ -60,6 +55,10 @@ ProgressedOnItsWay start now pl p (Err fault) = Ended start now p.steps (Err fau
 abbrev pub Progressed : (start now : Outside) → Player → (random : Option (List (List ℕ))) → Play → Result (Unit {0}) PlayFault → Type 0
 Progressed start now pl random p (Ok u) = ProgressedOnItsWay start now pl p (Ok u) × (random ≡ Some p.random)
 Progressed start now pl random p (Err fault) = ProgressedOnItsWay start now pl p (Err fault)
+
+-- whatever play the player represents, with these random bytes to come, and whatever it has given the outside: the play came to where it goes, or ended early on the way
+abbrev pub Progresses : (goes : Play → Play) → (old new : Player) → (random left : Option (List (List ℕ))) → (before now : Outside) → Result (Unit {0}) PlayFault → Type 0
+Progresses goes old new random left before now r = (p : Play) (start : Outside) → RepresentsPlay old p → random ≡ Some p.random → Whole start before p.steps → Progressed start now new left (goes p) r
 
 -- so with the answer whether a frame was sent
 abbrev pub ProgressedActing : (start now : Outside) → Player → (random : Option (List (List ℕ))) → Play × Bool → Result Bool PlayFault → Type 0

@@ -1,7 +1,6 @@
 //! One principal who plays a script.
 ghost use Rattle.std.specs.Prelude.{◌≡◌, ◌+◌, ℕ, List, [], Some, None, IfOk, IfErr, OnOk, unwrap_or};
 ghost use Rattle.std.specs.Option.{option_map_or};
-ghost use Rattle.sg_play.specs.Faults.{CountsFaults};
 ghost use Rattle.sg_base.specs.declared.address.Addr.{Addr};
 ghost use Rattle.sg_text.specs.Sessions.{KnownSessions, naming, session_name};
 ghost use Rattle.sg_protocol.specs.Calls.{Call, Start, Deliver};
@@ -18,7 +17,6 @@ use crate::post::{OutputStep, let_go, post};
 use crate::reported::reported_line;
 use crate::run::cast_of;
 use sg_base::{Addr, Link, Name, Sealed, Seq, Sid, Sink};
-use sg_crypt::Cast;
 use sg_keys::Keyring;
 use sg_node::Node;
 use sg_program::Programs;
@@ -44,10 +42,11 @@ pub struct Player<'p> {
 impl<'p> Player<'p> {
     ghost use Rattle.sg_protocol.specs.NodeStates.{RepresentsPast, new_state};
     ghost use Rattle.sg_protocol.specs.Past.{Past};
+    ghost use Rattle.sg_play.specs.Around.{KeepsLink, outside_of};
     ghost use Rattle.sg_play.specs.Asking.{IsAsked};
     ghost use Rattle.sg_play.specs.Ends.{Outside, Whole};
-    ghost use Rattle.sg_play.specs.Played.{Play, abandons, answer_in, beginning, called, cast_of_start, sid_answered, step_in};
-    ghost use Rattle.sg_play.specs.Representation.{ProgressedOnItsWay, HasAsked, KeepsJoins, RepresentsPlay, done};
+    ghost use Rattle.sg_play.specs.Played.{Play, beginning, called, cast_of_start, step_in};
+    ghost use Rattle.sg_play.specs.Representation.{ProgressedOnItsWay, HasAsked, RepresentsPlay};
 
     /// A player with a node that was made with these keys and programs and was not asked anything yet.
     pub fn new(
@@ -102,65 +101,9 @@ impl<'p> Player<'p> {
         ask_deliver(self.alloc, &mut self.node, bytes)
     }
 
-    /// Starts a session: the session whose turn may have come.
-    pub(crate) fn start<L: Link, O: Sink>(
-        &mut self,
-        cast: Cast,
-        link: &mut L,
-        out: &mut O,
-    ) -> Result<Option<Sid>, PlayFault>
-        ensures link_bound { L.bound link.new ≡ L.bound link.old }
-        ensures faults { CountsFaults (record { link = L.faults link.old; out = O.faults out.old }) (record { link = L.faults link.new; out = O.faults out.new }) result }
-        ensures deliveries { L.deliveries link.new ≡ L.deliveries link.old }
-        ensures progress { (p : Play) (start : Outside) → RepresentsPlay self.old p → Whole start (record { written = O.written out.old; sent = L.sent link.old }) p.steps
-            → ProgressedOnItsWay start (record { written = O.written out.new; sent = L.sent link.new }) self.new (called p (Start cast)) (done result) }
-        ensures turn { IfOk result (λ sid. (p : Play) → RepresentsPlay self.old p → sid ≡ sid_answered (answer_in p (Start cast))) }
-    {
-        let outcome = ask_start(self.alloc, &mut self.node, cast)?;
-        self.give(None, &outcome, None, link, out)?;
-        Ok(sid_reported(&outcome))
-    }
-
-    /// Takes a delivery: the session whose turn may have come.
-    pub(crate) fn take<L: Link, O: Sink>(
-        &mut self,
-        bytes: &[u8],
-        link: &mut L,
-        out: &mut O,
-    ) -> Result<Option<Sid>, PlayFault>
-        ensures link_bound { L.bound link.new ≡ L.bound link.old }
-        ensures faults { CountsFaults (record { link = L.faults link.old; out = O.faults out.old }) (record { link = L.faults link.new; out = O.faults out.new }) result }
-        ensures deliveries { L.deliveries link.new ≡ L.deliveries link.old }
-        ensures progress { (p : Play) (start : Outside) → RepresentsPlay self.old p → Whole start (record { written = O.written out.old; sent = L.sent link.old }) p.steps
-            → ProgressedOnItsWay start (record { written = O.written out.new; sent = L.sent link.new }) self.new (called p (Deliver bytes.now)) (done result) }
-        ensures turn { IfOk result (λ sid. (p : Play) → RepresentsPlay self.old p → sid ≡ sid_answered (answer_in p (Deliver bytes.now))) }
-    {
-        let outcome = ask_deliver(self.alloc, &mut self.node, bytes)?;
-        self.give(None, &outcome, None, link, out)?;
-        Ok(sid_reported(&outcome))
-    }
-
-    /// Leaves a session.
-    pub(crate) fn leave<L: Link, O: Sink>(
-        &mut self,
-        sid: Sid,
-        link: &mut L,
-        out: &mut O,
-    ) -> Result<(), PlayFault>
-        ensures link_bound { L.bound link.new ≡ L.bound link.old }
-        ensures faults { CountsFaults (record { link = L.faults link.old; out = O.faults out.old }) (record { link = L.faults link.new; out = O.faults out.new }) result }
-        ensures deliveries { L.deliveries link.new ≡ L.deliveries link.old }
-        ensures progress { (p : Play) (start : Outside) → RepresentsPlay self.old p → Whole start (record { written = O.written out.old; sent = L.sent link.old }) p.steps
-            → ProgressedOnItsWay start (record { written = O.written out.new; sent = L.sent link.new }) self.new (abandons sid p) result }
-        ensures joins { OnOk result (KeepsJoins self.old.node self.new.node) }
-    {
-        let outcome = self.ask_abandon(sid);
-        self.give(Some(sid), &outcome, None, link, out)
-    }
-
     /// Gives the outside the outcome of a call: the frame, if one was made, and when the link has taken it the line. It fails if
     /// the link fails, if the line is not written whole, or if memory runs out.
-    pub fn give<L: Link, O: Sink>(
+    pub(crate) fn give<L: Link, O: Sink>(
         &mut self,
         left: Option<Sid>,
         outcome: &Outcome<'p>,
@@ -168,12 +111,10 @@ impl<'p> Player<'p> {
         link: &mut L,
         out: &mut O,
     ) -> Result<(), PlayFault>
-        ensures link_bound { L.bound link.new ≡ L.bound link.old }
-        ensures faults { CountsFaults (record { link = L.faults link.old; out = O.faults out.old }) (record { link = L.faults link.new; out = O.faults out.new }) result }
-        ensures deliveries { L.deliveries link.new ≡ L.deliveries link.old }
+        ensures kept { KeepsLink L.Link O.Sink link.old link.new out.old out.new result }
         ensures progress { (p : Play) (c : Call) (start : Outside) → HasAsked self.old p c outcome.now (frames_made frame) → left ≡ sid_left c
-            → Whole start (record { written = O.written out.old; sent = L.sent link.old }) p.steps
-            → ProgressedOnItsWay start (record { written = O.written out.new; sent = L.sent link.new }) self.new (called p c) result }
+            → Whole start (outside_of L.Link O.Sink link.old out.old) p.steps
+            → ProgressedOnItsWay start (outside_of L.Link O.Sink link.new out.new) self.new (called p c) result }
         ensures node { OnOk result (self.new.node ≡ self.old.node) }
     {
         match self.report(left, outcome) {

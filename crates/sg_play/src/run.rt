@@ -1,12 +1,14 @@
 //! A play: the starts of a script, and then deliveries.
-ghost use Rattle.std.specs.Prelude.{◌≡◌, ◌≤◌, ℕ, List, Some, take, drop, OnOk, IfOk, IfErr};
+ghost use Rattle.std.specs.Prelude.{◌≡◌, ◌≤◌, ℕ, List, [], Some, None, take, drop, OnOk, IfOk, IfErr};
 ghost use Rattle.std.specs.Option.{option_map_or};
 ghost use Rattle.sg_play.specs.Faults.{CountsFaults};
-ghost use Rattle.sg_protocol.specs.Calls.{Deliver};
+ghost use Rattle.sg_play.specs.Around.{KeepsLink, counts_of, outside_of};
+ghost use Rattle.sg_protocol.specs.Calls.{Call, Deliver};
 ghost use Rattle.sg_protocol.specs.NodeStates.{new_state};
 ghost use Rattle.sg_play.specs.Ends.{Ended, Outside, Whole};
 ghost use Rattle.sg_play.specs.Played.{Play, all_deliveries, all_starts, cast_of_start, played, plays_on, starts, with_turn};
-ghost use Rattle.sg_play.specs.Representation.{Progressed, KeepsJoins, RepresentsPlay};
+ghost use Rattle.sg_play.specs.Representation.{HasAsked, KeepsJoins, Progressed, Progresses};
+ghost use Rattle.sg_report.specs.Reported.{sid_left};
 
 use crate::{PlayFault, Player};
 use sg_base::{Fresh, Link, LinkFault, Sid, Sink};
@@ -14,6 +16,7 @@ use sg_crypt::Cast;
 use sg_keys::Keyring;
 use sg_node::Node;
 use sg_program::Programs;
+use sg_report::{Outcome, sid_reported};
 use sg_script::{Script, ScriptStart};
 use std::alloc::Global;
 
@@ -26,11 +29,9 @@ impl<'p> Player<'p> {
         fresh: &mut R,
         out: &mut O,
     ) -> Result<(), PlayFault>
-        ensures link_bound { L.bound link.new ≡ L.bound link.old }
-        ensures faults { CountsFaults (record { link = L.faults link.old; out = O.faults out.old }) (record { link = L.faults link.new; out = O.faults out.new }) result }
-        ensures deliveries { L.deliveries link.new ≡ L.deliveries link.old }
-        ensures progress { (p : Play) (start : Outside) → RepresentsPlay self.old p → R.random fresh.old ≡ Some p.random → Whole start (record { written = O.written out.old; sent = L.sent link.old }) p.steps
-            → Progressed start (record { written = O.written out.new; sent = L.sent link.new }) self.new (R.random fresh.new) (all_starts p starts.now) result }
+        ensures kept { KeepsLink L.Link O.Sink link.old link.new out.old out.new result }
+        ensures progress { Progresses (λ p. all_starts p starts.now) self.old self.new (R.random fresh.old) (R.random fresh.new)
+            (outside_of L.Link O.Sink link.old out.old) (outside_of L.Link O.Sink link.new out.new) result }
     {
         for start in starts {
             self.start_one(start, link, fresh, out)?;
@@ -46,16 +47,13 @@ impl<'p> Player<'p> {
         fresh: &mut R,
         out: &mut O,
     ) -> Result<(), PlayFault>
-        ensures link_bound { L.bound link.new ≡ L.bound link.old }
-        ensures faults { CountsFaults (record { link = L.faults link.old; out = O.faults out.old }) (record { link = L.faults link.new; out = O.faults out.new }) result }
-        ensures deliveries { L.deliveries link.new ≡ L.deliveries link.old }
-        ensures progress { (p : Play) (start : Outside) → RepresentsPlay self.old p → R.random fresh.old ≡ Some p.random → Whole start (record { written = O.written out.old; sent = L.sent link.old }) p.steps
-            → Progressed start (record { written = O.written out.new; sent = L.sent link.new }) self.new (R.random fresh.new) (starts p start_of.now) result }
+        ensures kept { KeepsLink L.Link O.Sink link.old link.new out.old out.new result }
+        ensures progress { Progresses (λ p. starts p start_of.now) self.old self.new (R.random fresh.old) (R.random fresh.new)
+            (outside_of L.Link O.Sink link.old out.old) (outside_of L.Link O.Sink link.new out.new) result }
     {
         let nonce = fresh.next();
-        let cast = cast_of(self.programs, start_of, nonce)?;
-        let sid = self.start(cast, link, out)?;
-        self.play_if(sid, link, fresh, out)
+        let outcome = self.ask_start(start_of, nonce)?;
+        self.go_on(&outcome, link, fresh, out)
     }
 
     /// Takes at most `most` deliveries, up to the link's end, and plays the turn that each gives.
@@ -68,10 +66,10 @@ impl<'p> Player<'p> {
         out: &mut O,
     ) -> Result<(), PlayFault>
         ensures link_bound { L.bound link.new ≡ L.bound link.old }
-        ensures faults { CountsFaults (record { link = L.faults link.old; out = O.faults out.old }) (record { link = L.faults link.new; out = O.faults out.new }) result }
-        ensures progress { (p : Play) (start : Outside) (deliveries : List (List ℕ)) → L.deliveries link.old ≡ Some deliveries → RepresentsPlay self.old p → R.random fresh.old ≡ Some p.random
-            → Whole start (record { written = O.written out.old; sent = L.sent link.old }) p.steps
-            → Progressed start (record { written = O.written out.new; sent = L.sent link.new }) self.new (R.random fresh.new) (all_deliveries p (take most deliveries)) result }
+        ensures faults { CountsFaults (counts_of L.Link O.Sink link.old out.old) (counts_of L.Link O.Sink link.new out.new) result }
+        ensures progress { (deliveries : List (List ℕ)) → L.deliveries link.old ≡ Some deliveries
+            → Progresses (λ p. all_deliveries p (take most deliveries)) self.old self.new (R.random fresh.old) (R.random fresh.new)
+            (outside_of L.Link O.Sink link.old out.old) (outside_of L.Link O.Sink link.new out.new) result }
         ensures left { OnOk result ((deliveries : List (List ℕ)) → L.deliveries link.old ≡ Some deliveries → L.deliveries link.new ≡ Some (drop most deliveries)) }
         ensures at_most { (deliveries : List (List ℕ)) → L.deliveries link.old ≡ Some deliveries → (n : ℕ) × (n ≤ most) × (L.deliveries link.new ≡ Some (drop n deliveries)) }
     {
@@ -94,30 +92,44 @@ impl<'p> Player<'p> {
         fresh: &mut R,
         out: &mut O,
     ) -> Result<(), PlayFault>
-        ensures link_bound { L.bound link.new ≡ L.bound link.old }
-        ensures faults { CountsFaults (record { link = L.faults link.old; out = O.faults out.old }) (record { link = L.faults link.new; out = O.faults out.new }) result }
-        ensures deliveries { L.deliveries link.new ≡ L.deliveries link.old }
-        ensures progress { (p : Play) (start : Outside) → RepresentsPlay self.old p → R.random fresh.old ≡ Some p.random → Whole start (record { written = O.written out.old; sent = L.sent link.old }) p.steps
-            → Progressed start (record { written = O.written out.new; sent = L.sent link.new }) self.new (R.random fresh.new) (with_turn p (Deliver bytes.now)) result }
+        ensures kept { KeepsLink L.Link O.Sink link.old link.new out.old out.new result }
+        ensures progress { Progresses (λ p. with_turn p (Deliver bytes.now)) self.old self.new (R.random fresh.old) (R.random fresh.new)
+            (outside_of L.Link O.Sink link.old out.old) (outside_of L.Link O.Sink link.new out.new) result }
     {
-        let sid = self.take(bytes, link, out)?;
-        self.play_if(sid, link, fresh, out)
+        let outcome = self.ask_deliver(bytes)?;
+        self.go_on(&outcome, link, fresh, out)
     }
 
-    /// Plays the turn of a session, if there is one. The node joins nothing by it. It fails if the link fails, if a line is
-    /// not written whole, or if memory runs out.
-    pub fn play_if<L: Link, R: Fresh, O: Sink>(
+    /// Gives the outside the outcome of a call that makes no frame and leaves no session, and plays the turn that it gives. The node joins
+    /// nothing by it. It fails if the link fails, if a line is not written whole, or if memory runs out.
+    pub fn go_on<L: Link, R: Fresh, O: Sink>(
+        &mut self,
+        outcome: &Outcome<'p>,
+        link: &mut L,
+        fresh: &mut R,
+        out: &mut O,
+    ) -> Result<(), PlayFault>
+        ensures kept { KeepsLink L.Link O.Sink link.old link.new out.old out.new result }
+        ensures progress { (p : Play) (c : Call) (start : Outside) → HasAsked self.old p c outcome.now [] → None ≡ sid_left c → R.random fresh.old ≡ Some p.random
+            → Whole start (outside_of L.Link O.Sink link.old out.old) p.steps
+            → Progressed start (outside_of L.Link O.Sink link.new out.new) self.new (R.random fresh.new) (with_turn p c) result }
+        ensures joins { OnOk result (KeepsJoins self.old.node self.new.node) }
+    {
+        self.give(None, outcome, None, link, out)?;
+        self.play_if(sid_reported(outcome), link, fresh, out)
+    }
+
+    // Plays the turn of a session, if there is one.
+    fn play_if<L: Link, R: Fresh, O: Sink>(
         &mut self,
         sid: Option<Sid>,
         link: &mut L,
         fresh: &mut R,
         out: &mut O,
     ) -> Result<(), PlayFault>
-        ensures link_bound { L.bound link.new ≡ L.bound link.old }
-        ensures faults { CountsFaults (record { link = L.faults link.old; out = O.faults out.old }) (record { link = L.faults link.new; out = O.faults out.new }) result }
-        ensures deliveries { L.deliveries link.new ≡ L.deliveries link.old }
-        ensures progress { (p : Play) (start : Outside) → RepresentsPlay self.old p → R.random fresh.old ≡ Some p.random → Whole start (record { written = O.written out.old; sent = L.sent link.old }) p.steps
-            → Progressed start (record { written = O.written out.new; sent = L.sent link.new }) self.new (R.random fresh.new) (option_map_or (λ s. plays_on s p) sid p) result }
+        ensures kept { KeepsLink L.Link O.Sink link.old link.new out.old out.new result }
+        ensures progress { Progresses (λ p. option_map_or (λ s. plays_on s p) sid p) self.old self.new (R.random fresh.old) (R.random fresh.new)
+            (outside_of L.Link O.Sink link.old out.old) (outside_of L.Link O.Sink link.new out.new) result }
         ensures joins { OnOk result (KeepsJoins self.old.node self.new.node) }
     {
         match sid {

@@ -1,6 +1,6 @@
 //! A turn of a session: the act by a choice of the script, or the leaving.
 ghost use Rattle.std.specs.Prelude.{◌≡◌, ℕ, Some, None, IfOk, IfErr, OnOk, MatchOption, find};
-ghost use Rattle.sg_play.specs.Faults.{CountsFaults};
+ghost use Rattle.sg_play.specs.Around.{KeepsLink, outside_of};
 ghost use Rattle.sg_protocol.specs.Calls.{Answer};
 ghost use Rattle.sg_report.specs.Outcome.{outcome_of};
 ghost use Rattle.sg_report.specs.Reported.{reported_answer};
@@ -8,7 +8,7 @@ ghost use Rattle.sg_play.specs.Choosing.{is_ready};
 ghost use Rattle.sg_play.specs.Ends.{Outside, Whole};
 ghost use Rattle.sg_play.specs.Played.{Play, plays_on};
 ghost use Rattle.sg_play.specs.Posting.{frames_made};
-ghost use Rattle.sg_play.specs.Representation.{ProgressedActing, Progressed, HasActed, KeepsJoins, RepresentsPlay};
+ghost use Rattle.sg_play.specs.Representation.{ProgressedActing, Progresses, HasActed, KeepsJoins, RepresentsPlay};
 ghost use Rattle.sg_play.specs.Turns.{acted, acted_in, is_sent};
 
 use crate::ask::ask_act;
@@ -27,11 +27,9 @@ impl<'p> Player<'p> {
         fresh: &mut R,
         out: &mut O,
     ) -> Result<(), PlayFault>
-        ensures link_bound { L.bound link.new ≡ L.bound link.old }
-        ensures faults { CountsFaults (record { link = L.faults link.old; out = O.faults out.old }) (record { link = L.faults link.new; out = O.faults out.new }) result }
-        ensures deliveries { L.deliveries link.new ≡ L.deliveries link.old }
-        ensures progress { (p : Play) (start : Outside) → RepresentsPlay self.old p → R.random fresh.old ≡ Some p.random → Whole start (record { written = O.written out.old; sent = L.sent link.old }) p.steps
-            → Progressed start (record { written = O.written out.new; sent = L.sent link.new }) self.new (R.random fresh.new) (plays_on sid p) result }
+        ensures kept { KeepsLink L.Link O.Sink link.old link.new out.old out.new result }
+        ensures progress { Progresses (plays_on sid) self.old self.new (R.random fresh.old) (R.random fresh.new)
+            (outside_of L.Link O.Sink link.old out.old) (outside_of L.Link O.Sink link.new out.new) result }
         ensures joins { OnOk result (KeepsJoins self.old.node self.new.node) }
     {
         let Some(node) = self.node.turn(sid) else {
@@ -40,7 +38,8 @@ impl<'p> Player<'p> {
         if self.act(sid, node, link, fresh, out)? {
             return Ok(());
         }
-        self.leave(sid, link, out)
+        let outcome = self.ask_abandon(sid);
+        self.give(Some(sid), &outcome, None, link, out)
     }
 
     // Acts by the first choice for a node of a session's graph that has uses left. It says whether a step was sent: not if there is no
@@ -53,11 +52,9 @@ impl<'p> Player<'p> {
         fresh: &mut R,
         out: &mut O,
     ) -> Result<bool, PlayFault>
-        ensures link_bound { L.bound link.new ≡ L.bound link.old }
-        ensures faults { CountsFaults (record { link = L.faults link.old; out = O.faults out.old }) (record { link = L.faults link.new; out = O.faults out.new }) result }
-        ensures deliveries { L.deliveries link.new ≡ L.deliveries link.old }
-        ensures progress { (p : Play) (start : Outside) → RepresentsPlay self.old p → R.random fresh.old ≡ Some p.random → Whole start (record { written = O.written out.old; sent = L.sent link.old }) p.steps
-            → ProgressedActing start (record { written = O.written out.new; sent = L.sent link.new }) self.new (R.random fresh.new) (acted sid node p) result }
+        ensures kept { KeepsLink L.Link O.Sink link.old link.new out.old out.new result }
+        ensures progress { (p : Play) (start : Outside) → RepresentsPlay self.old p → R.random fresh.old ≡ Some p.random → Whole start (outside_of L.Link O.Sink link.old out.old) p.steps
+            → ProgressedActing start (outside_of L.Link O.Sink link.new out.new) self.new (R.random fresh.new) (acted sid node p) result }
         ensures joins { OnOk result (KeepsJoins self.old.node self.new.node) }
     {
         let Some(graph) = self.node.graph_of(&sid) else {
@@ -77,11 +74,9 @@ impl<'p> Player<'p> {
         fresh: &mut R,
         out: &mut O,
     ) -> Result<bool, PlayFault>
-        ensures link_bound { L.bound link.new ≡ L.bound link.old }
-        ensures faults { CountsFaults (record { link = L.faults link.old; out = O.faults out.old }) (record { link = L.faults link.new; out = O.faults out.new }) result }
-        ensures deliveries { L.deliveries link.new ≡ L.deliveries link.old }
-        ensures progress { (p : Play) (start : Outside) → RepresentsPlay self.old p → R.random fresh.old ≡ Some p.random → Whole start (record { written = O.written out.old; sent = L.sent link.old }) p.steps
-            → ProgressedActing start (record { written = O.written out.new; sent = L.sent link.new }) self.new (R.random fresh.new) (acted_in sid graph.now node p) result }
+        ensures kept { KeepsLink L.Link O.Sink link.old link.new out.old out.new result }
+        ensures progress { (p : Play) (start : Outside) → RepresentsPlay self.old p → R.random fresh.old ≡ Some p.random → Whole start (outside_of L.Link O.Sink link.old out.old) p.steps
+            → ProgressedActing start (outside_of L.Link O.Sink link.new out.new) self.new (R.random fresh.new) (acted_in sid graph.now node p) result }
         ensures joins { OnOk result (KeepsJoins self.old.node self.new.node) }
     {
         match self.try_act(sid, graph, node, fresh)? {

@@ -37,13 +37,13 @@ returns-clause-played g c = λ first deliveries random new reported drawn.
     let started = c.in_ok-start_all.ensures.progress begun start (c.in_ok-player.ensures.represents first random new) drawn (whole_none start) in
     subst (λ (z : Script). Ended start now (played c.args.keys.now c.args.programs.now first z (take c.args.most deliveries) random).steps c.take_all.result) is
     (ended_so start now c.take_all.new.self (g.R.Fresh.random c.take_all.new.fresh) (played c.args.keys.now c.args.programs.now first script (take c.args.most deliveries) random) c.take_all.result
-    (c.take_all.ensures.progress (all_starts begun script.starts) start deliveries (c.in_ok-start_all.ensures.deliveries ∙ reported) started.0.0 started.1 started.0.1))
+    (c.take_all.ensures.progress deliveries (c.in_ok-start_all.ensures.kept.deliveries ∙ reported) (all_starts begun script.starts) start started.0.0 started.1 started.0.1))
 
 pub returns-in_err-start_all-clause-at_most : goal.returns-in_err-start_all-clause-at_most
-returns-in_err-start_all-clause-at_most g c = λ deliveries reported. (0, omega arith, c.in_err-start_all.ensures.deliveries ∙ reported)
+returns-in_err-start_all-clause-at_most g c = λ deliveries reported. (0, omega arith, c.in_err-start_all.ensures.kept.deliveries ∙ reported)
 
 pub returns-clause-left : goal.returns-clause-left
-returns-clause-left g c = mapped c.take_all.result _ _ (λ left deliveries reported. left deliveries (c.in_ok-start_all.ensures.deliveries ∙ reported)) c.take_all.ensures.left
+returns-clause-left g c = mapped c.take_all.result _ _ (λ left deliveries reported. left deliveries (c.in_ok-start_all.ensures.kept.deliveries ∙ reported)) c.take_all.ensures.left
 
 pub returns-in_err-player-clause-faults : goal.returns-in_err-player-clause-faults
 returns-in_err-player-clause-faults g c = let same : c.from_residual.result ≡ Err c.in_err-player.field-0.0 = search rules in
@@ -53,7 +53,16 @@ pub returns-in_err-start_all-clause-faults : goal.returns-in_err-start_all-claus
 returns-in_err-start_all-clause-faults g c =
     let from = err_from_is_err_and c.from_residual-in_err-start_all.result c.from_residual-in_err-start_all.ensures.1 in
     let same : c.from_residual-in_err-start_all.result ≡ Err c.in_err-start_all.field-0.0 = from.1 ∙ ap (λ (z : PlayFault). Err z) from.2 in
-    passed_on same c.in_err-start_all.ensures.faults
+    passed_on same c.in_err-start_all.ensures.kept.faults
 
 pub returns-clause-faults : goal.returns-clause-faults
-returns-clause-faults g c = counted_then c.in_ok-start_all.ensures.faults c.take_all.ensures.faults
+returns-clause-faults g c = counted_then c.in_ok-start_all.ensures.kept.faults c.take_all.ensures.faults
+
+pub returns-in_err-start_all-clause-link_bound : goal.returns-in_err-start_all-clause-link_bound
+returns-in_err-start_all-clause-link_bound g c = c.in_err-start_all.ensures.kept.bound
+
+pub returns-clause-link_bound : goal.returns-clause-link_bound
+returns-clause-link_bound g c = c.take_all.ensures.link_bound ∙ c.in_ok-start_all.ensures.kept.bound
+
+pub returns-clause-at_most : goal.returns-clause-at_most
+returns-clause-at_most g c = λ deliveries reported. c.take_all.ensures.at_most deliveries (c.in_ok-start_all.ensures.kept.deliveries ∙ reported)

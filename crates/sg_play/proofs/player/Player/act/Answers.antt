@@ -4,7 +4,7 @@ use Rattle.std.specs.Option.{option_copied}
 use Rattle.sg_model.specs.Names.{Name}
 use Rattle.sg_play.specs.Turns.{acted, acted_in}
 use Rattle.sg_play.proofs.Acting.{act_none, act_same}
-use Rattle.sg_play.proofs.Counting.{none_counted}
+use Rattle.sg_play.proofs.Counting.{none_kept}
 use Rattle.sg_play.proofs.Turning.{acted_with, acted_without}
 use Rattle.sg_play.proofs.player.Player.act.Goals as goal
 
@@ -23,5 +23,5 @@ returns-clause-progress g c = λ p start s w h.
 pub returns-in_default-clause-joins : goal.returns-in_default-clause-joins
 returns-in_default-clause-joins g c = keeps_same c.args.self.now.node c.args.self.now.node refl
 
-pub returns-in_default-clause-faults : goal.returns-in_default-clause-faults
-returns-in_default-clause-faults g c = none_counted _ _
+pub returns-in_default-clause-kept : goal.returns-in_default-clause-kept
+returns-in_default-clause-kept g c = none_kept _

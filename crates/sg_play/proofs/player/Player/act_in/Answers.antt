@@ -7,7 +7,7 @@ use Rattle.sg_play.specs.Steps.{frames_of}
 use Rattle.sg_play.specs.Turns.{acted_in}
 use Rattle.sg_play.proofs.Acting.{act_failed, act_given, act_none, act_stopped, acting_adds}
 use Rattle.sg_play.proofs.Coming.{no_memory_by}
-use Rattle.sg_play.proofs.Counting.{memory_counted, none_counted, passed_on, went_on}
+use Rattle.sg_play.proofs.Counting.{kept_on, kept_passed, memory_kept, none_kept}
 use Rattle.sg_play.proofs.Turning.{acted_none}
 use Rattle.sg_play.proofs.player.Player.act_in.Goals as goal
 
@@ -45,16 +45,16 @@ returns-in_ok-give-in-Some-clause-joins g c =
 pub returns-in-None-clause-joins : goal.returns-in-None-clause-joins
 returns-in-None-clause-joins g c = c.in_ok-outcome.ensures.joins
 
-pub returns-in_err-outcome-clause-faults : goal.returns-in_err-outcome-clause-faults
-returns-in_err-outcome-clause-faults g c = let same : c.from_residual.result ≡ Err c.in_err-outcome.field-0.0 = search rules in
-    memory_counted same c.in_err-outcome.ensures.memory
+pub returns-in_err-outcome-clause-kept : goal.returns-in_err-outcome-clause-kept
+returns-in_err-outcome-clause-kept g c = let same : c.from_residual.result ≡ Err c.in_err-outcome.field-0.0 = search rules in
+    memory_kept same c.in_err-outcome.ensures.memory
 
-pub returns-in_err-give-in-Some-clause-faults : goal.returns-in_err-give-in-Some-clause-faults
-returns-in_err-give-in-Some-clause-faults g c = let same : c.from_residual-in_err-give-in-Some.result ≡ Err c.in_err-give-in-Some.field-0.0 = search rules in
-    passed_on same c.in_err-give-in-Some.ensures.faults
+pub returns-in_err-give-in-Some-clause-kept : goal.returns-in_err-give-in-Some-clause-kept
+returns-in_err-give-in-Some-clause-kept g c = let same : c.from_residual-in_err-give-in-Some.result ≡ Err c.in_err-give-in-Some.field-0.0 = search rules in
+    kept_passed same c.in_err-give-in-Some.ensures.kept
 
-pub returns-in_ok-give-in-Some-clause-faults : goal.returns-in_ok-give-in-Some-clause-faults
-returns-in_ok-give-in-Some-clause-faults g c = went_on _ c.in_ok-give-in-Some.ensures.faults
+pub returns-in_ok-give-in-Some-clause-kept : goal.returns-in_ok-give-in-Some-clause-kept
+returns-in_ok-give-in-Some-clause-kept g c = kept_on _ c.in_ok-give-in-Some.ensures.kept
 
-pub returns-in-None-clause-faults : goal.returns-in-None-clause-faults
-returns-in-None-clause-faults g c = none_counted _ _
+pub returns-in-None-clause-kept : goal.returns-in-None-clause-kept
+returns-in-None-clause-kept g c = none_kept _

@@ -13,37 +13,22 @@ use Rattle.sg_play.proofs.Results.{each_ok, then_ok}
 use Rattle.sg_play.proofs.Reporting.{asked_made}
 use Rattle.sg_play.proofs.player.Player.ask_act.Goals as goal
 
-pub returns-clause-asked : goal.returns-clause-asked
-returns-clause-asked c =
-    let old = c.args.self.now in
-    let node = c.ask_act.new.node in
-    let frames = c.ask_act.new.frames in
-    let act = Act c.args.sid c.args.label (values_of c.args.values.now) c.args.confounders.now in
-    each_ok c.ask_act.result (λ (p : Play). RepresentsPlay old p)
-    (λ (p : Play) r. IsAskedWithFrames old.keys.now old.frames frames old.node node p.past act r.0 r.1)
-    (λ (p : Play) r. HasAsked (record old { node = node; frames = frames }) p act r.0 (frames_made r.1))
-    (λ p r s h. asked_made old node frames p act r.0 r.1 s h)
-    (λ p s. c.ask_act.ensures.is_asked p.past s.node)
-
-pub returns-clause-frame : goal.returns-clause-frame
-returns-clause-frame c =
-    let old = c.args.self.now in
-    let node = c.ask_act.new.node in
-    let frames = c.ask_act.new.frames in
-    let act = Act c.args.sid c.args.label (values_of c.args.values.now) c.args.confounders.now in
-    each_ok c.ask_act.result (λ (p : Play). RepresentsPlay old p)
-    (λ (p : Play) r. IsAskedWithFrames old.keys.now old.frames frames old.node node p.past act r.0 r.1)
-    (λ (p : Play) r. r.1 ≡ addressed p.past.keys (sealed_in (answer_in p act)))
-    (λ p r s h. h.is_frame ∙ ap (λ (k : Keyring). addressed k (sealed_in (answer_in p act))) (sym s.keys))
-    (λ p s. c.ask_act.ensures.is_asked p.past s.node)
-
-pub returns-clause-joins : goal.returns-clause-joins
-returns-clause-joins c =
+pub returns : goal.returns
+returns c =
     let old = c.args.self.now in
     let node = c.ask_act.new.node in
     let frames = c.ask_act.new.frames in
     let values = values_of c.args.values.now in
-    then_ok c.ask_act.result (λ (past : Past). RepresentsPast old.node past)
-    (λ (past : Past) r. IsAskedWithFrames old.keys.now old.frames frames old.node node past (Act c.args.sid c.args.label values c.args.confounders.now) r.0 r.1) (KeepsJoins old.node node)
-    (λ r h. keeps_by_act old.keys.now old.frames frames old.node node c.args.sid c.args.label values c.args.confounders.now r.0 r.1 h)
-    c.ask_act.ensures.is_asked
+    let act = Act c.args.sid c.args.label values c.args.confounders.now in
+    record {
+      asked =
+          each_ok c.ask_act.result (λ (p : Play). RepresentsPlay old p) (λ (p : Play) r. IsAskedWithFrames old.keys.now old.frames frames old.node node p.past act r.0 r.1)
+          (λ (p : Play) r. HasAsked (record old { node = node; frames = frames }) p act r.0 (frames_made r.1)) (λ p r s h. asked_made old node frames p act r.0 r.1 s h) (λ p s. c.ask_act.ensures.is_asked p.past s.node);
+      frame =
+          each_ok c.ask_act.result (λ (p : Play). RepresentsPlay old p) (λ (p : Play) r. IsAskedWithFrames old.keys.now old.frames frames old.node node p.past act r.0 r.1)
+          (λ (p : Play) r. r.1 ≡ addressed p.past.keys (sealed_in (answer_in p act))) (λ p r s h. h.is_frame ∙ ap (λ (k : Keyring). addressed k (sealed_in (answer_in p act))) (sym s.keys)) (λ p s. c.ask_act.ensures.is_asked p.past s.node);
+      joins =
+          then_ok c.ask_act.result (λ (past : Past). RepresentsPast old.node past) (λ (past : Past) r. IsAskedWithFrames old.keys.now old.frames frames old.node node past act r.0 r.1) (KeepsJoins old.node node)
+          (λ r h. keeps_by_act old.keys.now old.frames frames old.node node c.args.sid c.args.label values c.args.confounders.now r.0 r.1 h) c.ask_act.ensures.is_asked;
+      memory = c.ask_act.ensures.memory;
+    }

@@ -1,26 +1,21 @@
-use Rattle.std.proofs.Common.{rules, ◌≡◌, Err}
+use Rattle.std.proofs.Common.{rules, ◌≡◌, Err, refl}
 use Rattle.sg_protocol.specs.Calls.{Deliver}
-use Rattle.sg_play.specs.Ends.{Outside}
-use Rattle.sg_play.specs.Played.{called}
-use Rattle.sg_play.proofs.Counting.{counted_then, passed_on}
-use Rattle.sg_play.proofs.Running.{call_failed, turn_given}
+use Rattle.sg_play.specs.Around.{outside_of}
+use Rattle.sg_play.proofs.Counting.{memory_kept}
+use Rattle.sg_play.proofs.Reporting.{asked_by}
+use Rattle.sg_play.proofs.Running.{call_full}
 use Rattle.sg_play.proofs.player.Player.deliver.Goals as goal
 
-pub returns-in_err-sid-clause-progress : goal.returns-in_err-sid-clause-progress
-returns-in_err-sid-clause-progress g c = let same : c.from_residual.result ≡ Err c.in_err-sid.field-0.0 = search rules in λ p start s w h.
-    let now : Outside = record { written = g.O.Sink.written c.take.new.out; sent = g.L.Link.sent c.take.new.link } in
-    call_failed start now c.take.new.self (g.R.Fresh.random c.args.fresh.now) p (Deliver c.args.bytes.now) c.from_residual.result c.in_err-sid.field-0.0 same (c.in_err-sid.ensures.progress p start s h)
+pub returns-in_err-outcome-clause-progress : goal.returns-in_err-outcome-clause-progress
+returns-in_err-outcome-clause-progress g c = let same : c.from_residual.result ≡ Err c.in_err-outcome.field-0.0 = search rules in λ p start s w h.
+    call_full start (outside_of g.L.Link g.O.Sink c.args.link.now c.args.out.now) c.ask_deliver.new.self (g.R.Fresh.random c.args.fresh.now) p (Deliver c.args.bytes.now) c.from_residual.result c.in_err-outcome.field-0.0 same c.in_err-outcome.ensures.memory h
 
 pub returns-clause-progress : goal.returns-clause-progress
 returns-clause-progress g c = λ p start s w h.
-    let now : Outside = record { written = g.O.Sink.written c.play_if.new.out; sent = g.L.Link.sent c.play_if.new.link } in
-    let came = c.in_ok-sid.ensures.progress p start s h in
-    turn_given start now c.play_if.new.self (g.R.Fresh.random c.play_if.new.fresh) p (Deliver c.args.bytes.now) c.in_ok-sid.sid c.play_if.result (c.in_ok-sid.ensures.turn p s)
-    (c.play_if.ensures.progress (called p (Deliver c.args.bytes.now)) start came.0 w came.1)
+    let call = Deliver c.args.bytes.now in
+    let asked = asked_by c.args.self.now c.ask_deliver.new.self p call c.in_ok-outcome.outcome s c.in_ok-outcome.ensures.rest (λ number. c.in_ok-outcome.ensures.is_asked number p.past s.node) in
+    c.go_on.ensures.progress p call start asked refl w h
 
-pub returns-in_err-sid-clause-faults : goal.returns-in_err-sid-clause-faults
-returns-in_err-sid-clause-faults g c = let same : c.from_residual.result ≡ Err c.in_err-sid.field-0.0 = search rules in
-    passed_on same c.in_err-sid.ensures.faults
-
-pub returns-clause-faults : goal.returns-clause-faults
-returns-clause-faults g c = counted_then c.in_ok-sid.ensures.faults c.play_if.ensures.faults
+pub returns-in_err-outcome-clause-kept : goal.returns-in_err-outcome-clause-kept
+returns-in_err-outcome-clause-kept g c = let same : c.from_residual.result ≡ Err c.in_err-outcome.field-0.0 = search rules in
+    memory_kept same c.in_err-outcome.ensures.memory

@@ -3,7 +3,7 @@ use Rattle.sg_play.specs.declared.player.Player.{Player}
 use Rattle.sg_play.specs.Played.{called}
 use Rattle.sg_play.specs.Posting.{frames_made}
 use Rattle.sg_play.proofs.Coming.{came_after, no_memory_by}
-use Rattle.sg_play.proofs.Counting.{memory_counted}
+use Rattle.sg_play.proofs.Counting.{memory_kept}
 use Rattle.sg_play.proofs.Extends.{by_call}
 use Rattle.sg_play.proofs.Results.{anyway}
 use Rattle.sg_play.proofs.player.Player.give.Goals as goal
@@ -21,5 +21,8 @@ returns-in-Err-clause-progress g c = λ p k start asked left w. no_memory_by sta
 pub returns-in-Ok-clause-node : goal.returns-in-Ok-clause-node
 returns-in-Ok-clause-node g c = anyway c.post.result (c.report.new.self.node ≡ c.args.self.now.node) (ap (λ (pl : Player). pl.node) c.in-Ok.ensures.rest)
 
-pub returns-in-Err-clause-faults : goal.returns-in-Err-clause-faults
-returns-in-Err-clause-faults g c = memory_counted refl c.in-Err.ensures.memory
+pub returns-in-Ok-clause-kept : goal.returns-in-Ok-clause-kept
+returns-in-Ok-clause-kept g c = record { bound = c.post.ensures.link_bound; deliveries = c.post.ensures.deliveries; faults = c.post.ensures.faults }
+
+pub returns-in-Err-clause-kept : goal.returns-in-Err-clause-kept
+returns-in-Err-clause-kept g c = memory_kept refl c.in-Err.ensures.memory

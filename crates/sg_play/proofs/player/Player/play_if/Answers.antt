@@ -1,5 +1,5 @@
 use Rattle.sg_play.proofs.Keeping.{keeps_same}
-use Rattle.sg_play.proofs.Counting.{none_counted}
+use Rattle.sg_play.proofs.Counting.{none_kept}
 use Rattle.std.proofs.Common.{refl}
 use Rattle.sg_play.proofs.player.Player.play_if.Goals as goal
 
@@ -12,5 +12,5 @@ returns-in-None-clause-progress g c = λ p start s w h. rw c.in-None.is ((s, h),
 pub returns-in-None-clause-joins : goal.returns-in-None-clause-joins
 returns-in-None-clause-joins g c = keeps_same c.args.self.now.node c.args.self.now.node refl
 
-pub returns-in-None-clause-faults : goal.returns-in-None-clause-faults
-returns-in-None-clause-faults g c = none_counted _ _
+pub returns-in-None-clause-kept : goal.returns-in-None-clause-kept
+returns-in-None-clause-kept g c = none_kept _

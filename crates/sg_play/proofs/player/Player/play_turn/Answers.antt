@@ -2,14 +2,15 @@ use Rattle.sg_play.specs.Representation.{KeepsJoins}
 use Rattle.sg_play.proofs.Results.{mapped}
 use Rattle.sg_play.proofs.Keeping.{keeps_same, keeps_then}
 use Rattle.std.proofs.Common.{rules, ◌≡◌, Err, Some, sym, ◌∙◌, refl}
+use Rattle.sg_protocol.specs.Calls.{Abandon}
 use Rattle.sg_protocol.specs.Past.{node_of}
 use Rattle.sg_protocol.specs.Turn.{turn_of}
-use Rattle.sg_play.specs.Ends.{Outside}
+use Rattle.sg_play.specs.Around.{outside_of}
 use Rattle.sg_play.specs.Played.{abandons}
 use Rattle.sg_play.specs.Turns.{acted}
 use Rattle.sg_play.proofs.Acting.{turn_failed, turn_left, turn_none, turn_sent}
 use Rattle.sg_play.proofs.Coming.{with_random}
-use Rattle.sg_play.proofs.Counting.{counted_then, none_counted, passed_on, went_on}
+use Rattle.sg_play.proofs.Counting.{kept_on, kept_passed, kept_then, none_kept}
 use Rattle.sg_play.proofs.player.Player.play_turn.Goals as goal
 
 pub returns-in_default-clause-progress : goal.returns-in_default-clause-progress
@@ -32,10 +33,12 @@ pub returns-clause-progress : goal.returns-clause-progress
 returns-clause-progress g c = λ p start s w h.
     let turn : turn_of (node_of p.past) c.args.sid ≡ Some c.in-Some.node = sym (c.turn.ensures p.past s.node) ∙ c.in-Some.is in
     let after = (acted c.args.sid c.in-Some.node p).0 in
-    let now : Outside = record { written = g.O.Sink.written c.leave.new.out; sent = g.L.Link.sent c.leave.new.link } in
+    let now = outside_of g.L.Link g.O.Sink c.give.new.link c.give.new.out in
+    let left = g.R.Fresh.random c.act.new.fresh in
     let came = c.in_ok-act.ensures.progress p start s w h in
-    turn_left start now c.leave.new.self (g.R.Fresh.random c.act.new.fresh) c.args.sid p c.in-Some.node c.leave.result turn (sym came.1 ∙ c.if-branch.false)
-    (with_random start now c.leave.new.self (g.R.Fresh.random c.act.new.fresh) (abandons c.args.sid after) c.leave.result came.0.1 (c.leave.ensures.progress after start came.0.0.0 came.0.0.1))
+    turn_left start now c.give.new.self left c.args.sid p c.in-Some.node c.give.result turn (sym came.1 ∙ c.if-branch.false)
+    (with_random start now c.give.new.self left (abandons c.args.sid after) c.give.result came.0.1
+    (c.give.ensures.progress after (Abandon c.args.sid) start (c.ask_abandon-outcome.ensures.asked after came.0.0.0) refl came.0.0.1))
 
 pub returns-in_default-clause-joins : goal.returns-in_default-clause-joins
 returns-in_default-clause-joins g c = keeps_same c.args.self.now.node c.args.self.now.node refl
@@ -44,18 +47,22 @@ pub returns-then-branch-clause-joins : goal.returns-then-branch-clause-joins
 returns-then-branch-clause-joins g c = c.in_ok-act.ensures.joins
 
 pub returns-clause-joins : goal.returns-clause-joins
-returns-clause-joins g c = mapped c.leave.result (KeepsJoins c.act.new.self.node c.leave.new.self.node) (KeepsJoins c.args.self.now.node c.leave.new.self.node)
-    (λ h. keeps_then c.args.self.now.node c.act.new.self.node c.leave.new.self.node c.in_ok-act.ensures.joins h) c.leave.ensures.joins
+returns-clause-joins g c =
+    let old = c.args.self.now.node in
+    let acted = c.act.new.self.node in
+    let left = c.ask_abandon-outcome.new.self.node in
+    let new = c.give.new.self.node in
+    mapped c.give.result (new ≡ left) (KeepsJoins old new) (λ e. keeps_then old acted new c.in_ok-act.ensures.joins (keeps_then acted left new c.ask_abandon-outcome.ensures.joins (keeps_same left new e))) c.give.ensures.node
 
-pub returns-in_default-clause-faults : goal.returns-in_default-clause-faults
-returns-in_default-clause-faults g c = none_counted _ _
+pub returns-in_default-clause-kept : goal.returns-in_default-clause-kept
+returns-in_default-clause-kept g c = none_kept _
 
-pub returns-in_err-act-clause-faults : goal.returns-in_err-act-clause-faults
-returns-in_err-act-clause-faults g c = let same : c.from_residual.result ≡ Err c.in_err-act.field-0.0 = search rules in
-    passed_on same c.in_err-act.ensures.faults
+pub returns-in_err-act-clause-kept : goal.returns-in_err-act-clause-kept
+returns-in_err-act-clause-kept g c = let same : c.from_residual.result ≡ Err c.in_err-act.field-0.0 = search rules in
+    kept_passed same c.in_err-act.ensures.kept
 
-pub returns-then-branch-clause-faults : goal.returns-then-branch-clause-faults
-returns-then-branch-clause-faults g c = went_on _ c.in_ok-act.ensures.faults
+pub returns-then-branch-clause-kept : goal.returns-then-branch-clause-kept
+returns-then-branch-clause-kept g c = kept_on _ c.in_ok-act.ensures.kept
 
-pub returns-clause-faults : goal.returns-clause-faults
-returns-clause-faults g c = counted_then c.in_ok-act.ensures.faults c.leave.ensures.faults
+pub returns-clause-kept : goal.returns-clause-kept
+returns-clause-kept g c = kept_then c.in_ok-act.ensures.kept c.give.ensures.kept

@@ -1,21 +1,19 @@
-use Rattle.std.proofs.Common.{rules, ◌≡◌, take, Err, refl, ◌∙◌}
+use Rattle.std.proofs.Common.{rules, ◌≡◌, take, Err}
 use Rattle.sg_play.specs.Ends.{Outside}
 use Rattle.sg_play.specs.Played.{Play, all_starts}
-use Rattle.sg_play.proofs.Counting.{counted_then, none_counted, passed_on}
+use Rattle.sg_play.proofs.Counting.{kept_passed, kept_then, none_kept}
 use Rattle.sg_play.proofs.Running.{start_failed, start_more, starts_done}
 use Rattle.sg_play.proofs.player.Player.start_all.Goals as goal
 
 pub loop-start-init : goal.loop-start-init
-loop-start-init g c = record { link_bound = refl; faults = none_counted _ tt; deliveries = refl; progress = λ p start s w h. ((s, h), w) }
+loop-start-init g c = record { kept = none_kept tt; progress = λ p start s w h. ((s, h), w) }
 
 pub loop-start-preserved : goal.loop-start-preserved
 loop-start-preserved g c =
     let inv = c.loop-start.invariant in
     let one = c.in_ok-start_one.ensures in
     record {
-      link_bound = one.link_bound ∙ inv.link_bound;
-      faults = counted_then inv.faults one.faults;
-      deliveries = one.deliveries ∙ inv.deliveries;
+      kept = kept_then inv.kept one.kept;
       progress = λ p start s w h.
           let now : Outside = record { written = g.O.Sink.written c.start_one.new.out; sent = g.L.Link.sent c.start_one.new.link } in
           let so_far : Play = all_starts p (take c.loop-start.start-index c.args.starts.now) in
@@ -37,6 +35,6 @@ returns-clause-progress g c = λ p start s w h.
     let now : Outside = record { written = g.O.Sink.written c.loop-start.out; sent = g.L.Link.sent c.loop-start.link } in
     starts_done start now c.loop-start.self (g.R.Fresh.random c.loop-start.fresh) p c.args.starts.now c.loop-start.start-index c.loop-start-test.false (c.loop-start.invariant.progress p start s w h)
 
-pub returns-in_err-start_one-clause-faults : goal.returns-in_err-start_one-clause-faults
-returns-in_err-start_one-clause-faults g c = let same : c.from_residual.result ≡ Err c.in_err-start_one.field-0.0 = search rules in
-    passed_on same (counted_then c.loop-start.invariant.faults c.in_err-start_one.ensures.faults)
+pub returns-in_err-start_one-clause-kept : goal.returns-in_err-start_one-clause-kept
+returns-in_err-start_one-clause-kept g c = let same : c.from_residual.result ≡ Err c.in_err-start_one.field-0.0 = search rules in
+    kept_passed same (kept_then c.loop-start.invariant.kept c.in_err-start_one.ensures.kept)
