@@ -68,7 +68,7 @@ module _ (m : Machine) (begun left : ℕ) (x : Going) (ways : List OnItsWay) (h 
   role = role_at (shape m.graph) node
 
   has_role : role < length m.graph.roles
-  has_role = role_there m.graph is_graph (let two = h.two in omega (arith, two)) node
+  has_role = role_there m.graph is_graph (let two = h.underway.two in omega (arith, two)) node
 
   abbrev values : Map Value
   values = values_drawn m.seed (x.draws + 1) m.graph (writes m.graph label)
@@ -89,10 +89,10 @@ module _ (m : Machine) (begun left : ℕ) (x : Going) (ways : List OnItsWay) (h 
   good = confounded (next_number x.replay) values (drawn_are_values m.seed (x.draws + 1) m.graph (writes m.graph label) (written_small m.graph is_graph label))
 
   abbrev past : Past
-  past = (h.run.nodes role has_role).0
+  past = (h.underway.run.nodes role has_role).0
 
   is : stepped x.replay step ≡ called real (run_of x.replay) (next_number x.replay) (player role) act past
-  is = act_is real m.graph (run_of x.replay) h.run x.replay.schedule (next_number x.replay) role has_role session label values
+  is = act_is real m.graph (run_of x.replay) h.underway.run x.replay.schedule (next_number x.replay) role has_role session label values
 
   -- the run after the act
   abbrev acted : Going
@@ -100,17 +100,17 @@ module _ (m : Machine) (begun left : ℕ) (x : Going) (ways : List OnItsWay) (h 
 
   after : HasLeft left begun (at m acted) ways
   after = spend_step left begun (at m x) ways h (omega (arith, enough)) step acted refl refl (let w = written_few m.graph is_graph label in omega (arith, w)) refl
-      (own_next m.graph few x.replay h.run role has_role step act good is) (ways_next m.graph few x.replay h.run role has_role step act good is is_graph ways h.each)
+      (own_next m.graph few x.replay h.underway.run role has_role step act good is) (ways_next m.graph few x.replay h.underway.run role has_role step act good is is_graph ways h.frames.each)
 
   -- the outcome
   sent : (a : Answer) → answer real (node_of past) act ≡ a → HasBudget left begun (at m (with_frame session label (number_sent (Some (reported_answer (frame_number (run_of x.replay).log) a))) acted))
   sent (Sends e to f) q =
-      let s : IsOwnSent real real_hash m.graph few role (omega (arith, has_role, few)) (node_of past) (h.run.nodes role has_role).2 sid label f = own_sent real real_hash m.graph few role (omega (arith, has_role, few)) (node_of past) (h.run.nodes role has_role).2 sid label values confounders good e to f q in
+      let s : IsOwnSent real real_hash m.graph few role (omega (arith, has_role, few)) (node_of past) (h.underway.run.nodes role has_role).2 sid label f = own_sent real real_hash m.graph few role (omega (arith, has_role, few)) (node_of past) (h.underway.run.nodes role has_role).2 sid label values confounders good e to f q in
       let o : OnItsWay = record { pending = record { frame = frame_number (run_of x.replay).log; session = session; label = label; count = 0 }; time = last_time f.items; taken = false } in
       let on : IsOnItsWay m.graph acted.replay o = record {
         bytes = spelling f;
         frame = f;
-        recorded = next_recorded real real_hash m.graph few (run_of x.replay) (run_of acted.replay) h.run (next_number x.replay) role has_role act good (run_is m.graph few x.replay h.run role has_role step act good is) e to f q;
+        recorded = next_recorded real real_hash m.graph few (run_of x.replay) (run_of acted.replay) h.underway.run (next_number x.replay) role has_role act good (run_is m.graph few x.replay h.underway.run role has_role step act good is) e to f q;
         reads = s.reads;
         time = refl;
         goes_to = s.receiver_is;
@@ -118,9 +118,9 @@ module _ (m : Machine) (begun left : ℕ) (x : Going) (ways : List OnItsWay) (h 
         taken = λ z. absurd (cc z);
       } in
       let late : last_time f.items ≡ time s.x + 1 = s.later in
-      let before : t ≤ time s.x = reported past (h.run.nodes role has_role).1 s.x s.found in
+      let before : t ≤ time s.x = reported past (h.underway.run.nodes role has_role).1 s.x s.found in
       budget_of left left begun (at m (adding (o.pending ∷ []) acted)) (ways ++ o ∷ []) (omega arith) (add left begun (at m acted) ways after o on (record { label = there_label; session = there; count = omega arith }) (omega (arith, enough, late, before)))
   sent other q = budget_of left left begun (at m acted) ways (omega arith) after
 
   pub along_keeps : HasBudget left begun (at m (play_along m.seed m.graph session node label (drawing 1 x)))
-  along_keeps = subst (λ z. HasBudget left begun (at m (with_frame session label (number_sent z) acted))) (sym (reported_next m.graph few x.replay h.run role has_role step act good is)) (sent (answer real (node_of past) act) refl)
+  along_keeps = subst (λ z. HasBudget left begun (at m (with_frame session label (number_sent z) acted))) (sym (reported_next m.graph few x.replay h.underway.run role has_role step act good is)) (sent (answer real (node_of past) act) refl)

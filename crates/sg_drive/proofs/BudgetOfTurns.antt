@@ -54,12 +54,12 @@ module _ (m : Machine) (begun : ℕ) where
       let graph : IsGraph m.graph = graph_is (suc left) begun (at m x) ways h in
       let few : length m.graph.roles ≤ 16 = few_roles (suc left) begun (at m x) ways h in
       let role : ℕ = role_at (shape m.graph) node in
-      let has : role < length m.graph.roles = role_there m.graph graph (let two = h.two in omega (arith, two)) node in
+      let has : role < length m.graph.roles = role_there m.graph graph (let two = h.underway.two in omega (arith, two)) node in
       let st : Step = AbandonStep (player role) session in
       let c : Call = Abandon (sid_at real x.replay.schedule session) in
-      let is = abandon_is real m.graph (run_of x.replay) h.run x.replay.schedule (next_number x.replay) role has session in
+      let is = abandon_is real m.graph (run_of x.replay) h.underway.run x.replay.schedule (next_number x.replay) role has session in
       budget_of left left begun (at m (taking st x)) ways (omega arith)
-      (spend_step left begun (at m x) ways h enough st (taking st x) refl refl (omega arith) refl (own_next m.graph few x.replay h.run role has st c tt is) (ways_next m.graph few x.replay h.run role has st c tt is graph ways h.each))
+      (spend_step left begun (at m x) ways h enough st (taking st x) refl refl (omega arith) refl (own_next m.graph few x.replay h.underway.run role has st c tt is) (ways_next m.graph few x.replay h.underway.run role has st c tt is graph ways h.frames.each))
 
   -- a session goes on if a frame of this time was accepted
   on_keeps : (left : ℕ) (x : Going) (ways : List OnItsWay) → HasLeft left begun (at m x) ways → (session node t : ℕ) → session < m.sessions → sum_by steps_of ways + steps_after t ≤ left
@@ -97,36 +97,36 @@ module _ (m : Machine) (begun left : ℕ) (x : Going) (ways : List OnItsWay) (h 
   role = role_at (shape m.graph) node
 
   has_role : role < length m.graph.roles
-  has_role = role_there m.graph is_graph (let two = h.two in omega (arith, two)) node
+  has_role = role_there m.graph is_graph (let two = h.underway.two in omega (arith, two)) node
 
   abbrev step : Step
   step = DeliverStep (player role) (Whole o.pending.frame)
 
   abbrev past : Past
-  past = (h.run.nodes role has_role).0
+  past = (h.underway.run.nodes role has_role).0
 
   is : stepped x.replay step ≡ called real (run_of x.replay) (next_number x.replay) (player role) (Deliver on.bytes) past
-  is = deliver_is real m.graph (run_of x.replay) h.run x.replay.schedule (next_number x.replay) role has_role o.pending.frame on.bytes on.recorded
+  is = deliver_is real m.graph (run_of x.replay) h.underway.run x.replay.schedule (next_number x.replay) role has_role o.pending.frame on.bytes on.recorded
 
   own_bytes : IsOwnFrame m.graph on.bytes
-  own_bytes = own_frame real m.graph (run_of x.replay) h.run o.pending.frame on.bytes on.recorded
+  own_bytes = own_frame real m.graph (run_of x.replay) h.underway.run o.pending.frame on.bytes on.recorded
 
   -- the run after the delivery
   abbrev given : Going
   given = taking step (drawing 2 x)
 
   after : HasLeft left begun (at m given) ways
-  after = spend_step left begun (at m x) ways h covered step given refl refl (omega arith) refl (own_next m.graph few x.replay h.run role has_role step (Deliver on.bytes) own_bytes is)
-      (ways_next m.graph few x.replay h.run role has_role step (Deliver on.bytes) own_bytes is is_graph ways h.each)
+  after = spend_step left begun (at m x) ways h covered step given refl refl (omega arith) refl (own_next m.graph few x.replay h.underway.run role has_role step (Deliver on.bytes) own_bytes is)
+      (ways_next m.graph few x.replay h.underway.run role has_role step (Deliver on.bytes) own_bytes is is_graph ways h.frames.each)
 
   -- if it was accepted, it was not before, and the sessions for which it was are past it
   spent_now : answer real (node_of past) (Deliver on.bytes) ≡ Happened (receipt on.frame) → IsSpentBy (run_of given.replay) role on.frame
-  spent_now a = next_accepted real real_hash m.graph few (run_of x.replay) (run_of given.replay) h.run (next_number x.replay) role has_role (Deliver on.bytes) own_bytes (run_is m.graph few x.replay h.run role has_role step (Deliver on.bytes) own_bytes is)
+  spent_now a = next_accepted real real_hash m.graph few (run_of x.replay) (run_of given.replay) h.underway.run (next_number x.replay) role has_role (Deliver on.bytes) own_bytes (run_is m.graph few x.replay h.underway.run role has_role step (Deliver on.bytes) own_bytes is)
       on.bytes on.frame (receipt on.frame) refl on.reads a
 
   were_reported : IsSpentBy (run_of given.replay) role on.frame → WereReported m.graph given.replay o.pending.session node (last_time on.frame.items)
   were_reported spent p q s found =
-      let mine = after.run.nodes role has_role in
+      let mine = after.underway.run.nodes role has_role in
       let both : Some mine.0 ≡ Some p = sym mine.1 ∙ q in
       let same : mine.0 ≡ p = cc in
       let own : IsOwnNode real m.graph role (node_of p) = subst (λ (z : Past). IsOwnNode real m.graph role (node_of z)) same mine.2 in
@@ -136,11 +136,11 @@ module _ (m : Machine) (begun left : ℕ) (x : Going) (ways : List OnItsWay) (h 
       past_it (same_bytes s.sid sid (find_passes (λ (z : Session). bytes_eq z.sid sid) (node_of p).live s found) ∙ sym on.sid) (of_role.0 ∙ sym on.goes_to)
 
   accepted : answer real (node_of past) (Deliver on.bytes) ≡ Happened (receipt on.frame) → (b : Bool) → o.taken ≡ b → HasBudget left begun (at m (goes_on m.seed m.graph o.pending (Some (last_time on.frame.items)) given))
-  accepted a true t = absurd (not_again real real_hash m.graph few (run_of x.replay) (run_of given.replay) h.run (next_number x.replay) role has_role (Deliver on.bytes) own_bytes (run_is m.graph few x.replay h.run role has_role step (Deliver on.bytes) own_bytes is)
+  accepted a true t = absurd (not_again real real_hash m.graph few (run_of x.replay) (run_of given.replay) h.underway.run (next_number x.replay) role has_role (Deliver on.bytes) own_bytes (run_is m.graph few x.replay h.underway.run role has_role step (Deliver on.bytes) own_bytes is)
       on.bytes on.frame (receipt on.frame) refl on.reads a (on.taken t))
   accepted a false t =
       let spent = spent_now a in
-      let anew = gain given (way_spent m.graph few x.replay h.run role has_role step (Deliver on.bytes) own_bytes is o on spent) t after in
+      let anew = gain given (way_spent m.graph few x.replay h.underway.run role has_role step (Deliver on.bytes) own_bytes is o on spent) t after in
       let same : last_time on.frame.items ≡ o.time = on.time in
       let more = anew.2 in
       on_keeps m begun left given anew.0 anew.1 o.pending.session node (last_time on.frame.items) there.session (subst (λ z. sum_by steps_of anew.0 + steps_after z ≤ left) (sym same) more) (were_reported spent)
@@ -153,7 +153,7 @@ module _ (m : Machine) (begun left : ℕ) (x : Going) (ways : List OnItsWay) (h 
   came other q = budget_of left left begun (at m given) ways (omega arith) after
 
   pub deliver_keeps : HasBudget left begun (at m (deliver m.seed m.graph o.pending (drawing 2 x)))
-  deliver_keeps = subst (λ z. HasBudget left begun (at m (goes_on m.seed m.graph o.pending (accepted_time z) given))) (sym (reported_next m.graph few x.replay h.run role has_role step (Deliver on.bytes) own_bytes is)) (came (answer real (node_of past) (Deliver on.bytes)) refl)
+  deliver_keeps = subst (λ z. HasBudget left begun (at m (goes_on m.seed m.graph o.pending (accepted_time z) given))) (sym (reported_next m.graph few x.replay h.underway.run role has_role step (Deliver on.bytes) own_bytes is)) (came (answer real (node_of past) (Deliver on.bytes)) refl)
 
 -- ---- a turn
 
@@ -196,7 +196,7 @@ module _ (m : Machine) (begun left : ℕ) (x : Going) (rest : List OnItsWay) (h 
       let last = sum_end rest gone in
       let u = steps_untaken o not in
       let enough : sum_by steps_of (rest ++ gone ∷ []) + steps_after o.time ≤ left = omega (arith, whole, rises, last, u) in
-      let each : AllByRecursion (IsOnItsWay m.graph y.replay) (rest ++ gone ∷ []) = all-append (IsOnItsWay m.graph y.replay) rest (gone ∷ []) (all-parts (IsOnItsWay m.graph y.replay) rest (raised o ∷ []) k.each).0
+      let each : AllByRecursion (IsOnItsWay m.graph y.replay) (rest ++ gone ∷ []) = all-append (IsOnItsWay m.graph y.replay) rest (gone ∷ []) (all-parts (IsOnItsWay m.graph y.replay) rest (raised o ∷ []) k.frames.each).0
       (record { bytes = now.bytes; frame = now.frame; recorded = now.recorded; reads = now.reads; time = now.time; goes_to = now.goes_to; sid = now.sid; taken = now.taken }, tt) in (
         rest ++ gone ∷ [],
         reported_anew left begun (at m y) (rest ++ raised o ∷ []) k (rest ++ gone ∷ []) (map-append (λ (o : OnItsWay). o.pending) rest (gone ∷ []) ∙ sym (map-append (λ (o : OnItsWay). o.pending) rest (raised o ∷ []))) each (omega (arith, enough)),
@@ -252,13 +252,13 @@ module _ (m : Machine) where
       let graph : IsGraph m.graph = graph_is left begun (at m x) b.ways h in
       let few : length m.graph.roles ≤ 16 = few_roles left begun (at m x) b.ways h in
       let role : ℕ = role_at (shape m.graph) 0 in
-      let has : role < length m.graph.roles = role_there m.graph graph (let two = h.two in omega (arith, two)) 0 in
-      let cast = own_cast x.replay.schedule m.sessions session m.graph h.declared h.two few there in
+      let has : role < length m.graph.roles = role_there m.graph graph (let two = h.underway.two in omega (arith, two)) 0 in
+      let cast = own_cast x.replay.schedule m.sessions session m.graph h.underway.declared h.underway.two few there in
       let st : Step = StartStep (player role) session in
       let call : Call = Start cast.0 in
-      let is = start_is real m.graph (run_of x.replay) h.run x.replay.schedule (next_number x.replay) role has session cast.0 cast.1 in
-      let own = own_next m.graph few x.replay h.run role has st call (cast.2, cast.3) is in
-      let each = ways_next m.graph few x.replay h.run role has st call (cast.2, cast.3) is graph b.ways h.each in
+      let is = start_is real m.graph (run_of x.replay) h.underway.run x.replay.schedule (next_number x.replay) role has session cast.0 cast.1 in
+      let own = own_next m.graph few x.replay h.underway.run role has st call (cast.2, cast.3) is in
+      let each = ways_next m.graph few x.replay h.underway.run role has st call (cast.2, cast.3) is graph b.ways h.frames.each in
       let started : HasLeft (suc (left + 80)) (begun + 1) (at m (taking st x)) b.ways = spend_step (suc (left + 80)) (begun + 1) (at m x) b.ways opened (omega (arith, c)) st (taking st x) refl refl (omega arith) refl own each in
       more_budget (left + 80) (most + 80) (begun + 1) (at m (begin m.seed m.graph session x)) (let w = b.within in omega (arith, w))
       (play_keeps m (begun + 1) (left + 80) (taking st x) b.ways started session 0 0 there (omega (arith, c)) (λ p q s found. omega arith))

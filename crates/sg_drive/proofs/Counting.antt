@@ -8,6 +8,7 @@ use Rattle.indexmap.specs.IndexSet.{insert_key}
 use Rattle.sg_text.proofs.Firsts.{firsts-again, firsts-new, has_text-firsts}
 use Rattle.sg_text.proofs.SameSid.{same, same-bytes_eq}
 use Rattle.sg_text.specs.Sessions.{firsts}
+use Rattle.sg_model.proofs.Small.{length_filter}
 use Rattle.sg_model.specs.Lists.{has_text}
 use Rattle.sg_model.specs.Limits.{most_steps}
 use Rattle.sg_protocol.specs.Graph.{Graph}
@@ -25,14 +26,6 @@ count_more which ts t =
     by : (b : Bool) → length (filter which ts) + length (cond b (t ∷ []) []) ≡ (if b then count which ts + 1 else count which ts)
     by true = refl
     by false = omega arith
-
-pub count_few : (which : Reported → Bool) (ts : List Reported) → count which ts ≤ length ts
-count_few which [] = omega arith
-count_few which (t ∷ ts) = by (which t) (count_few which ts)
-  where
-    by : (b : Bool) → length (filter which ts) ≤ length ts → length (cond b (t ∷ filter which ts) (filter which ts)) ≤ length (t ∷ ts)
-    by true h = omega (arith, h)
-    by false h = omega (arith, h)
 
 -- ---- sessions
 
@@ -61,10 +54,10 @@ counts_more g ts t = λ i. record {
 -- if few are reported, each count can rise
 pub can_rise : (g : Graph) (ts : List Reported) (c : Counts) → c ≡ counts g ts → length ts < most_steps → CanRise c
 can_rise g ts c e l = subst CanRise (sym e) (record {
-  sent = (let f = count_few is_sent ts in omega (arith, f, l));
-  received = (let f = count_few is_received ts in omega (arith, f, l));
-  refused = (let f = count_few is_refused ts in omega (arith, f, l));
-  abandoned = (let f = count_few is_abandoned ts in omega (arith, f, l));
+  sent = (let f = length_filter is_sent ts in omega (arith, f, l));
+  received = (let f = length_filter is_received ts in omega (arith, f, l));
+  refused = (let f = length_filter is_refused ts in omega (arith, f, l));
+  abandoned = (let f = length_filter is_abandoned ts in omega (arith, f, l));
 })
 
 -- ---- lists

@@ -1,7 +1,8 @@
 -- The variables that a label writes, one after another, and their values.
-use Rattle.std.proofs.Common.{◌≡◌, ℕ, ◌+◌, ◌<◌, ◌≤◌, Bool, true, false, List, [], ◌∷◌, ◌++◌, filter, cond, length, sym, ap, ◌∙◌, arith, add-one, length-append}
+use Rattle.std.proofs.Common.{◌≡◌, ℕ, ◌+◌, ◌<◌, ◌≤◌, List, [], ◌∷◌, ◌++◌, filter, length, sym, ap, ◌∙◌, arith, add-one, length-append}
 use Rattle.std.proofs.lemmas.List.Elements.{filter-append}
 use Rattle.sg_model.proofs.Numbers.{length-range_from, range_from-suc}
+use Rattle.sg_model.proofs.Small.{length_filter}
 use Rattle.sg_model.specs.Last.{Map}
 use Rattle.sg_model.specs.Lists.{below, is_in, range_from}
 use Rattle.sg_model.specs.Values.{Value}
@@ -21,16 +22,8 @@ below_more ws n =
     ap (λ k. filter (λ x. is_in x ws) (range_from 0 k)) (add-one n) ∙ ap (filter (λ x. is_in x ws)) (range_from-suc 0 n)
     ∙ filter-append (λ x. is_in x ws) (below n) ((0 + n) ∷ []) ∙ ap (λ k. written_below ws n ++ if_in k ws) (let z : 0 + n ≡ n = omega arith in z)
 
-filter_few : (p : ℕ → Bool) (xs : List ℕ) → length (filter p xs) ≤ length xs
-filter_few p [] = omega arith
-filter_few p (x ∷ xs) = by (p x) (filter_few p xs)
-  where
-    by : (b : Bool) → length (filter p xs) ≤ length xs → length (cond b (x ∷ filter p xs) (filter p xs)) ≤ length (x ∷ xs)
-    by true h = omega (arith, h)
-    by false h = omega (arith, h)
-
 pub few_below : (ws : List ℕ) (n : ℕ) → length (written_below ws n) ≤ n
-few_below ws n = let few = filter_few (λ x. is_in x ws) (below n) in let many = length-range_from 0 n in omega (arith, few, many)
+few_below ws n = let few = length_filter (λ x. is_in x ws) (below n) in let many = length-range_from 0 n in omega (arith, few, many)
 
 values_both : (seed i : ℕ) (g : Graph) (xs ys : List ℕ) → values_drawn seed i g (xs ++ ys) ≡ values_drawn seed i g xs ++ values_drawn seed (i + length xs) g ys
 values_both seed i g [] ys = ap (λ k. values_drawn seed k g ys) (let z : i ≡ i + 0 = omega arith in z)

@@ -210,19 +210,17 @@ budget_before seed sessions g programs compiled two few = record {
   ways = [];
   within = omega arith;
   has = record {
-    compiled = compiled;
-    two = two;
-    few = few;
-    declared = refl;
+    underway = record {
+      compiled = compiled;
+      two = two;
+      few = few;
+      declared = refl;
+      run = new_own g programs (beginning sessions g programs).replay.schedule compiled (few_roles_of g programs compiled two) refl;
+    };
+    frames = record { pending = refl; each = tt; there = tt };
     so_many = omega arith;
-    run = new_own g programs (beginning sessions g programs).replay.schedule compiled (few_roles_of g programs compiled two) refl;
-    pending = refl;
-    each = tt;
-    there = tt;
     covers = omega arith;
-    steps = omega arith;
-    draws = omega arith;
-    lost = omega arith;
+    leaves = record { steps = omega arith; draws = omega arith; lost = omega arith };
   };
 }
 

@@ -1,5 +1,5 @@
 -- One step more of a replay, as a call of a principal: what is reported of it, and what of the frames that are on their way.
-use Rattle.std.proofs.Common.{◌≡◌, ℕ, zero, suc, ◌<◌, ◌≤◌, true, List, [], ◌∷◌, ◌++◌, length, map, get_or, Some, sym, ap, ◌∙◌, append_assoc, append-nil, arith}
+use Rattle.std.proofs.Common.{◌≡◌, ℕ, zero, suc, ◌<◌, ◌≤◌, Bool, true, List, [], ◌∷◌, ◌++◌, length, map, get_or, Some, sym, ap, ◌∙◌, append_assoc, append-nil, arith}
 use Rattle.std.specs.List.{AllByRecursion}
 use Rattle.std.proofs.lemmas.List.Elements.{recursion_from_All}
 use Rattle.sg_law.proofs.Lists.{last-append}
@@ -58,8 +58,9 @@ module _ (g : Graph) (few : length g.roles ≤ 16) (r : Replay) (own : IsOwnRun 
   pub reported_next : last (reported_log (run_of (with_taken r st)).log) ≡ Some (reported_answer (frame_number (run_of r).log) (answer real (node_of (own.nodes role there).0) c))
   reported_next = ap (λ (w : World). last (reported_log w.log)) run_is ∙ reported_last (run_of r).log _
 
-  pub way_next : (o : OnItsWay) → receiver (shape g) o.pending.label < length g.roles → IsOnItsWay g r o → IsOnItsWay g (with_taken r st) o
-  way_next o h w = record {
+  -- a frame is still on its way, and if it is said to be taken its receiver takes it no more
+  way_on : (o : OnItsWay) (taken : Bool) (w : IsOnItsWay g r o) → (taken ≡ true → IsSpentBy (run_of (with_taken r st)) (receiver (shape g) o.pending.label) w.frame) → IsOnItsWay g (with_taken r st) (record o { taken = taken })
+  way_on o taken w spent = record {
     bytes = w.bytes;
     frame = w.frame;
     recorded = next_frame real real_hash g few (run_of r) (run_of (with_taken r st)) own (next_number r) role there c good run_is o.pending.frame w.bytes w.recorded;
@@ -67,21 +68,15 @@ module _ (g : Graph) (few : length g.roles ≤ 16) (r : Replay) (own : IsOwnRun 
     time = w.time;
     goes_to = w.goes_to;
     sid = w.sid;
-    taken = λ t. next_spent real real_hash g few (run_of r) (run_of (with_taken r st)) own (next_number r) role there c good run_is (receiver (shape g) o.pending.label) h w.frame (w.taken t);
+    taken = spent;
   }
+
+  pub way_next : (o : OnItsWay) → receiver (shape g) o.pending.label < length g.roles → IsOnItsWay g r o → IsOnItsWay g (with_taken r st) o
+  way_next o h w = way_on o o.taken w (λ t. next_spent real real_hash g few (run_of r) (run_of (with_taken r st)) own (next_number r) role there c good run_is (receiver (shape g) o.pending.label) h w.frame (w.taken t))
 
   -- and if its receiver takes it no more, it is taken
   pub way_spent : (o : OnItsWay) (w : IsOnItsWay g r o) → IsSpentBy (run_of (with_taken r st)) (receiver (shape g) o.pending.label) w.frame → IsOnItsWay g (with_taken r st) (record o { taken = true })
-  way_spent o w spent = record {
-    bytes = w.bytes;
-    frame = w.frame;
-    recorded = next_frame real real_hash g few (run_of r) (run_of (with_taken r st)) own (next_number r) role there c good run_is o.pending.frame w.bytes w.recorded;
-    reads = w.reads;
-    time = w.time;
-    goes_to = w.goes_to;
-    sid = w.sid;
-    taken = λ t. spent;
-  }
+  way_spent o w spent = way_on o true w (λ t. spent)
 
   pub ways_next : IsGraph g → (ways : List OnItsWay) → AllByRecursion (IsOnItsWay g r) ways → AllByRecursion (IsOnItsWay g (with_taken r st)) ways
   ways_next graph [] a = tt

@@ -88,9 +88,9 @@ module _ (seed sessions : ℕ) (g : Graph) (programs : List Program) where
   grouped_done n m h all d e room =
       let left = h.budget.has in
       let many : m.sessions ≡ sessions = ap (λ (z : Machine). z.sessions) h.is in
-      let steps = left.steps in
+      let steps = left.leaves.steps in
       let short : length m.going.replay.schedule.steps ≤ 82 * sessions = omega (arith, steps, many) in
-      let declared : without_steps m.going.replay.schedule ≡ setup sessions g = left.declared ∙ ap (λ (z : Machine). setup z.sessions z.graph) h.is in
+      let declared : without_steps m.going.replay.schedule ≡ setup sessions g = left.underway.declared ∙ ap (λ (z : Machine). setup z.sessions z.graph) h.is in
       record {
         going = m.going;
         generated = record { groups = n; all = all; are = h.groups };
@@ -120,6 +120,6 @@ pub generated_are_short : GeneratedAreShort
 generated_are_short seed sessions g programs x compiled two few h =
     let e = an_end seed sessions g programs compiled two few in
     let same : e.0 ≡ x = generated_is_one seed sessions g programs e.0 x e.1 h in
-    let steps = e.2.has.steps in
+    let steps = e.2.has.leaves.steps in
     let short : length e.0.replay.schedule.steps ≤ 82 * sessions = omega (arith, steps) in
     subst (λ (z : Going). length z.replay.schedule.steps ≤ 82 * sessions) same short

@@ -46,22 +46,33 @@ pub record IsOnItsWay (g : Graph) (r : Replay) (o : OnItsWay) : Type 0 where
 
 -- ---- what is left
 
--- The pending frames are as above and bring at most `left` steps, if `begun` sessions have begun.
--- What was taken, drawn and lost leaves so much that there are at most 82 steps for each session
+-- the graph is compiled, this many sessions of it are declared, and the run so far is one of honest principals
+pub record IsUnderway (g : Graph) (sessions : ℕ) (r : Replay) : Type 0 where
+  pub compiled : AreCompiled real (g ∷ []) r.programs
+  pub two : 2 ≤ length g.roles
+  pub few : sessions ≤ most_driven
+  pub declared : without_steps r.schedule ≡ setup sessions g
+  pub run : IsOwnRun real g (run_of r)
+
+-- the frames that are pending are on their way
+pub record AreOnTheirWay (g : Graph) (sessions : ℕ) (r : Replay) (frames : List Pending) (ways : List OnItsWay) : Type 0 where
+  pub pending : map (λ o. o.pending) ways ≡ frames
+  pub each : AllByRecursion (IsOnItsWay g r) ways
+  pub there : AllByRecursion (IsThere g sessions) frames
+
+-- what was taken, drawn and lost leaves so many steps of the 82 for each session, of which each may draw 40 numbers and lose a frame
+pub record Leaves (rest sessions taken drawn missed : ℕ) : Type 0 where
+  pub steps : taken + rest ≤ 82 * sessions
+  pub draws : drawn + 40 * rest ≤ 3280 * sessions
+  pub lost : missed + rest ≤ 82 * sessions
+
+-- the pending frames bring at most `left` steps, if `begun` sessions have begun, and so many are left beside those of the sessions to come
 pub record HasLeft (left begun : ℕ) (m : Machine) (ways : List OnItsWay) : Type 0 where
-  pub compiled : AreCompiled real (m.graph ∷ []) m.going.replay.programs
-  pub two : 2 ≤ length m.graph.roles
-  pub few : m.sessions ≤ most_driven
-  pub declared : without_steps m.going.replay.schedule ≡ setup m.sessions m.graph
+  pub underway : IsUnderway m.graph m.sessions m.going.replay
+  pub frames : AreOnTheirWay m.graph m.sessions m.going.replay m.going.pending ways
   pub so_many : begun ≤ m.sessions
-  pub run : IsOwnRun real m.graph (run_of m.going.replay)
-  pub pending : map (λ o. o.pending) ways ≡ m.going.pending
-  pub each : AllByRecursion (IsOnItsWay m.graph m.going.replay) ways
-  pub there : AllByRecursion (IsThere m.graph m.sessions) m.going.pending
   pub covers : sum_by steps_of ways ≤ left
-  pub steps : length m.going.replay.schedule.steps + (left + 82 * (m.sessions - begun)) ≤ 82 * m.sessions
-  pub draws : m.going.draws + 40 * (left + 82 * (m.sessions - begun)) ≤ 3280 * m.sessions
-  pub lost : m.going.lost + (left + 82 * (m.sessions - begun)) ≤ 82 * m.sessions
+  pub leaves : Leaves (left + 82 * (m.sessions - begun)) m.sessions (length m.going.replay.schedule.steps) m.going.draws m.going.lost
 
 -- at most `most` steps are left for the frames that are pending
 pub record HasBudget (most begun : ℕ) (m : Machine) : Type 0 where

@@ -19,22 +19,17 @@ loop-number-preserved c =
     both_more _ c.loop-number.number c.args.self.now c.loop-number.self c.draw_value.new.self (values_of c.loop-number.values) (values_of c.draw_value.new.values) c.loop-number.invariant.0 c.loop-number.invariant.1
     c.in_ok-draw_value.ensures.going c.in_ok-draw_value.ensures.values
 
-pub returns-clause-values : goal.returns-clause-values
-returns-clause-values c =
+pub returns : goal.returns
+returns c =
     let graph : c.self.inside.graph.now ≡ c.args.self.now.graph = ap (λ (m : Machine). m.graph) c.self.view_is in
     let many = c.vars-number-end.ensures.count in
     let last = c.loop-number-test.false in
     let end = c.loop-number.auto.number-end in
-    c.loop-number.invariant.1
-    ∙ ap (λ (xs : List ℕ). values_drawn c.args.self.now.seed c.args.self.now.going.draws c.args.self.now.graph xs)
-    (all_written c.self.inside.graph.now c.args.label _ c.loop-number.number (ap (λ (e : Edge). e.writes) c.edge.ensures.edge) c.edge.ensures.sets.0 (omega (arith, many, last, end)) ∙ ap (λ (g : Graph). writes g c.args.label) graph)
-
-pub returns-clause-going : goal.returns-clause-going
-returns-clause-going c =
-    let graph : c.self.inside.graph.now ≡ c.args.self.now.graph = ap (λ (m : Machine). m.graph) c.self.view_is in
-    let many = c.vars-number-end.ensures.count in
-    let last = c.loop-number-test.false in
-    let end = c.loop-number.auto.number-end in
-    c.loop-number.invariant.0
-    ∙ ap (λ (xs : List ℕ). let y : Machine = record (c.args.self.now) { going = drawing (length xs) c.args.self.now.going } in y)
-    (all_written c.self.inside.graph.now c.args.label _ c.loop-number.number (ap (λ (e : Edge). e.writes) c.edge.ensures.edge) c.edge.ensures.sets.0 (omega (arith, many, last, end)) ∙ ap (λ (g : Graph). writes g c.args.label) graph)
+    let written =
+    all_written c.self.inside.graph.now c.args.label _ c.loop-number.number (ap (λ (e : Edge). e.writes) c.edge.ensures.edge) c.edge.ensures.sets.0 (omega (arith, many, last, end))
+    ∙ ap (λ (g : Graph). writes g c.args.label) graph in
+    record {
+      values = c.loop-number.invariant.1 ∙ ap (values_drawn c.args.self.now.seed c.args.self.now.going.draws c.args.self.now.graph) written;
+      going = c.loop-number.invariant.0
+          ∙ ap (λ (xs : List ℕ). let y : Machine = record (c.args.self.now) { going = drawing (length xs) c.args.self.now.going } in y) written;
+    }

@@ -17,7 +17,7 @@ pub turn-requires-clause-some : goal.turn-requires-clause-some
 turn-requires-clause-some c = some_of c.loop-turn.self c.is_over.result c.is_over.ensures c.if-is_over.false
 
 pub turn-requires-clause-there : goal.turn-requires-clause-there
-turn-requires-clause-there c = All-from_recursion (IsThere c.loop-turn.self.graph c.loop-turn.self.sessions) c.loop-turn.self.going.pending c.loop-turn.invariant.2.has.there
+turn-requires-clause-there c = All-from_recursion (IsThere c.loop-turn.self.graph c.loop-turn.self.sessions) c.loop-turn.self.going.pending c.loop-turn.invariant.2.has.frames.there
 
 pub loop-turn-preserved : goal.loop-turn-preserved
 loop-turn-preserved c =
