@@ -4,7 +4,7 @@ use Rattle.std.specs.Prelude.{All}
 use Rattle.std.proofs.lemmas.List.{map-append}
 use Rattle.sg_claims.specs.declared.claim.NamedClaim.{NamedClaim}
 use Rattle.sg_claims_text.specs.Grammar.{AreLabels, IsClaim, claim_names, claim_tokens, most_claims, claim_kind_tokens, since_tokens, SpellsClaims}
-use Rattle.sg_claims_text.specs.Reading.{in_text, is_label, read, read_bars, read_claim, read_claims, read_name, read_named, read_needs, read_kind, read_since, some_labels}
+use Rattle.sg_claims_text.specs.Reading.{in_text, is_label, read, read_bars, read_claim, read_claims, read_name, read_named, read_needs, read_kind, read_rest, read_since, since_word, claim_of, some_labels}
 use Rattle.sg_claims_text.specs.declared.fault.ClaimsFault.{ClaimsFault}
 use Rattle.sg_claims_text.specs.declared.fault.ClaimsFault.TheVariants.{OtherGraph}
 use Rattle.sg_claims_text.proofs.GivesLabels.{gives-labels, gives-since}
@@ -41,23 +41,18 @@ since-ahead names first [] us h = refl
 since-ahead names first (x ∷ xs) us h = h
 
 module _ (names : List Name) (are : AreNames names) where
-  gives-needs : (later earlier since : List ℕ) (us : List Token) → AreLabels names earlier → (since ≡ []) ⊎ AreLabels names since
-      → Gives (read_needs names later) (named names earlier ++ since_tokens names (codes "since") since) (Semicolon ∷ us) (record { kind = Needs; later = later; earlier = earlier; since = since })
-  gives-needs later earlier since us e s =
-      let f : List ℕ → Claim = λ since. record { kind = Needs; later = later; earlier = earlier; since = since } in
-      gives-after (some_labels names) _ (named names earlier) (since_tokens names (codes "since") since) (Semicolon ∷ us) earlier (f since)
-      (gives-labels names are earlier (since_tokens names (codes "since") since ++ Semicolon ∷ us) e (since-ahead names (codes "since") since us refl))
-      (gives-then (read_since (codes "since") names) f (since_tokens names (codes "since") since) (Semicolon ∷ us) since
-      (gives-since names are (codes "since") since (Semicolon ∷ us) s refl refl))
-
-  gives-bars : (later earlier since : List ℕ) (us : List Token) → AreLabels names later → (since ≡ []) ⊎ AreLabels names since
-      → Gives (read_bars names earlier) (named names later ++ since_tokens names (codes "until") since) (Semicolon ∷ us) (record { kind = Bars; later = later; earlier = earlier; since = since })
-  gives-bars later earlier since us e s =
-      let f : List ℕ → Claim = λ since. record { kind = Bars; later = later; earlier = earlier; since = since } in
-      gives-after (some_labels names) _ (named names later) (since_tokens names (codes "until") since) (Semicolon ∷ us) later (f since)
-      (gives-labels names are later (since_tokens names (codes "until") since ++ Semicolon ∷ us) e (since-ahead names (codes "until") since us refl))
-      (gives-then (read_since (codes "until") names) f (since_tokens names (codes "until") since) (Semicolon ∷ us) since
-      (gives-since names are (codes "until") since (Semicolon ∷ us) s refl refl))
+  gives-rest : (kind : ClaimKind) (first second since : List ℕ) (us : List Token) → AreLabels names second → (since ≡ []) ⊎ AreLabels names since
+      → Gives (read_rest kind names first) (named names second ++ since_tokens names (since_word kind) since) (Semicolon ∷ us) (claim_of kind first second since)
+  gives-rest kind first second since us e s =
+      let word : Name = since_word kind in
+      gives-after (some_labels names) _ (named names second) (since_tokens names word since) (Semicolon ∷ us) second (claim_of kind first second since)
+      (gives-labels names are second (since_tokens names word since ++ Semicolon ∷ us) e (since-ahead names word since us (between kind)))
+      (gives-then (read_since word names) (claim_of kind first second) (since_tokens names word since) (Semicolon ∷ us) since
+      (gives-since names are word since (Semicolon ∷ us) s refl refl))
+    where
+      between : (kind : ClaimKind) → is_label (Word (since_word kind)) ≡ false
+      between Needs = refl
+      between Bars = refl
 
   -- what a claim says
   gives-claim_kind_tokens : (kind : ClaimKind) (later earlier since : List ℕ) (us : List Token) → AreLabels names later → AreLabels names earlier → (since ≡ []) ⊎ AreLabels names since
@@ -67,13 +62,13 @@ module _ (names : List Name) (are : AreNames names) where
       let back : List Token = named names earlier ++ since_tokens names (codes "since") since in
       gives-after (some_labels names) _ (named names later) (Word (codes "needs") ∷ back) (Semicolon ∷ us) later end (gives-labels names are later (Word (codes "needs") ∷ (back ++ Semicolon ∷ us)) l refl)
       (gives-first (is_word (codes "needs")) _ _ (Word (codes "needs") ∷ back) (Semicolon ∷ us) end (word-is (codes "needs"))
-      (gives-after skip (λ _. read_needs names later) (Word (codes "needs") ∷ []) back (Semicolon ∷ us) tt end (gives-skip (Word (codes "needs")) _) (gives-needs later earlier since us e s)))
+      (gives-after skip (λ _. read_needs names later) (Word (codes "needs") ∷ []) back (Semicolon ∷ us) tt end (gives-skip (Word (codes "needs")) _) (gives-rest Needs later earlier since us e s)))
   gives-claim_kind_tokens Bars later earlier since us l e s =
       let end : Claim = record { kind = Bars; later = later; earlier = earlier; since = since } in
       let back : List Token = named names later ++ since_tokens names (codes "until") since in
       gives-after (some_labels names) _ (named names earlier) (Word (codes "bars") ∷ back) (Semicolon ∷ us) earlier end (gives-labels names are earlier (Word (codes "bars") ∷ (back ++ Semicolon ∷ us)) e refl)
       (gives-second (is_word (codes "needs")) _ _ (Word (codes "bars") ∷ back) (Semicolon ∷ us) end refl
-      (gives-after (token (is_word (codes "bars"))) (λ _. read_bars names earlier) (Word (codes "bars") ∷ []) back (Semicolon ∷ us) tt end (gives-word (codes "bars") _) (gives-bars later earlier since us l s)))
+      (gives-after (token (is_word (codes "bars"))) (λ _. read_bars names earlier) (Word (codes "bars") ∷ []) back (Semicolon ∷ us) tt end (gives-word (codes "bars") _) (gives-rest Bars earlier later since us l s)))
 
   -- one more claim
   gives-claim : (claims : List NamedClaim) (c : NamedClaim) (us : List Token) → has_text c.name reserved ≡ false → has_text c.name (claim_names claims) ≡ false → IsClaim names c.claim

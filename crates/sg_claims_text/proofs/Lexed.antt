@@ -74,21 +74,20 @@ module _ (g : Graph) (is : IsGraph g) where
       let all = lex-next w (walk_text g (l ∷ ls) ++ rest) _ n labels in
       (lexes-as _ (32 ∷ (w ++ (walk_text g (l ∷ ls) ++ rest))) _ (ap (λ k. 32 ∷ k) (append_assoc w (walk_text g (l ∷ ls)) rest)) all.0, refl)
 
+  -- labels, a word and labels, and another word and labels, or nothing
+  lex-lists : (verb word : List ℕ) (first second since rest : List ℕ) (ts : List Token) → is_name verb ≡ true → is_name word ≡ true → AreLabels (edge_names g) first → AreLabels (edge_names g) second
+      → (since ≡ []) ⊎ AreLabels (edge_names g) since → Apart rest ts
+      → Lexes (walk_text g first ++ 32 ∷ (verb ++ (walk_text g second ++ (since_text g (32 ∷ word) since ++ rest))))
+      (named (edge_names g) first ++ Word verb ∷ (named (edge_names g) second ++ (since_tokens (edge_names g) word since ++ ts)))
+  lex-lists verb word first second since rest ts v w a b c h = (lex-labels first _ _ a.there (lex-next verb _ _ v (lex-labels second _ _ b.there (lex-since word since rest ts w c h)))).0
+
   -- what a claim says
   lex-claim_kind_tokens : (kind : ClaimKind) (later earlier since : List ℕ) (rest : List ℕ) (ts : List Token) → AreLabels (edge_names g) later → AreLabels (edge_names g) earlier
       → (since ≡ []) ⊎ AreLabels (edge_names g) since → Apart rest ts → Lexes (kind_text g kind later earlier since ++ rest) (claim_kind_tokens (edge_names g) kind later earlier since ++ ts)
   lex-claim_kind_tokens Needs later earlier since rest ts a b c h =
-      let third = lex-since (codes "since") since rest ts refl c h in
-      let second = lex-labels earlier _ _ b.there third in
-      let verb = lex-next (codes "needs") _ _ refl second in
-      let first = lex-labels later _ _ a.there verb in
-      lexes-as _ _ _ (simp append_assoc) (subst (Lexes _) (simp append_assoc) first.0)
+      lexes-as _ _ _ (simp append_assoc) (subst (Lexes _) (simp append_assoc) (lex-lists (codes "needs") (codes "since") later earlier since rest ts refl refl a b c h))
   lex-claim_kind_tokens Bars later earlier since rest ts a b c h =
-      let third = lex-since (codes "until") since rest ts refl c h in
-      let second = lex-labels later _ _ a.there third in
-      let verb = lex-next (codes "bars") _ _ refl second in
-      let first = lex-labels earlier _ _ b.there verb in
-      lexes-as _ _ _ (simp append_assoc) (subst (Lexes _) (simp append_assoc) first.0)
+      lexes-as _ _ _ (simp append_assoc) (subst (Lexes _) (simp append_assoc) (lex-lists (codes "bars") (codes "until") earlier later since rest ts refl refl b a c h))
 
   -- the line of a claim
   lex-claim : (c : NamedClaim) (rest : List ℕ) (ts : List Token) → is_name c.name ≡ true → IsClaim (edge_names g) c.claim → Lexes rest ts → Lexes (claim_line g c ++ rest) (claim_tokens (edge_names g) c ++ ts)

@@ -1,21 +1,16 @@
 -- Claims that are read are those that the text spells.
-use Rattle.std.proofs.Common.{◌≡◌, ℕ, zero, suc, ◌≤◌, not, Bool, true, false, ◌&&◌, ◌⊎◌, inl, inr, List, [], ◌∷◌, ◌++◌, length, codes, bytes_eq, Result, Ok, Err, refl, sym, ap, subst, ◌∙◌, arith, if◌then◌else◌, append_assoc, append-nil, flat_map}
+use Rattle.std.proofs.Common.{◌≡◌, ℕ, zero, suc, ◌≤◌, Bool, true, false, ◌⊎◌, inl, inr, List, [], ◌∷◌, ◌++◌, length, codes, bytes_eq, Result, Ok, Err, refl, sym, ap, subst, ◌∙◌, arith, if◌then◌else◌, append_assoc, append-nil, flat_map}
 use Rattle.std.specs.Prelude.{All}
-use Rattle.std.specs.List.{list_all}
-use Rattle.std.proofs.lemmas.Bool.{and_parts}
 use Rattle.std.proofs.lemmas.List.{map-append}
-use Rattle.std.proofs.lemmas.List.Folds.{list_all-append}
 use Rattle.std.proofs.lemmas.Slice.Eq.{bytes_eq-Decides}
 use Rattle.sg_claims.specs.declared.claim.NamedClaim.{NamedClaim}
 use Rattle.sg_claims_text.specs.Grammar.{AreLabels, IsClaim, claim_names, claim_tokens, head_tokens, most_claims, claim_kind_tokens, since_tokens, SpellsClaims}
-use Rattle.sg_claims_text.specs.Reading.{in_text, read, read_bars, read_claim, read_claims, read_name, read_named, read_needs, read_kind, read_since, some_labels}
+use Rattle.sg_claims_text.specs.Reading.{in_text, read, read_bars, read_claim, read_claims, read_name, read_named, read_needs, read_kind, read_rest, read_since, since_word, claim_of, some_labels}
 use Rattle.sg_claims_text.specs.declared.fault.ClaimsFault.TheVariants.{OtherGraph}
 use Rattle.sg_claims_text.proofs.TookLabels.{took-labels, took-since}
 use Rattle.sg_graph.specs.Parts.{edge_names}
-use Rattle.sg_model.specs.Claims.{Claim, Needs, Bars}
-use Rattle.sg_model.specs.Lists.{has_text, all_differ}
-use Rattle.sg_model.specs.Names.{Name, is_name, reserved}
-use Rattle.sg_model.proofs.Differ.{all_differ-append}
+use Rattle.sg_model.specs.Claims.{Claim, ClaimKind, Needs, Bars}
+use Rattle.sg_model.specs.Names.{Name}
 use Rattle.sg_protocol.specs.Graph.{Graph, AreNames}
 use Rattle.sg_parse.specs.Grammar.{named}
 use Rattle.sg_parse.specs.PartsReading.{repeat}
@@ -30,6 +25,7 @@ use Rattle.sg_parse.specs.declared.fault.ParseFault.TheVariants.{TooMany}
 use Rattle.sg_parse.proofs.Sound.{Sound, sound-tokens}
 use Rattle.sg_parse.proofs.Took.{Took, IsFresh, bare, ok_same, err_ok, on-inv, branch-inv, took-both, took-give, took-token, took-name, took-new, only-word, only-colon, only-semicolon}
 use Rattle.sg_parse.proofs.TookGraph.{took-end, whole-inv}
+use Rattle.sg_parse.proofs.TookParts.{names-one_more}
 use Rattle.sg_parse.proofs.Indices.{repeat-there, repeat-away, repeat-none}
 
 -- what the claim says
@@ -40,37 +36,33 @@ kind_of names c = claim_kind_tokens names c.kind c.later c.earlier c.since
 abbrev Rest : List Name → List ℕ → List TokenAt → Parsed Claim → Type 0
 Rest names first ps o = (ts : List Token) × Took ps o ts × (named names first ++ ts ≡ kind_of names o.value) × IsClaim names o.value
 
-took-needs : (names : List Name) (later : List ℕ) (ps : List TokenAt) (o : Parsed Claim) → Sound ps → AreLabels names later → read_needs names later ps ≡ Ok o
-    → (ts : List Token) × Took ps o ts × (named names later ++ Word (codes "needs") ∷ ts ≡ kind_of names o.value) × IsClaim names o.value
-took-needs names later ps o s are h =
-    let a = on-inv (some_labels names ps) _ o h in
-    let e = took-labels names ps a.0 s a.1 in
-    let b = on-inv (read_since (codes "since") names (a.0).rest) _ o a.2 in
-    let f = took-since names (codes "since") (a.0).rest b.0 (e.0).sound b.1 in
-    let c : Claim = record { kind = Needs; later = later; earlier = (a.0).value; since = (b.0).value } in
-    let end = took-give c (b.0).rest o (f.0).sound b.2 in
-    let back : List Token = since_tokens names (codes "since") (b.0).value in (
-      named names (a.0).value ++ (back ++ []),
-      took-both ps a.0 o (named names (a.0).value) (back ++ []) e.0 (took-both (a.0).rest b.0 o back [] f.0 end.1),
-      ap (λ l. named names later ++ Word (codes "needs") ∷ (named names (a.0).value ++ l)) (append-nil back) ∙ ap (kind_of names) end.0,
-      subst (IsClaim names) end.0 (record { later = are; earlier = e.1; since = f.1 }),
-    )
+-- the word of a kind
+abbrev verb : ClaimKind → Name
+verb Needs = codes "needs"
+verb Bars = codes "bars"
 
-took-bars : (names : List Name) (earlier : List ℕ) (ps : List TokenAt) (o : Parsed Claim) → Sound ps → AreLabels names earlier → read_bars names earlier ps ≡ Ok o
-    → (ts : List Token) × Took ps o ts × (named names earlier ++ Word (codes "bars") ∷ ts ≡ kind_of names o.value) × IsClaim names o.value
-took-bars names earlier ps o s are h =
+took-after_verb : (kind : ClaimKind) (names : List Name) (first : List ℕ) (ps : List TokenAt) (o : Parsed Claim) → Sound ps → AreLabels names first → read_rest kind names first ps ≡ Ok o
+    → (ts : List Token) × Took ps o ts × (named names first ++ Word (verb kind) ∷ ts ≡ kind_of names o.value) × IsClaim names o.value
+took-after_verb kind names first ps o s are h =
     let a = on-inv (some_labels names ps) _ o h in
     let e = took-labels names ps a.0 s a.1 in
-    let b = on-inv (read_since (codes "until") names (a.0).rest) _ o a.2 in
-    let f = took-since names (codes "until") (a.0).rest b.0 (e.0).sound b.1 in
-    let c : Claim = record { kind = Bars; later = (a.0).value; earlier = earlier; since = (b.0).value } in
-    let end = took-give c (b.0).rest o (f.0).sound b.2 in
-    let back : List Token = since_tokens names (codes "until") (b.0).value in (
+    let b = on-inv (read_since (since_word kind) names (a.0).rest) _ o a.2 in
+    let f = took-since names (since_word kind) (a.0).rest b.0 (e.0).sound b.1 in
+    let end = took-give (claim_of kind first (a.0).value (b.0).value) (b.0).rest o (f.0).sound b.2 in
+    let back : List Token = since_tokens names (since_word kind) (b.0).value in (
       named names (a.0).value ++ (back ++ []),
       took-both ps a.0 o (named names (a.0).value) (back ++ []) e.0 (took-both (a.0).rest b.0 o back [] f.0 end.1),
-      ap (λ l. named names earlier ++ Word (codes "bars") ∷ (named names (a.0).value ++ l)) (append-nil back) ∙ ap (kind_of names) end.0,
-      subst (IsClaim names) end.0 (record { later = e.1; earlier = are; since = f.1 }),
+      ap (λ l. named names first ++ Word (verb kind) ∷ (named names (a.0).value ++ l)) (append-nil back) ∙ spelled kind (a.0).value (b.0).value ∙ ap (kind_of names) end.0,
+      subst (IsClaim names) end.0 (is kind (a.0).value (b.0).value e.1 f.1),
     )
+  where
+    spelled : (kind : ClaimKind) (second since : List ℕ) → named names first ++ Word (verb kind) ∷ (named names second ++ since_tokens names (since_word kind) since) ≡ kind_of names (claim_of kind first second since)
+    spelled Needs second since = refl
+    spelled Bars second since = refl
+
+    is : (kind : ClaimKind) (second since : List ℕ) → AreLabels names second → (since ≡ []) ⊎ AreLabels names since → IsClaim names (claim_of kind first second since)
+    is Needs second since e f = record { later = are; earlier = e; since = f }
+    is Bars second since e f = record { later = e; earlier = are; since = f }
 
 took-rest : (names : List Name) (first : List ℕ) (ps : List TokenAt) (o : Parsed Claim) → Sound ps → AreLabels names first
     → branch (is_word (codes "needs")) (after skip λ _. read_needs names first) (after (token (is_word (codes "bars"))) λ _. read_bars names first) ps ≡ Ok o → Rest names first ps o
@@ -82,12 +74,12 @@ took-rest names first ps o s are h = pick (branch-inv (is_word (codes "needs")) 
         let a = on-inv (skip ps) _ o k in
         let is : token (is_word (codes "needs")) ps ≡ Ok a.0 = ap (λ b. if b then skip ps else Reading.refused ps) e ∙ a.1 in
         let t = took-token (is_word (codes "needs")) (Word (codes "needs")) ps a.0 (only-word (codes "needs")) s is in
-        let r = took-needs names first (a.0).rest o t.sound are a.2 in
+        let r = took-after_verb Needs names first (a.0).rest o t.sound are a.2 in
         (Word (codes "needs") ∷ r.0, took-both ps a.0 o (Word (codes "needs") ∷ []) r.0 t r.1, r.2, r.3)
     pick (inr (e, k)) =
         let a = on-inv (token (is_word (codes "bars")) ps) _ o k in
         let t = took-token (is_word (codes "bars")) (Word (codes "bars")) ps a.0 (only-word (codes "bars")) s a.1 in
-        let r = took-bars names first (a.0).rest o t.sound are a.2 in
+        let r = took-after_verb Bars names first (a.0).rest o t.sound are a.2 in
         (Word (codes "bars") ∷ r.0, took-both ps a.0 o (Word (codes "bars") ∷ []) r.0 t r.1, r.2, r.3)
 
 -- what a claim says
@@ -123,14 +115,6 @@ took-claim names claims ps o s h =
           (took-both (b.0).rest c.0 o (Colon ∷ []) _ colon
           (took-both (c.0).rest d.0 o (kind_of names (d.0).value) _ said'.0 (took-both (d.0).rest e.0 o (Semicolon ∷ []) [] last end.1)))),
     )
-
--- names with one more
-names-one_more : (ns : List Name) (n : Name) → AreNames ns → IsFresh ns n → AreNames (ns ++ n ∷ [])
-names-one_more ns n are f =
-    let p : Name → Bool = λ n. is_name n && not (has_text n reserved) in
-    let parts = and_parts (list_all p ns) (all_differ ns) are in
-    let all : list_all p (ns ++ n ∷ []) ≡ true = list_all-append p ns (n ∷ []) ∙ rw (parts.0, f.name, f.free) refl in
-    rw (all, all_differ-append ns n parts.1 f.new) refl
 
 -- claims were read behind others
 record TookClaims (names : List Name) (n : ℕ) (xs : List NamedClaim) (ps : List TokenAt) (o : Parsed (List NamedClaim)) : Type 0 where

@@ -6,10 +6,10 @@ use Rattle.sg_claims_text.specs.Grammar.{between, most_claims, claim_names}
 use Rattle.sg_claims_text.specs.declared.fault.ClaimsFault.{ClaimsFault}
 use Rattle.sg_claims_text.specs.declared.fault.ClaimsFault.TheVariants.{Text, OtherGraph}
 use Rattle.sg_graph.specs.Parts.{edge_names}
-use Rattle.sg_model.specs.Claims.{Claim, Needs, Bars}
-use Rattle.sg_parse.specs.PartsReading.{with_index, repeat}
-use Rattle.sg_parse.specs.Reading.{Parsed, Parser, on, after, give, known, token, branch, skip, refused, name, new_name, no_more, read_end, whole}
-use Rattle.sg_parse.specs.Tokens.{tokens, is_word, is_named, is_colon, is_semicolon, text_of}
+use Rattle.sg_model.specs.Claims.{Claim, ClaimKind, Needs, Bars}
+use Rattle.sg_parse.specs.PartsReading.{more_indices, some_indices, repeat}
+use Rattle.sg_parse.specs.Reading.{Parsed, Parser, after, give, token, branch, skip, name, new_name, no_more, read_end, whole}
+use Rattle.sg_parse.specs.Tokens.{tokens, is_word, is_named, is_colon, is_semicolon}
 use Rattle.sg_parse.specs.declared.token.Token.{Token}
 use Rattle.sg_parse.specs.declared.fault.ParseFault.{ParseFault}
 use Rattle.sg_protocol.specs.Graph.{Graph, Name}
@@ -24,32 +24,40 @@ is_label t = is_named t && not (is_between t)
 
 -- the labels, with those of all names that follow
 abbrev pub more_labels : List Name → List ℕ → Parser (List ℕ)
-more_labels names labels [] = give labels []
-more_labels names labels (p ∷ ps) =
-    if is_label p.token then on (known (with_index names labels (text_of p.token, p.at)) ps) (λ next _. more_labels names next ps)
-    else give labels (p ∷ ps)
+more_labels = more_indices is_label
 
 -- one or more labels of these names, each once, in the order in which they stand
 abbrev pub some_labels : List Name → Parser (List ℕ)
-some_labels names = branch is_label (more_labels names []) refused
+some_labels = some_indices is_label
 
 -- the labels after this word, or none if the word isn't there
 abbrev pub read_since : Name → List Name → Parser (List ℕ)
 read_since first names = branch (is_word first) (after skip λ _. some_labels names) (give [])
 
+-- the claim of this kind that names its labels in this order
+abbrev pub claim_of : ClaimKind → (first second since : List ℕ) → Claim
+claim_of Needs first second since = record { kind = Needs; later = first; earlier = second; since = since }
+claim_of Bars first second since = record { kind = Bars; later = second; earlier = first; since = since }
+
+-- the word before the last labels of a claim
+abbrev pub since_word : ClaimKind → Name
+since_word Needs = codes "since"
+since_word Bars = codes "until"
+
+-- the rest of a claim, after its first labels and the word of its kind
+abbrev pub read_rest : ClaimKind → List Name → List ℕ → Parser Claim
+read_rest kind names first =
+    after (some_labels names) λ second.
+    after (read_since (since_word kind) names) λ since.
+    give (claim_of kind first second since)
+
 -- a claim that labels need others, after `needs`
 abbrev pub read_needs : List Name → List ℕ → Parser Claim
-read_needs names later =
-    after (some_labels names) λ earlier.
-    after (read_since (codes "since") names) λ since.
-    give (record { kind = Needs; later = later; earlier = earlier; since = since })
+read_needs = read_rest Needs
 
 -- a claim that labels bar others, after `bars`
 abbrev pub read_bars : List Name → List ℕ → Parser Claim
-read_bars names earlier =
-    after (some_labels names) λ later.
-    after (read_since (codes "until") names) λ since.
-    give (record { kind = Bars; later = later; earlier = earlier; since = since })
+read_bars = read_rest Bars
 
 -- what a claim says
 abbrev pub read_kind : List Name → Parser Claim

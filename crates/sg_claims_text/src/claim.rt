@@ -1,7 +1,8 @@
 //! The statements of claims.
 ghost use Rattle.std.specs.Prelude.{◌≡◌, IfOk, false};
+ghost use Rattle.sg_claims.specs.Kind.{kind_of};
 ghost use Rattle.sg_claims_text.specs.Grammar.{claim_names};
-ghost use Rattle.sg_claims_text.specs.Reading.{read_bars, read_claim, read_needs, read_kind};
+ghost use Rattle.sg_claims_text.specs.Reading.{read_claim, read_kind, read_rest, since_word};
 ghost use Rattle.sg_model.specs.Lists.{has_text};
 ghost use Rattle.sg_parse.specs.Owed.{Reads, ReadsInto};
 ghost use Rattle.sg_parse.specs.Reading.{new_name};
@@ -53,46 +54,42 @@ fn read_kind(alloc: Global, scanner: &mut Scanner, names: &LabelNames) -> Result
     let first = some_labels(alloc, scanner, names)?;
     if scanner.at_word(b"needs") {
         scanner.skip();
-        return read_needs(alloc, scanner, names, first);
+        return read_rest(alloc, scanner, names, ClaimKind::Needs, first);
     }
     scanner.word(b"bars")?;
-    read_bars(alloc, scanner, names, first)
+    read_rest(alloc, scanner, names, ClaimKind::Bars, first)
 }
 
-// The rest of a claim that labels need others.
-fn read_needs(
+// The rest of a claim, after its first labels and the word of its kind.
+fn read_rest(
     alloc: Global,
     scanner: &mut Scanner,
     names: &LabelNames,
-    later: LabelSet,
+    kind: ClaimKind,
+    first: LabelSet,
 ) -> Result<Claim, ParseFault>
-    ensures { Reads (read_needs names.now later) scanner.old scanner.new result }
+    ensures { Reads (read_rest (kind_of kind) names.now first) scanner.old scanner.new result }
 {
-    let earlier = some_labels(alloc, scanner, names)?;
-    let since = read_since(alloc, scanner, names, b"since")?;
+    let second = some_labels(alloc, scanner, names)?;
+    let since = read_since(alloc, scanner, names, since_word(kind))?;
+    let (later, earlier) = match kind {
+        ClaimKind::Needs => (first, second),
+        ClaimKind::Bars => (second, first),
+    };
     Ok(Claim {
-        kind: ClaimKind::Needs,
+        kind,
         later,
         earlier,
         since,
     })
 }
 
-// The rest of a claim that labels bar others.
-fn read_bars(
-    alloc: Global,
-    scanner: &mut Scanner,
-    names: &LabelNames,
-    earlier: LabelSet,
-) -> Result<Claim, ParseFault>
-    ensures { Reads (read_bars names.now earlier) scanner.old scanner.new result }
+// The word before the last labels of a claim.
+fn since_word(kind: ClaimKind) -> &'static [u8]
+    ensures { result.now ≡ since_word (kind_of kind) }
 {
-    let later = some_labels(alloc, scanner, names)?;
-    let since = read_since(alloc, scanner, names, b"until")?;
-    Ok(Claim {
-        kind: ClaimKind::Bars,
-        later,
-        earlier,
-        since,
-    })
+    match kind {
+        ClaimKind::Needs => b"since",
+        ClaimKind::Bars => b"until",
+    }
 }
