@@ -5,10 +5,12 @@ use Rattle.sg_report.specs.Outcome.{outcome_of}
 use Rattle.sg_report.specs.declared.outcome.Outcome.{Outcome}
 use Rattle.sg_ledger.specs.Format.{Join, OpenLedger, Represents}
 use Rattle.sg_node.proofs.Life.{pasts_go_on}
+use Rattle.sg_node.specs.Answers.{IsAnsweredPast}
 use Rattle.sg_protocol.specs.Acting.{answer}
 use Rattle.sg_protocol.specs.Calls as Protocol
 use Rattle.sg_protocol.specs.Calls.{Call, Answer}
 use Rattle.sg_protocol.specs.Keyring.{Keyring, Program}
+use Rattle.sg_protocol.specs.NodeStates.{NodeState}
 use Rattle.sg_protocol.specs.Past.{Past, node_of, past_after}
 use Rattle.sg_protocol.specs.Texts.{real}
 use Rattle.sg_report.specs.Reported.{reported_answer, sid_left}
@@ -22,13 +24,13 @@ use Rattle.sg_play.specs.Played.{Play, all_deliveries, all_starts, beginning, ca
 use Rattle.sg_play.specs.Representation.{HasAsked, KeepsJoins, RepresentsPlay}
 use Rattle.sg_play.specs.Steps.{Step, frames_of}
 use Rattle.sg_play.proofs.Endings.{whole_none}
-use Rattle.sg_play.proofs.Reporting.{asked_quiet}
+use Rattle.sg_play.proofs.Reporting.{asked_by}
 use Rattle.sg_keep.specs.declared.fault.KeepFault.{KeepFault}
 use Rattle.sg_keep.specs.declared.fault.KeepFault.TheVariants.{Played, DiskFailed}
 use Rattle.sg_keep.specs.declared.keeper.Keeper.{Keeper}
 use Rattle.sg_keep.specs.Joins.{IsNew, join_in, join_reported, joins_made, with_join}
 use Rattle.sg_keep.specs.KeptRuns.{AllRepresent, AreOfJoins, HasKept}
-use Rattle.sg_keep.specs.Representation.{Progressed, HasAskedNode, HoldsJoins, IsAsked, RepresentsKept}
+use Rattle.sg_keep.specs.Representation.{AskedOnce, Progressed, HasAskedNode, HoldsJoins, IsAsked, RepresentsKept}
 use Rattle.sg_keep.proofs.Ending.{IsBetween, end_on, not_kept, played_end, stopped}
 use Rattle.sg_keep.proofs.Going.{Goes, after_call, by_call, by_deliveries, by_starts, in_step_on, joined, quiet_joins, with_call}
 use Rattle.sg_keep.proofs.NewJoins.{any_call, joins_of_node, joins_with}
@@ -40,15 +42,12 @@ working joins = record { joins = joins; failed = false }
 
 -- ---- the node was asked
 
+abbrev pub asked_once : (old new : NodeState) (past : Past) (c : Call) (o : Outcome) → IsAnsweredPast past → IsAskedOfNode 0 old new past c o None → AskedOnce new o
+asked_once old new past c o answered came = record { past = past; call = c; number = 0; range = came.range; answered_before = answered; represents = came.goes_on.represents; is_reported = came.is_reported }
+
 pub asked_node : (k : Keeper) (pl : Player) (may_leave : List ℕ → Type 0) (c : Call) (o : Outcome) (h : HoldsJoins k may_leave) → IsAskedOfNode 0 k.player.node pl.node h.past c o None → HasAskedNode (record k { player = pl }) may_leave o
 asked_node k pl may_leave c o h came = record {
-  past = h.past;
-  call = c;
-  number = 0;
-  range = came.range;
-  answered_before = h.answered;
-  represents = came.goes_on.represents;
-  is_reported = came.is_reported;
+  asked = asked_once k.player.node pl.node h.past c o h.answered came;
   ledger = h.ledger ∙ ap working h.represents.joins;
   images = subst (AllRepresent may_leave) h.represents.joins h.images;
 }
@@ -56,7 +55,7 @@ asked_node k pl may_leave c o h came = record {
 pub is_asked : (k : Keeper) (pl : Player) (may_leave : List ℕ → Type 0) (p : Play) (c : Call) (o : Outcome) → HoldsJoins k may_leave → RepresentsKept k p → pl ≡ record k.player { node = pl.node }
     → ((number : ℕ) → IsAskedOfNode number k.player.node pl.node p.past c o None) → None ≡ sid_left c → IsAsked (record k { player = pl }) p c o
 is_asked k pl may_leave p c o h s is its_asked stays = record {
-  asked = subst (λ (x : Player). HasAsked x p c o []) (sym is) (asked_quiet k.player pl.node p c o s.player its_asked);
+  asked = asked_by k.player pl p c o s.player is its_asked;
   stays = stays;
   answered_before = s.player.answered;
   in_step = s.in_step;
@@ -68,28 +67,30 @@ is_asked k pl may_leave p c o h s is its_asked stays = record {
 
 reported_join : (n : ℕ) (a : Answer) → join_reported (reported_answer n a) ≡ join_in a
 reported_join n (Protocol.Happened e) = refl
-reported_join n (Protocol.Sends e to f) = refl
-reported_join n Protocol.Abandoned = refl
-reported_join n (Protocol.NotStarted x) = refl
-reported_join n (Protocol.NotActed x) = refl
-reported_join n Protocol.NotAbandoned = refl
-reported_join n (Protocol.NotDelivered x) = refl
+reported_join n other = refl
+
+module _ {node : NodeState} {o : Outcome} (h : AskedOnce node o) where
+  join_is : (r : Option Join) → r ≡ join_reported (outcome_of o) → r ≡ join_in (answer real (node_of h.past) h.call)
+  join_is r e = e ∙ ap join_reported h.is_reported ∙ reported_join h.number (answer real (node_of h.past) h.call)
+
+  -- a pair that joins is new to the joins from before
+  pub new_join : IfSome (join_reported (outcome_of o)) (IsNew (node_of h.past).joins)
+  new_join = by (join_reported (outcome_of o)) refl
+    where
+      by : (r : Option Join) → r ≡ join_reported (outcome_of o) → IfSome r (IsNew (node_of h.past).joins)
+      by None e = tt
+      by (Some j) e = (any_call real (node_of h.past) h.call h.range).1 j (sym (join_is (Some j) e))
+
+  -- the node's joins are these with it
+  pub joins_after : node.joins ≡ with_join (node_of h.past).joins (join_reported (outcome_of o))
+  joins_after = h.represents.joins ∙ joins_with h.past h.call h.range ∙ ap (with_join (node_of h.past).joins) (sym (join_is (join_reported (outcome_of o)) refl))
+
+  pub answered_after : IsAnsweredPast (past_after real h.past h.call)
+  answered_after = pasts_go_on h.past h.call h.answered_before h.range
 
 module _ (k : Keeper) (may_leave : List ℕ → Type 0) (o : Outcome) (h : HasAskedNode k may_leave o) where
-  -- the node's answer
-  abbrev given : Answer
-  given = answer real (node_of h.past) h.call
-
-  pub join_is : (r : Option Join) → r ≡ join_reported (outcome_of o) → r ≡ join_in given
-  join_is r e = e ∙ ap join_reported h.is_reported ∙ reported_join h.number given
-
-  -- a pair that joins is new to the ledger
   pub is_new : IfSome (join_reported (outcome_of o)) (IsNew k.ledger.joins)
-  is_new = by (join_reported (outcome_of o)) refl
-    where
-      by : (r : Option Join) → r ≡ join_reported (outcome_of o) → IfSome r (IsNew k.ledger.joins)
-      by None e = tt
-      by (Some j) e = subst (λ (l : OpenLedger). IsNew l.joins j) (sym h.ledger) ((any_call real (node_of h.past) h.call h.range).1 j (sym (join_is (Some j) e)))
+  is_new = subst (λ (l : OpenLedger). IfSome (join_reported (outcome_of o)) (IsNew l.joins)) (sym h.ledger) (new_join h.asked)
 
   pub not_failed : k.ledger.failed ≡ false
   not_failed = ap (λ (o : OpenLedger). o.failed) h.ledger
@@ -97,18 +98,16 @@ module _ (k : Keeper) (may_leave : List ℕ → Type 0) (o : Outcome) (h : HasAs
   pub represent_now : AllRepresent may_leave k.ledger.joins
   represent_now = subst (λ (o : OpenLedger). AllRepresent may_leave o.joins) (sym h.ledger) h.images
 
-  -- the node's joins are the ledger's with it
+  -- the node's joins are the ledger's with the pair
   pub node_joins : (r : Option Join) → r ≡ join_reported (outcome_of o) → k.player.node.joins ≡ with_join k.ledger.joins r
-  node_joins r e =
-      h.represents.joins ∙ joins_with h.past h.call h.range
-      ∙ (λ i. with_join (sym (ap (λ (o : OpenLedger). o.joins) h.ledger) i) (sym (join_is r e) i))
+  node_joins r e = joins_after h.asked ∙ (λ i. with_join (sym (ap (λ (o : OpenLedger). o.joins) h.ledger) i) (sym e i))
 
   -- the ledger has it
   pub holds_after : (l : OpenLedger) (now_leaves : List ℕ → Type 0) (r : Option Join) → r ≡ join_reported (outcome_of o) → l ≡ working (with_join k.ledger.joins r) → AllRepresent now_leaves l.joins → HoldsJoins (record k { ledger = l }) now_leaves
   holds_after l now_leaves r e is all = record {
-    past = past_after real h.past h.call;
-    represents = h.represents;
-    answered = pasts_go_on h.past h.call h.answered_before h.range;
+    past = past_after real h.asked.past h.asked.call;
+    represents = h.asked.represents;
+    answered = answered_after h.asked;
     ledger = is ∙ ap working (sym (node_joins r e));
     images = subst (AllRepresent now_leaves) (ap (λ (o : OpenLedger). o.joins) is ∙ sym (node_joins r e)) all;
   }
@@ -146,11 +145,7 @@ module _ (start now : Outside) (may_leave : List ℕ → Type 0) (k : Keeper) (p
     pub asked_then : HasAsked m.player p c o []
     asked_then = subst (λ (pl : Player). HasAsked pl p c o []) (sym same) a.asked
 
-    -- the outcome was not given
-    pub unreported : (f : PlayFault) → Ended start now (called p c).steps (Err f) → HasKept start now may_leave (with_turn p c) (Err (Played f))
-    unreported f e = end_on start now may_leave (called p c) (with_turn p c) (Played f) (after_call p c).0 (played_end start now may_leave (called p c) steps_so owns.sent all f e)
-
-    -- the turn ended early
+    -- it ended early
     pub unplayed : (f : PlayFault) → Ended start now (with_turn p c).steps (Err f) → HasKept start now may_leave (with_turn p c) (Err (Played f))
     unplayed f e =
         played_end start now may_leave (with_turn p c) (in_step_on (called p c) (with_turn p c) (after_call p c).0 steps_so) owns_then.sent

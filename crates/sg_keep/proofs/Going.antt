@@ -1,22 +1,17 @@
 -- A play goes on: it adds steps and as many calls. A turn joins nothing, and sends only frames of joined sessions.
-use Rattle.std.proofs.Common.{◌≡◌, ℕ, List, [], ◌∷◌, ◌++◌, find, length, Option, Some, None, refl, sym, ap, ◌∙◌, subst, append_assoc, arith}
+use Rattle.std.proofs.Common.{◌≡◌, ℕ, List, [], ◌∷◌, ◌++◌, length, Option, None, refl, sym, ap, ◌∙◌, subst, append_assoc, arith}
 use Rattle.std.specs.Option.{option_map_or}
 use Rattle.std.proofs.lemmas.List.{append-nil, length-append}
 use Rattle.std.proofs.lemmas.List.Concat.{flat_map-append}
 use Rattle.sg_ledger.specs.Format.{Join}
 use Rattle.sg_model.specs.Names.{Name}
-use Rattle.sg_protocol.specs.Calls.{Call, Answer, Start, Abandon, Deliver, Happened, Sends, Abandoned, NotStarted, NotActed, NotAbandoned, NotDelivered}
-use Rattle.sg_protocol.specs.Keyring.{Program}
+use Rattle.sg_protocol.specs.Calls.{Call, Answer, Start, Abandon, Deliver}
 use Rattle.sg_protocol.specs.Past.{AnsweredCall, node_of}
-use Rattle.sg_protocol.specs.Session.{Session}
 use Rattle.sg_protocol.specs.Texts.{real}
-use Rattle.sg_protocol.specs.Named.{live_with}
-use Rattle.sg_protocol.specs.Turn.{turn_of}
 use Rattle.sg_script.specs.Script.{Start as ScriptStart, Choice}
-use Rattle.sg_play.specs.Choosing.{is_ready}
-use Rattle.sg_play.specs.Played.{Play, abandons, act_by, acts, all_deliveries, all_starts, answer_in, called, cast_of_start, chosen, or_abandons, plays, plays_on, sid_answered, starts, step_in, with_turn, without, next_random}
+use Rattle.sg_play.specs.Played.{Play, abandons, act_by, all_deliveries, all_starts, answer_in, called, cast_of_start, chosen, sid_answered, starts, step_in, with_turn, without, next_random}
 use Rattle.sg_play.specs.Steps.{Step}
-use Rattle.sg_play.proofs.Extends.{deliveries_both, starts_both}
+use Rattle.sg_play.proofs.Extends.{deliveries_both, over_deliveries, over_given, over_starts, starts_both}
 use Rattle.sg_play.proofs.Looping.{taken_part, whole_part}
 use Rattle.sg_keep.specs.Joins.{join_in, joins_made}
 use Rattle.sg_keep.proofs.NewJoins.{turns_join_none}
@@ -73,48 +68,16 @@ quiet_leaving : (p : Play) (sid : List ℕ) → Quiet p (abandons sid p)
 unfolding by_call
 quiet_leaving p sid = (by_call p (Abandon sid), joins_none (Abandon sid) (answer_in p (Abandon sid)) (turns_join_none real (node_of p.past) (Abandon sid) tt), λ h. owns_on p (Abandon sid) h tt)
 
-by_leaving : (sid : List ℕ) (p : Play) (a : Answer) → Quiet p (or_abandons sid p a)
-by_leaving sid p (Happened e) = quiet_leaving p sid
-by_leaving sid p (Sends e to f) = quiet_nothing p
-by_leaving sid p Abandoned = quiet_leaving p sid
-by_leaving sid p (NotStarted x) = quiet_leaving p sid
-by_leaving sid p (NotActed x) = quiet_leaving p sid
-by_leaving sid p NotAbandoned = quiet_leaving p sid
-by_leaving sid p (NotDelivered x) = quiet_leaving p sid
-
-by_act : (sid : List ℕ) (graph : Name) (node : ℕ) (c : Choice) (p : Play) → Quiet p (acts sid graph node c p)
-by_act sid graph node c p =
+quiet_act : (sid : List ℕ) (graph : Name) (node : ℕ) (c : Choice) (p : Play) → Quiet p (called (chosen graph node c p) (act_by sid c p.random))
+quiet_act sid graph node c p =
     let call = act_by sid c p.random in
     let q = called (chosen graph node c p) call in
     let goes : Goes p q = record { steps = step_in (chosen graph node c p) call ∷ []; calls = record { call = call; answer = answer_in p call } ∷ []; is_steps = refl; is_calls = refl; as_many = refl; first = refl } in
     let owns : OwnsAll p → OwnsAll q = λ h. owns_on (chosen graph node c p) call (record { live = h.live; sent = h.sent }) tt in
-    quiet_joined p q (acts sid graph node c p) (goes, joins_none call (answer_in p call) (turns_join_none real (node_of p.past) call tt), owns) (by_leaving sid q (answer_in p call))
-
-by_plays : (sid : List ℕ) (graph : Name) (node : ℕ) (p : Play) → Quiet p (plays sid graph node p)
-by_plays sid graph node p = by (find (is_ready graph node) p.choices)
-  where
-    by : (o : Option Choice) → Quiet p (option_map_or (λ c. acts sid graph node c p) o (abandons sid p))
-    by None = quiet_leaving p sid
-    by (Some c) = by_act sid graph node c p
-
-by_session : (sid : List ℕ) (node : ℕ) (p : Play) (o : Option (Program × Session)) → Quiet p (option_map_or (λ (x : Program × Session). plays sid x.0.graph.name node p) o (abandons sid p))
-by_session sid node p None = quiet_leaving p sid
-by_session sid node p (Some x) = by_plays sid x.0.graph.name node p
-
-pub by_turn : (sid : List ℕ) (p : Play) → Quiet p (plays_on sid p)
-by_turn sid p = by (turn_of (node_of p.past) sid)
-  where
-    by : (o : Option ℕ) → Quiet p (option_map_or (λ node. option_map_or (λ (x : Program × Session). plays sid x.0.graph.name node p) (live_with (node_of p.past) sid) (abandons sid p)) o p)
-    by None = quiet_nothing p
-    by (Some node) = by_session sid node p (live_with (node_of p.past) sid)
-
--- the turn that a call gives
-pub by_given : (p : Play) (o : Option (List ℕ)) → Quiet p (option_map_or (λ sid. plays_on sid p) o p)
-by_given p None = quiet_nothing p
-by_given p (Some sid) = by_turn sid p
+    (goes, joins_none call (answer_in p call) (turns_join_none real (node_of p.past) call tt), owns)
 
 pub after_call : (p : Play) (c : Call) → Quiet (called p c) (with_turn p c)
-after_call p c = by_given (called p c) (sid_answered (answer_in p c))
+after_call p c = over_given Quiet quiet_nothing quiet_joined (λ sid q. quiet_leaving q sid) quiet_act (called p c) (sid_answered (answer_in p c))
 
 -- ---- a play
 
@@ -127,12 +90,10 @@ by_start p s = let g = with_call (without 1 p) (Start (cast_of_start p.past.prog
     record { steps = g.steps; calls = g.calls; is_steps = g.is_steps; is_calls = g.is_calls; as_many = g.as_many; first = g.first }
 
 pub by_starts : (p : Play) (ss : List ScriptStart) → Goes p (all_starts p ss)
-by_starts p [] = nothing p
-by_starts p (s ∷ ss) = joined p (starts p s) (all_starts (starts p s) ss) (by_start p s) (by_starts (starts p s) ss)
+by_starts p ss = over_starts Goes nothing joined by_start p ss
 
 pub by_deliveries : (p : Play) (ds : List (List ℕ)) → Goes p (all_deliveries p ds)
-by_deliveries p [] = nothing p
-by_deliveries p (d ∷ ds) = joined p (with_turn p (Deliver d)) (all_deliveries (with_turn p (Deliver d)) ds) (with_call p (Deliver d)) (by_deliveries (with_turn p (Deliver d)) ds)
+by_deliveries p ds = over_deliveries Goes nothing joined (λ q d. with_call q (Deliver d)) p ds
 
 -- the first of starts or deliveries before all
 pub starts_on : (p : Play) (k : ℕ) (ss : List ScriptStart) → Goes (all_starts p (take k ss)) (all_starts p ss)

@@ -9,8 +9,11 @@ use Rattle.sg_ledger.proofs.Moments.{chained, started, weakened}
 use Rattle.sg_keep.specs.declared.keeper.Keeper.{Keeper}
 use Rattle.sg_keep.specs.Joins.{join_reported, with_join}
 use Rattle.sg_keep.specs.KeptRuns.{AllRepresent, RepresentsEither, RepresentsMore}
-use Rattle.sg_keep.specs.Representation.{HasAskedNode, HasMore, HoldsJoins}
-use Rattle.sg_keep.proofs.Asking.{node_joins}
+use Rattle.sg_keep.specs.Representation.{HasMore, HoldsJoins}
+use Rattle.sg_play.specs.Asking.{IsAsked}
+use Rattle.sg_play.specs.declared.player.Player.{Player}
+use Rattle.sg_protocol.specs.Calls.{Call}
+use Rattle.sg_keep.proofs.Asking.{asked_node, node_joins}
 
 -- ---- joins, and then others
 
@@ -40,11 +43,11 @@ represents_either a b f image h = ⊎_elim (λ s. represents_all a image s) (λ 
 pub all_held : (k : Keeper) (may_leave : List ℕ → Type 0) → HoldsJoins k may_leave → AllRepresent may_leave k.ledger.joins
 all_held k may_leave h = subst (λ (l : OpenLedger). AllRepresent may_leave l.joins) (sym h.ledger) h.images
 
--- the node that was asked has these, and then what the call joined
-pub asked_more : (k : Keeper) (may_leave : List ℕ → Type 0) (o : Outcome) → HasAskedNode k may_leave o → HasMore k.ledger.joins k.player.node.joins
-asked_more k may_leave o h =
+-- a node that was asked has these, and then what the call joined
+pub asked_more : (k : Keeper) (pl : Player) (may_leave : List ℕ → Type 0) (c : Call) (o : Outcome) (h : HoldsJoins k may_leave) → IsAsked 0 k.player.node pl.node h.past c o None → HasMore k.ledger.joins pl.node.joins
+asked_more k pl may_leave c o h came =
     let join = join_reported (outcome_of o) in
-    subst (HasMore k.ledger.joins) (sym (node_joins k may_leave o h join refl)) (more_with k.ledger.joins join)
+    subst (HasMore k.ledger.joins) (sym (node_joins (record k { player = pl }) may_leave o (asked_node k pl may_leave c o h came) join refl)) (more_with k.ledger.joins join)
 
 -- ---- over calls of a disk
 

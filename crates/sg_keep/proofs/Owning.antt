@@ -67,37 +67,10 @@ adds_read n (Ok f) = adds_by n f f.join
 
 adds : (n : Node) (c : Call) (a : Answer) → (node_after n c a).joins ≡ n.joins ++ added c a
 adds n (Start c) (Happened (Started sid r)) = refl
-adds n (Start c) (Happened (Sent sid r label time values)) = sym (append-nil n.joins)
-adds n (Start c) (Happened (Received sid r label time values joins)) = sym (append-nil n.joins)
-adds n (Start c) (Sends e to f) = sym (append-nil n.joins)
-adds n (Start c) Protocol.Abandoned = sym (append-nil n.joins)
-adds n (Start c) (Protocol.NotStarted x) = sym (append-nil n.joins)
-adds n (Start c) (Protocol.NotActed x) = sym (append-nil n.joins)
-adds n (Start c) Protocol.NotAbandoned = sym (append-nil n.joins)
-adds n (Start c) (Protocol.NotDelivered x) = sym (append-nil n.joins)
-adds n (Act sid label values confounders) (Happened e) = sym (append-nil n.joins)
-adds n (Act sid label values confounders) (Sends e to f) = sym (append-nil n.joins)
-adds n (Act sid label values confounders) Protocol.Abandoned = sym (append-nil n.joins)
-adds n (Act sid label values confounders) (Protocol.NotStarted x) = sym (append-nil n.joins)
-adds n (Act sid label values confounders) (Protocol.NotActed x) = sym (append-nil n.joins)
-adds n (Act sid label values confounders) Protocol.NotAbandoned = sym (append-nil n.joins)
-adds n (Act sid label values confounders) (Protocol.NotDelivered x) = sym (append-nil n.joins)
-adds n (Abandon sid) (Happened e) = sym (append-nil n.joins)
-adds n (Abandon sid) (Sends e to f) = sym (append-nil n.joins)
-adds n (Abandon sid) Protocol.Abandoned = sym (append-nil n.joins)
-adds n (Abandon sid) (Protocol.NotStarted x) = sym (append-nil n.joins)
-adds n (Abandon sid) (Protocol.NotActed x) = sym (append-nil n.joins)
-adds n (Abandon sid) Protocol.NotAbandoned = sym (append-nil n.joins)
-adds n (Abandon sid) (Protocol.NotDelivered x) = sym (append-nil n.joins)
-adds n (Deliver bytes) (Happened (Started sid r)) = sym (append-nil n.joins)
-adds n (Deliver bytes) (Happened (Sent sid r label time values)) = sym (append-nil n.joins)
 adds n (Deliver bytes) (Happened (Received sid r label time values joins)) = adds_read n (read bytes)
-adds n (Deliver bytes) (Sends e to f) = sym (append-nil n.joins)
-adds n (Deliver bytes) Protocol.Abandoned = sym (append-nil n.joins)
-adds n (Deliver bytes) (Protocol.NotStarted x) = sym (append-nil n.joins)
-adds n (Deliver bytes) (Protocol.NotActed x) = sym (append-nil n.joins)
-adds n (Deliver bytes) Protocol.NotAbandoned = sym (append-nil n.joins)
-adds n (Deliver bytes) (Protocol.NotDelivered x) = sym (append-nil n.joins)
+adds n (Act sid label values confounders) Protocol.Abandoned = sym (append-nil n.joins)
+adds n (Abandon sid) Protocol.Abandoned = sym (append-nil n.joins)
+adds n call other = sym (append-nil n.joins)
 
 -- a list behind others is the same
 same_behind : (xs ys zs : List Join) → xs ++ ys ≡ xs ++ zs → ys ≡ zs
@@ -122,30 +95,6 @@ with_joins_only n joins = record n { joins = joins }
 
 same_live : (n : Node) (joins : List Join) (c : Call) (a : Answer) → (node_after (with_joins_only n joins) c a).live ≡ (node_after n c a).live
 same_live n joins (Start c) (Happened (Started sid r)) = refl
-same_live n joins (Start c) (Happened (Sent sid r label time values)) = refl
-same_live n joins (Start c) (Happened (Received sid r label time values j)) = refl
-same_live n joins (Start c) (Sends e to f) = refl
-same_live n joins (Start c) Protocol.Abandoned = refl
-same_live n joins (Start c) (Protocol.NotStarted x) = refl
-same_live n joins (Start c) (Protocol.NotActed x) = refl
-same_live n joins (Start c) Protocol.NotAbandoned = refl
-same_live n joins (Start c) (Protocol.NotDelivered x) = refl
-same_live n joins (Act sid label values confounders) (Happened e) = refl
-same_live n joins (Act sid label values confounders) (Sends e to f) = refl
-same_live n joins (Act sid label values confounders) Protocol.Abandoned = refl
-same_live n joins (Act sid label values confounders) (Protocol.NotStarted x) = refl
-same_live n joins (Act sid label values confounders) (Protocol.NotActed x) = refl
-same_live n joins (Act sid label values confounders) Protocol.NotAbandoned = refl
-same_live n joins (Act sid label values confounders) (Protocol.NotDelivered x) = refl
-same_live n joins (Abandon sid) (Happened e) = refl
-same_live n joins (Abandon sid) (Sends e to f) = refl
-same_live n joins (Abandon sid) Protocol.Abandoned = refl
-same_live n joins (Abandon sid) (Protocol.NotStarted x) = refl
-same_live n joins (Abandon sid) (Protocol.NotActed x) = refl
-same_live n joins (Abandon sid) Protocol.NotAbandoned = refl
-same_live n joins (Abandon sid) (Protocol.NotDelivered x) = refl
-same_live n joins (Deliver bytes) (Happened (Started sid r)) = refl
-same_live n joins (Deliver bytes) (Happened (Sent sid r label time values)) = refl
 same_live n joins (Deliver bytes) (Happened (Received sid r label time values j)) = by_read (read bytes)
   where
     by_cast : (f : Frame) (o : Option Cast) → (option_map_or (λ c. joined (with_joins_only n joins) (extended (new_session f.sid c f.receiver) (Took f))) o (goes_on (with_joins_only n joins) (is_for f) (λ s. still n.programs (extended s (Took f))))).live
@@ -156,12 +105,9 @@ same_live n joins (Deliver bytes) (Happened (Received sid r label time values j)
     by_read : (r : Result Frame ℕ) → (takes_read (with_joins_only n joins) r).live ≡ (takes_read n r).live
     by_read (Err at) = refl
     by_read (Ok f) = by_cast f f.join
-same_live n joins (Deliver bytes) (Sends e to f) = refl
-same_live n joins (Deliver bytes) Protocol.Abandoned = refl
-same_live n joins (Deliver bytes) (Protocol.NotStarted x) = refl
-same_live n joins (Deliver bytes) (Protocol.NotActed x) = refl
-same_live n joins (Deliver bytes) Protocol.NotAbandoned = refl
-same_live n joins (Deliver bytes) (Protocol.NotDelivered x) = refl
+same_live n joins (Act sid label values confounders) Protocol.Abandoned = refl
+same_live n joins (Abandon sid) Protocol.Abandoned = refl
+same_live n joins call other = refl
 
 -- the pairs of the live sessions are among the joins that were made
 owned_by : (n : Node) (made : List Join) (c : Call) (a : Answer) → added c a ≡ one (join_in a) → Owns made n.live → Owns (made ++ one (join_in a)) (node_after n c a).live

@@ -8,7 +8,7 @@ use Rattle.sg_play.specs.Representation.{HasAsked, RepresentsPlay}
 use Rattle.sg_play.specs.Steps.{frames_of}
 use Rattle.sg_protocol.specs.Acting.{answer}
 use Rattle.sg_protocol.specs.Calls.{Call}
-use Rattle.sg_protocol.specs.NodeStates.{RepresentsPast}
+use Rattle.sg_protocol.specs.NodeStates.{NodeState, RepresentsPast}
 use Rattle.sg_protocol.specs.Past.{Past, node_of, past_after}
 use Rattle.sg_protocol.specs.Ranges.{IsCallInRange}
 use Rattle.sg_protocol.specs.Texts.{real}
@@ -28,17 +28,21 @@ pub record HoldsJoins (k : Keeper) (may_leave : List ℕ → Type 0) : Type 0 wh
   pub ledger : k.ledger ≡ record { joins = k.player.node.joins; failed = false }
   pub images : AllRepresent may_leave k.player.node.joins
 
--- the node has been asked one more call, and this is the outcome; the ledger has the joins from before
-pub record HasAskedNode (k : Keeper) (may_leave : List ℕ → Type 0) (outcome : Outcome) : Type 0 where
+-- a node has been asked one more call after a valid past, and this is the outcome
+pub record AskedOnce (node : NodeState) (outcome : Outcome) : Type 0 where
   pub past : Past
   pub call : Call
   pub number : ℕ
   pub range : IsCallInRange call
   pub answered_before : IsAnsweredPast past
-  pub represents : RepresentsPast k.player.node (past_after real past call)
+  pub represents : RepresentsPast node (past_after real past call)
   pub is_reported : outcome_of outcome ≡ reported_answer number (answer real (node_of past) call)
-  pub ledger : k.ledger ≡ record { joins = (node_of past).joins; failed = false }
-  pub images : AllRepresent may_leave (node_of past).joins
+
+-- so has the keeper's node; the ledger has the joins from before
+pub record HasAskedNode (k : Keeper) (may_leave : List ℕ → Type 0) (outcome : Outcome) : Type 0 where
+  pub asked : AskedOnce k.player.node outcome
+  pub ledger : k.ledger ≡ record { joins = (node_of asked.past).joins; failed = false }
+  pub images : AllRepresent may_leave (node_of asked.past).joins
 
 -- joins are these, and then others
 abbrev pub HasMore : (before now : List Join) → Type 0

@@ -15,7 +15,7 @@ use crate::join::join_in;
 use sg_base::{Fresh, Link, Sink};
 use sg_ledger::{AddJoinFault, Disk, Ledger};
 use sg_play::{PlayFault, Player};
-use sg_report::{Outcome, sid_reported};
+use sg_report::Outcome;
 
 /// One principal who plays a script, and the ledger of its joins.
 #[derive(Drop)]
@@ -55,11 +55,7 @@ impl<'p> Keeper<'p> {
             Ok(()) => {}
             Err(fault) => return Err(fault),
         }
-        match self.player.give(None, outcome, None, link, out) {
-            Ok(()) => {}
-            Err(fault) => return Err(KeepFault::Played(fault)),
-        }
-        match self.player.play_if(sid_reported(outcome), link, fresh, out) {
+        match self.player.go_on(outcome, link, fresh, out) {
             Ok(()) => Ok(()),
             Err(fault) => Err(KeepFault::Played(fault)),
         }

@@ -31,20 +31,14 @@ returns-in-Err-clause-progress g c = λ p start s w h.
 pub returns-in-Ok-clause-more : goal.returns-in-Ok-clause-more
 returns-in-Ok-clause-more g c =
     let h = c.requires.holds in
-    let leaves = g.D.Disk.may_leave c.args.disk.now in
-    let k : Keeper = record c.args.self.now { player = c.ask_deliver.new.self } in
-    let asked = asked_node c.args.self.now c.ask_deliver.new.self leaves (Deliver c.args.bytes.now) c.in-Ok.outcome h (c.in-Ok.ensures.is_asked 0 h.past h.represents) in
-    let more = asked_more k leaves c.in-Ok.outcome asked in
-    more_on_ok c.report.result k.ledger.joins k.player.node.joins c.report.new.self.ledger.joins more c.report.ensures.joins
+    more_on_ok c.report.result c.args.self.now.ledger.joins c.ask_deliver.new.self.node.joins c.report.new.self.ledger.joins
+    (asked_more c.args.self.now c.ask_deliver.new.self (g.D.Disk.may_leave c.args.disk.now) (Deliver c.args.bytes.now) c.in-Ok.outcome h (c.in-Ok.ensures.is_asked 0 h.past h.represents)) c.report.ensures.joins
 
 pub returns-in-Ok-clause-any_moment : goal.returns-in-Ok-clause-any_moment
 returns-in-Ok-clause-any_moment g c =
     let h = c.requires.holds in
-    let leaves = g.D.Disk.may_leave c.args.disk.now in
-    let k : Keeper = record c.args.self.now { player = c.ask_deliver.new.self } in
-    let asked = asked_node c.args.self.now c.ask_deliver.new.self leaves (Deliver c.args.bytes.now) c.in-Ok.outcome h (c.in-Ok.ensures.is_asked 0 h.past h.represents) in
-    let more = asked_more k leaves c.in-Ok.outcome asked in
-    either_more g.D.Disk.moment g.D.Disk.left_since c.args.disk.now c.report.new.disk k.ledger.joins k.player.node.joins more c.report.ensures.any_moment
+    either_more g.D.Disk.moment g.D.Disk.left_since c.args.disk.now c.report.new.disk c.args.self.now.ledger.joins c.ask_deliver.new.self.node.joins
+    (asked_more c.args.self.now c.ask_deliver.new.self (g.D.Disk.may_leave c.args.disk.now) (Deliver c.args.bytes.now) c.in-Ok.outcome h (c.in-Ok.ensures.is_asked 0 h.past h.represents)) c.report.ensures.any_moment
 
 pub returns-in-Err-clause-any_moment : goal.returns-in-Err-clause-any_moment
 returns-in-Err-clause-any_moment g c =

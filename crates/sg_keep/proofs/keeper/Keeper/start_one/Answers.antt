@@ -2,7 +2,7 @@ use Rattle.std.proofs.Common.{◌≡◌, length, refl, subst}
 use Rattle.sg_protocol.specs.Calls.{Start}
 use Rattle.sg_play.specs.Ends.{Outside}
 use Rattle.sg_play.specs.Played.{Play, cast_of_start, starts, with_turn, without}
-use Rattle.sg_play.proofs.Running.{start_is, without_one}
+use Rattle.sg_play.proofs.Running.{start_is, without_some}
 use Rattle.sg_keep.specs.declared.keeper.Keeper.{Keeper}
 use Rattle.sg_keep.specs.KeptRuns.{LeavesAtMost}
 use Rattle.sg_keep.proofs.Asking.{asked_node, holds_all, is_asked, kept_without, ledger_has, memory_end, node_has}
@@ -24,7 +24,7 @@ returns-in-Ok-clause-progress g c = λ p start s w h.
     let now : Outside = record { written = g.O.Sink.written c.report.new.out; sent = g.L.Link.sent c.report.new.link } in
     let q : Play = without 1 p in
     let cast = cast_of_start c.args.self.now.player.programs.now c.args.start_of.now c.next-nonce.result in
-    let t = kept_without c.args.self.now p q refl refl (without_one c.args.self.now.player p s.player) s in
+    let t = kept_without c.args.self.now p q refl refl (without_some 1 c.args.self.now.player p s.player) s in
     let is : with_turn q (Start cast) ≡ starts p c.args.start_of.now = start_is p c.args.start_of.now c.args.self.now.player.programs.now c.next-nonce.result cast s.player.programs (c.next-nonce.ensures.drawn p.random w) refl in
     to_same start now (g.D.Disk.may_leave c.report.new.disk) c.report.new.self (g.R.Fresh.random c.report.new.fresh) (with_turn q (Start cast)) (starts p c.args.start_of.now) c.report.result is
     (c.report.ensures.progress q (Start cast) start
@@ -41,20 +41,14 @@ returns-in-Err-clause-progress g c = λ p start s w h.
 pub returns-in-Ok-clause-more : goal.returns-in-Ok-clause-more
 returns-in-Ok-clause-more g c =
     let h = c.requires.holds in
-    let leaves = g.D.Disk.may_leave c.args.disk.now in
-    let k : Keeper = record c.args.self.now { player = c.ask_start.new.self } in
-    let asked = asked_node c.args.self.now c.ask_start.new.self leaves (Start (cast_of_start c.args.self.now.player.programs.now c.args.start_of.now c.next-nonce.result)) c.in-Ok.outcome h (c.in-Ok.ensures.is_asked 0 h.past h.represents) in
-    let more = asked_more k leaves c.in-Ok.outcome asked in
-    more_on_ok c.report.result k.ledger.joins k.player.node.joins c.report.new.self.ledger.joins more c.report.ensures.joins
+    more_on_ok c.report.result c.args.self.now.ledger.joins c.ask_start.new.self.node.joins c.report.new.self.ledger.joins
+    (asked_more c.args.self.now c.ask_start.new.self (g.D.Disk.may_leave c.args.disk.now) (Start (cast_of_start c.args.self.now.player.programs.now c.args.start_of.now c.next-nonce.result)) c.in-Ok.outcome h (c.in-Ok.ensures.is_asked 0 h.past h.represents)) c.report.ensures.joins
 
 pub returns-in-Ok-clause-any_moment : goal.returns-in-Ok-clause-any_moment
 returns-in-Ok-clause-any_moment g c =
     let h = c.requires.holds in
-    let leaves = g.D.Disk.may_leave c.args.disk.now in
-    let k : Keeper = record c.args.self.now { player = c.ask_start.new.self } in
-    let asked = asked_node c.args.self.now c.ask_start.new.self leaves (Start (cast_of_start c.args.self.now.player.programs.now c.args.start_of.now c.next-nonce.result)) c.in-Ok.outcome h (c.in-Ok.ensures.is_asked 0 h.past h.represents) in
-    let more = asked_more k leaves c.in-Ok.outcome asked in
-    either_more g.D.Disk.moment g.D.Disk.left_since c.args.disk.now c.report.new.disk k.ledger.joins k.player.node.joins more c.report.ensures.any_moment
+    either_more g.D.Disk.moment g.D.Disk.left_since c.args.disk.now c.report.new.disk c.args.self.now.ledger.joins c.ask_start.new.self.node.joins
+    (asked_more c.args.self.now c.ask_start.new.self (g.D.Disk.may_leave c.args.disk.now) (Start (cast_of_start c.args.self.now.player.programs.now c.args.start_of.now c.next-nonce.result)) c.in-Ok.outcome h (c.in-Ok.ensures.is_asked 0 h.past h.represents)) c.report.ensures.any_moment
 
 pub returns-in-Err-clause-any_moment : goal.returns-in-Err-clause-any_moment
 returns-in-Err-clause-any_moment g c =
@@ -69,7 +63,7 @@ returns-in-Ok-clause-leaves_at_most g c = λ p s w.
     let outcome = c.in-Ok.outcome in
     let q : Play = without 1 p in
     let cast = cast_of_start c.args.self.now.player.programs.now c.args.start_of.now c.next-nonce.result in
-    let t = kept_without c.args.self.now p q refl refl (without_one c.args.self.now.player p s.player) s in
+    let t = kept_without c.args.self.now p q refl refl (without_some 1 c.args.self.now.player p s.player) s in
     let is : with_turn q (Start cast) ≡ starts p c.args.start_of.now = start_is p c.args.start_of.now c.args.self.now.player.programs.now c.next-nonce.result cast s.player.programs (c.next-nonce.ensures.drawn p.random w) refl in
     let a = is_asked c.args.self.now c.ask_start.new.self leaves q (Start cast) outcome c.requires.holds t c.in-Ok.ensures.rest (λ number. c.in-Ok.ensures.is_asked number q.past t.player.node) refl in
     subst (λ (z : Play). LeavesAtMost g.D.Disk.moment g.D.Disk.left_since c.args.disk.now c.report.new.disk z (length p.past.calls)) is
