@@ -1,45 +1,32 @@
 -- What a server holds before a call, once its node was asked, and once the join is kept.
 use Rattle.std.proofs.Common.{◌≡◌, ◌⊎◌, ⊎_elim, inl, inr, ℕ, List, [], true, false, Option, Some, None, is_some, IfSome, Result, Ok, Err, OnOk, refl, sym, ap, ◌∙◌, subst}
 use Rattle.sg_base.specs.declared.address.Addr.{Addr}
-use Rattle.sg_keep.proofs.NewJoins.{any_call, joins_of_node, joins_with}
-use Rattle.sg_keep.specs.Joins.{IsNew, join_in, join_reported, joins_made, with_join}
+use Rattle.sg_keep.proofs.Asking.{answered_after, asked_once, joins_after, new_join, working}
+use Rattle.sg_keep.proofs.NewJoins.{joins_of_node}
+use Rattle.sg_keep.specs.Joins.{IsNew, join_reported, with_join}
 use Rattle.sg_keep.specs.KeptRuns.{AllRepresent}
 use Rattle.sg_ledger.specs.Format.{Join, OpenLedger, Represents}
 use Rattle.sg_model.specs.Names.{Name}
-use Rattle.sg_node.proofs.Life.{pasts_go_on}
-use Rattle.sg_play.proofs.Reporting.{asked_quiet}
+use Rattle.sg_play.proofs.Reporting.{asked_by}
 use Rattle.sg_play.specs.Asking.{IsAsked, addressed, sealed_in}
 use Rattle.sg_play.specs.Played.{Play, answer_in, called}
 use Rattle.sg_play.specs.Representation.{HasAsked, KeepsJoins, RepresentsPlay}
 use Rattle.sg_play.specs.declared.player.Player.{Player}
-use Rattle.sg_protocol.specs.Acting.{answer}
-use Rattle.sg_protocol.specs.Calls as Protocol
-use Rattle.sg_protocol.specs.Calls.{Call, Answer}
+use Rattle.sg_protocol.specs.Calls.{Call}
 use Rattle.sg_protocol.specs.Past.{Past, node_of, past_after}
 use Rattle.sg_protocol.specs.Texts.{real}
 use Rattle.sg_report.specs.Outcome.{outcome_of}
 use Rattle.sg_report.specs.declared.outcome.Outcome.{Outcome}
-use Rattle.sg_report.specs.Reported.{reported_answer}
 use Rattle.sg_serve.specs.declared.server.Server.{Server}
 use Rattle.sg_serve.specs.Served.{images_if, joins_kept, joins_of}
 use Rattle.sg_serve.specs.Serving.{Serving, Reply}
 use Rattle.sg_serve.specs.Representation.{HasAskedNode, HasCalled, HoldsJoins, LedgerHas, RepresentEither, RepresentsServing}
 
--- an opened ledger that works, with these joins
-abbrev pub working : List Join → OpenLedger
-working joins = record { joins = joins; failed = false }
-
 -- ---- the node was asked
 
 pub asked_node : (sv : Server) (pl : Player) (may_leave : List ℕ → Type 0) (c : Call) (o : Outcome) (h : HoldsJoins sv may_leave) → IsAsked 0 sv.player.node pl.node h.past c o None → HasAskedNode (record sv { player = pl }) may_leave o
 asked_node sv pl may_leave c o h came = record {
-  past = h.past;
-  call = c;
-  number = 0;
-  range = came.range;
-  answered_before = h.answered;
-  represents = came.goes_on.represents;
-  is_reported = came.is_reported;
+  asked = asked_once sv.player.node pl.node h.past c o h.answered came;
   ledger = λ l e. h.ledger l e ∙ ap working h.represents.joins;
   images = subst (AllRepresent (images_if (is_some sv.ledger) may_leave)) h.represents.joins h.images;
 }
@@ -47,7 +34,7 @@ asked_node sv pl may_leave c o h came = record {
 pub has_called : (sv : Server) (pl : Player) (s : Serving) (c : Call) (o : Outcome) → RepresentsServing sv s → pl ≡ record sv.player { node = pl.node } → ((number : ℕ) → IsAsked number sv.player.node pl.node s.play.past c o None)
     → HasCalled (record sv { player = pl }) s c o None
 has_called sv pl s c o h is is_asked = record {
-  asked = subst (λ (x : Player). HasAsked x s.play c o []) (sym is) (asked_quiet sv.player pl.node s.play c o h.player is_asked);
+  asked = asked_by sv.player pl s.play c o h.player is is_asked;
   answered_before = h.player.answered;
   is_frame = ap (addressed s.play.past.keys) (is_asked 0).is_sealed;
   programs = h.programs;
@@ -79,49 +66,29 @@ holds_on old new may_leave h same keeps =
 
 -- ---- the join of the outcome
 
-reported_join : (n : ℕ) (a : Answer) → join_reported (reported_answer n a) ≡ join_in a
-reported_join n (Protocol.Happened e) = refl
-reported_join n (Protocol.Sends e to f) = refl
-reported_join n Protocol.Abandoned = refl
-reported_join n (Protocol.NotStarted x) = refl
-reported_join n (Protocol.NotActed x) = refl
-reported_join n Protocol.NotAbandoned = refl
-reported_join n (Protocol.NotDelivered x) = refl
-
 module _ (sv : Server) (may_leave : List ℕ → Type 0) (o : Outcome) (h : HasAskedNode sv may_leave o) where
-  -- the node's answer
-  abbrev given : Answer
-  given = answer real (node_of h.past) h.call
-
   -- the pair that it joins, if it joins one
   abbrev joined : Option Join
   joined = join_reported (outcome_of o)
 
-  join_is : joined ≡ join_in given
-  join_is = ap join_reported h.is_reported ∙ reported_join h.number given
-
   -- if there is no ledger
   pub holds_none : sv.ledger ≡ None → HoldsJoins sv may_leave
   holds_none e = record {
-    past = past_after real h.past h.call;
-    represents = h.represents;
-    answered = pasts_go_on h.past h.call h.answered_before h.range;
+    past = past_after real h.asked.past h.asked.call;
+    represents = h.asked.represents;
+    answered = answered_after h.asked;
     ledger = λ l is. absurd (let z = sym e ∙ is in cc);
     images = λ image left. absurd (let z = ap is_some (sym e) ∙ left.0 in cc);
   }
 
   -- if there is one
   module _ (l : OpenLedger) (e : sv.ledger ≡ Some l) where
-    has : l ≡ working (node_of h.past).joins
+    has : l ≡ working (node_of h.asked.past).joins
     has = h.ledger l e
 
     -- a pair that joins is new to it
     pub is_new : IfSome joined (IsNew l.joins)
-    is_new = by joined refl
-      where
-        by : (o : Option Join) → o ≡ joined → IfSome o (IsNew l.joins)
-        by None q = tt
-        by (Some j) q = subst (λ (x : OpenLedger). IsNew x.joins j) (sym has) ((any_call real (node_of h.past) h.call h.range).1 j (sym (q ∙ join_is)))
+    is_new = subst (λ (x : OpenLedger). IfSome joined (IsNew x.joins)) (sym has) (new_join h.asked)
 
     pub not_failed : l.failed ≡ false
     not_failed = ap (λ (o : OpenLedger). o.failed) has
@@ -131,14 +98,14 @@ module _ (sv : Server) (may_leave : List ℕ → Type 0) (o : Outcome) (h : HasA
 
     -- the node's joins are the ledger's with it
     pub node_joins : sv.player.node.joins ≡ with_join l.joins joined
-    node_joins = h.represents.joins ∙ joins_with h.past h.call h.range ∙ (λ i. with_join (sym (ap (λ (o : OpenLedger). o.joins) has) i) (sym join_is i))
+    node_joins = joins_after h.asked ∙ ap (λ (o : OpenLedger). with_join o.joins joined) (sym has)
 
     -- it has the pair
     pub holds_after : (m : OpenLedger) (now_leaves : List ℕ → Type 0) → m ≡ working (with_join l.joins joined) → AllRepresent now_leaves m.joins → HoldsJoins (record sv { ledger = Some m }) now_leaves
     holds_after m now_leaves is all = record {
-      past = past_after real h.past h.call;
-      represents = h.represents;
-      answered = pasts_go_on h.past h.call h.answered_before h.range;
+      past = past_after real h.asked.past h.asked.call;
+      represents = h.asked.represents;
+      answered = answered_after h.asked;
       ledger = λ k q. (let z : k ≡ m = (cc) in z) ∙ is ∙ ap working (sym node_joins);
       images = λ image left. subst (Represents image) (ap (λ (o : OpenLedger). o.joins) is ∙ sym node_joins) (all image left.1);
     }

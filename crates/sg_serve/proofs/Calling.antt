@@ -9,6 +9,7 @@ use Rattle.sg_model.specs.Last.{Map}
 use Rattle.sg_model.specs.Names.{Name}
 use Rattle.sg_model.specs.Values.{Value}
 use Rattle.sg_play.proofs.Called.{is_addressed}
+use Rattle.sg_play.proofs.Running.{without_some}
 use Rattle.sg_play.specs.Asking.{addressed, sealed_in}
 use Rattle.sg_play.specs.Played.{Play, answer_in, cast_of_start, next_confounders, next_random}
 use Rattle.sg_play.specs.Posting.{frames_made}
@@ -65,22 +66,7 @@ abandoned sv new pl n sid o (Err f) at asked h = tt
 
 -- the random bytes that are left are no part of what is represented
 pub less_represents : (sv : Server) (n : ℕ) (s : Serving) → RepresentsServing sv s → RepresentsServing sv (less n s)
-less_represents sv n s st = record {
-  player = record {
-    node = st.player.node;
-    answered = st.player.answered;
-    keys = st.player.keys;
-    programs = st.player.programs;
-    choices = st.player.choices;
-    names = st.player.names;
-    steps = st.player.steps;
-    frames = st.player.frames;
-  };
-  programs = st.programs;
-  graphs = st.graphs;
-  enough = st.enough;
-  last = st.last;
-}
+less_represents sv n s st = record { player = without_some n sv.player s.play st.player; programs = st.programs; graphs = st.graphs; enough = st.enough; last = st.last }
 
 -- ---- an act
 

@@ -4,6 +4,7 @@ use Rattle.sg_base.specs.declared.address.Addr.{Addr}
 use Rattle.sg_base.specs.Outside.{Appends, AppendsPrefix, HasRisen}
 use Rattle.sg_input.specs.Lines.{Line, Whole, TooLong}
 use Rattle.sg_keep.specs.KeptRuns.{AllRepresent}
+use Rattle.sg_keep.specs.Representation.{AskedOnce}
 use Rattle.sg_ledger.specs.Format.{Join, OpenLedger, Represents}
 use Rattle.sg_model.specs.Names.{Name}
 use Rattle.sg_node.specs.Answers.{IsAnsweredPast}
@@ -12,15 +13,10 @@ use Rattle.sg_play.specs.Played.{Play, answer_in}
 use Rattle.sg_play.specs.Posting.{frames_made}
 use Rattle.sg_play.specs.Representation.{HasAsked, RepresentsPlay}
 use Rattle.sg_play.specs.Steps.{Step}
-use Rattle.sg_protocol.specs.Acting.{answer}
 use Rattle.sg_protocol.specs.Calls.{Call}
 use Rattle.sg_protocol.specs.NodeStates.{RepresentsPast}
-use Rattle.sg_protocol.specs.Past.{Past, node_of, past_after}
-use Rattle.sg_protocol.specs.Ranges.{IsCallInRange}
-use Rattle.sg_protocol.specs.Texts.{real}
-use Rattle.sg_report.specs.Outcome.{outcome_of}
+use Rattle.sg_protocol.specs.Past.{Past, node_of}
 use Rattle.sg_report.specs.declared.outcome.Outcome.{Outcome}
-use Rattle.sg_report.specs.Reported.{reported_answer}
 use Rattle.sg_serve.specs.declared.fault.ServeFault.{ServeFault}
 use Rattle.sg_serve.specs.declared.server.Server.{Server}
 use Rattle.sg_serve.specs.Lines.{Run, asks_quit, given, gives, receipt, until_quit, with_line, with_lines}
@@ -47,15 +43,9 @@ pub record HoldsJoins (sv : Server) (may_leave : List ℕ → Type 0) : Type 0 w
 
 -- the node has been asked one more call, and this is the outcome; the ledger, if there is one, has the joins from before
 pub record HasAskedNode (sv : Server) (may_leave : List ℕ → Type 0) (outcome : Outcome) : Type 0 where
-  pub past : Past
-  pub call : Call
-  pub number : ℕ
-  pub range : IsCallInRange call
-  pub answered_before : IsAnsweredPast past
-  pub represents : RepresentsPast sv.player.node (past_after real past call)
-  pub is_reported : outcome_of outcome ≡ reported_answer number (answer real (node_of past) call)
-  pub ledger : (l : OpenLedger) → sv.ledger ≡ Some l → l ≡ record { joins = (node_of past).joins; failed = false }
-  pub images : AllRepresent (images_if (is_some sv.ledger) may_leave) (node_of past).joins
+  pub asked : AskedOnce sv.player.node outcome
+  pub ledger : (l : OpenLedger) → sv.ledger ≡ Some l → l ≡ record { joins = (node_of asked.past).joins; failed = false }
+  pub images : AllRepresent (images_if (is_some sv.ledger) may_leave) (node_of asked.past).joins
 
 -- the ledger, if there is one, has these joins
 abbrev pub LedgerHas : Server → List Join → Type 0

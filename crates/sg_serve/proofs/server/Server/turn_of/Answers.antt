@@ -19,14 +19,10 @@ returns-in-Some-graph-clause-text c =
 
 pub returns-then-is_live-clause-text : goal.returns-then-is_live-clause-text
 returns-then-is_live-clause-text c =
-    let n = c.args.number in
-    let sid = c.args.sid in
-    text_each c.args.self.now (waits_text n) (λ s. turn_line s n sid) c.say_waits.result
-    (λ s st. waits s n sid (sym (c.turn.ensures s.play st.player) ∙ c.in_default.is) (sym (c.is_live.ensures s.play st.player) ∙ c.if-is_live.true)) c.say_waits.ensures.text
+    text_each c.args.self.now (waits_text c.args.number) (λ s. turn_line s c.args.number c.args.sid) c.say_waits.result
+    (λ s st. waits s c.args.number c.args.sid (sym (c.turn.ensures s.play st.player) ∙ c.in_default.is) (sym (c.is_live.ensures s.play st.player) ∙ c.if-is_live.true)) c.say_waits.ensures.text
 
 pub returns-else-is_live-clause-text : goal.returns-else-is_live-clause-text
 returns-else-is_live-clause-text c =
-    let n = c.args.number in
-    let sid = c.args.sid in
-    text_each c.args.self.now (over_text n) (λ s. turn_line s n sid) c.say_over.result
-    (λ s st. is_over s n sid (sym (c.turn.ensures s.play st.player) ∙ c.in_default.is) (sym (c.is_live.ensures s.play st.player) ∙ c.if-is_live.false)) c.say_over.ensures.text
+    text_each c.args.self.now (over_text c.args.number) (λ s. turn_line s c.args.number c.args.sid) c.say_over.result
+    (λ s st. is_over s c.args.number c.args.sid (sym (c.turn.ensures s.play st.player) ∙ c.in_default.is) (sym (c.is_live.ensures s.play st.player) ∙ c.if-is_live.false)) c.say_over.ensures.text
