@@ -145,6 +145,10 @@ counted-away p n count last h c =
 
 -- ---- tests of the nodes that pass another test
 
+-- none of the elements so far, and not the next
+pub any-more : {A : Type 0} (p : A → Bool) (xs : List A) (n : ℕ) (d : A) → n < length xs → list_any p (take n xs) ≡ false → p (get_or xs n d) ≡ false → list_any p (take (n + 1) xs) ≡ false
+any-more p xs n d l none away = list_any_more p xs n d l ∙ rw (none, away) refl
+
 -- none of those so far, and not the next
 pub any-inside-more : (p q : ℕ → Bool) (n : ℕ) → list_any p (filter q (below n)) ≡ false → (q n && p n) ≡ false → list_any p (filter q (below (n + 1))) ≡ false
 any-inside-more p q n none h = elim (cases_Bool (q n)) [

@@ -1,5 +1,5 @@
 -- Uses and parts, one after the other, as loops expand them.
-use Rattle.std.proofs.Common.{◌≡◌, ℕ, zero, suc, ◌+◌, ◌<◌, ◌≤◌, List, [], ◌∷◌, ◌++◌, length, get_or, drop, Some, Ok, Err, Result, refl, sym, ap, subst, ◌∙◌, arith, drop-cons, add-one, length-append}
+use Rattle.std.proofs.Common.{◌≡◌, ℕ, zero, suc, ◌+◌, ◌<◌, ◌≤◌, List, [], ◌∷◌, length, get_or, drop, Some, Ok, Err, Result, refl, sym, ap, subst, ◌∙◌, arith, drop-cons, add-one, length-append}
 use Rattle.std.specs.Prelude.{All, slice_get}
 use Rattle.sg_protocol.specs.Graph.{Graph}
 use Rattle.sg_graph.specs.Adding.{no_parts}

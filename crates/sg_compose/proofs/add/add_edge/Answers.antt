@@ -1,10 +1,22 @@
-use Rattle.std.proofs.Common.{◌≡◌, ◌≢◌, ◌≤◌, ◌+◌, ◌-◌, length, arith, inl, inr}
+use Rattle.std.proofs.Common.{◌≡◌, ◌≢◌, ℕ, ◌<◌, ◌≤◌, ◌+◌, ◌-◌, length, arith, inl, inr}
+use Rattle.sg_protocol.specs.Graph.{Graph}
 use Rattle.sg_graph.proofs.Sets.{numbers_within}
-use Rattle.sg_compose.specs.Expansion.{inside}
+use Rattle.sg_compose.specs.Expansion.{inside, replaced}
 use Rattle.sg_compose.proofs.Ends.{inside_length}
 use Rattle.sg_compose.proofs.Joining.{replaced-below}
 use Rattle.sg_compose.proofs.Renaming.{number-below, set_of-numbers}
 use Rattle.sg_compose.proofs.add.add_edge.Goals as goal
+
+-- a node that stands for one of the graph that is used is there
+replaced-there : (inner : Graph) (count from to m x many : ℕ) → 0 < m → m < length inner.nodes → x < length inner.nodes → from < count → to < count → count + length (inside inner m) ≤ many
+    → replaced count from to m x < many
+replaced-there inner count from to m x many late there within first last room =
+    let late' : m ≢ 0 = λ e. (absurd (omega (arith, e, late))) in
+    let all : length (inside inner m) ≡ length inner.nodes - 2 = inside_length inner m late' there in
+    elim (replaced-below count from to m x (length inner.nodes) late' there within first last) [
+      | inl a ↦ omega (arith, a, all, room)
+      | inr b ↦ omega (arith, b, room)
+    ]
 
 pub shifted-writes-requires : goal.shifted-writes-requires
 shifted-writes-requires c =
@@ -18,23 +30,13 @@ shifted-reads-requires c =
 
 pub add_edge-requires-clause-source : goal.add_edge-requires-clause-source
 add_edge-requires-clause-source c =
-    let late : c.args.end ≢ 0 = λ e. (absurd (omega (arith, e, c.requires.late))) in
-    let all : length (inside c.args.inner.now c.args.end) ≡ length c.args.inner.now.nodes - 2 = inside_length c.args.inner.now c.args.end late c.requires.there in
-    let there = replaced-below c.args.nodes c.args.used.now.from c.args.used.now.to c.args.end c.edge-edge.result.now.source (length c.args.inner.now.nodes) late c.requires.there c.edge-edge.ensures.ends.0 c.requires.from c.requires.to in
-    rw c.replaced-source.ensures (elim there [
-      | inl a ↦ omega (arith, a, all, c.requires.nodes)
-      | inr b ↦ omega (arith, b, c.requires.nodes)
-    ])
+    rw c.replaced-source.ensures (replaced-there c.args.inner.now c.args.nodes c.args.used.now.from c.args.used.now.to c.args.end c.edge-edge.result.now.source _
+    c.requires.late c.requires.there c.edge-edge.ensures.ends.0 c.requires.from c.requires.to c.requires.nodes)
 
 pub add_edge-requires-clause-target : goal.add_edge-requires-clause-target
 add_edge-requires-clause-target c =
-    let late : c.args.end ≢ 0 = λ e. (absurd (omega (arith, e, c.requires.late))) in
-    let all : length (inside c.args.inner.now c.args.end) ≡ length c.args.inner.now.nodes - 2 = inside_length c.args.inner.now c.args.end late c.requires.there in
-    let there = replaced-below c.args.nodes c.args.used.now.from c.args.used.now.to c.args.end c.edge-edge.result.now.target (length c.args.inner.now.nodes) late c.requires.there c.edge-edge.ensures.ends.1 c.requires.from c.requires.to in
-    rw c.replaced-target.ensures (elim there [
-      | inl a ↦ omega (arith, a, all, c.requires.nodes)
-      | inr b ↦ omega (arith, b, c.requires.nodes)
-    ])
+    rw c.replaced-target.ensures (replaced-there c.args.inner.now c.args.nodes c.args.used.now.from c.args.used.now.to c.args.end c.edge-edge.result.now.target _
+    c.requires.late c.requires.there c.edge-edge.ensures.ends.1 c.requires.from c.requires.to c.requires.nodes)
 
 pub add_edge-requires-clause-writes : goal.add_edge-requires-clause-writes
 add_edge-requires-clause-writes c =
