@@ -109,23 +109,18 @@ done_since first names =
     (done_after {A = Unit {0}} {B = List ℕ} skip (λ _. some_labels names) done_skip (λ _. done_some_labels names)) (done_give {A = List ℕ} [])
 
 module _ (names : List Name) (first : List ℕ) where
-  abbrev needs : (earlier since : List ℕ) → Claim
-  needs earlier since = record { kind = Needs; later = first; earlier = earlier; since = since }
+  -- a claim of labels, and of those behind this word
+  done_two : (behind : List ℕ) (claim : (labels since : List ℕ) → Claim) → Done (after {A = List ℕ} {B = Claim} (some_labels names) (λ labels. after (read_since behind names) (λ since. give (claim labels since))))
+  done_two behind claim =
+      done_after {A = List ℕ} {B = Claim} (some_labels names) (λ labels. after (read_since behind names) (λ since. give (claim labels since))) (done_some_labels names)
+      (λ labels. done_after {A = List ℕ} {B = Claim} (read_since behind names) (λ since. give (claim labels since)) (done_since behind names)
+      (λ since. done_give {A = Claim} (claim labels since)))
 
   done_needs : Done (read_needs names first)
-  done_needs =
-      done_after {A = List ℕ} {B = Claim} (some_labels names) (λ earlier. after (read_since (codes "since") names) (λ since. give (needs earlier since))) (done_some_labels names)
-      (λ earlier. done_after {A = List ℕ} {B = Claim} (read_since (codes "since") names) (λ since. give (needs earlier since)) (done_since (codes "since") names)
-      (λ since. done_give {A = Claim} (needs earlier since)))
-
-  abbrev bars : (later since : List ℕ) → Claim
-  bars later since = record { kind = Bars; later = later; earlier = first; since = since }
+  done_needs = done_two (codes "since") (λ earlier since. record { kind = Needs; later = first; earlier = earlier; since = since })
 
   done_bars : Done (read_bars names first)
-  done_bars =
-      done_after {A = List ℕ} {B = Claim} (some_labels names) (λ later. after (read_since (codes "until") names) (λ since. give (bars later since))) (done_some_labels names)
-      (λ later. done_after {A = List ℕ} {B = Claim} (read_since (codes "until") names) (λ since. give (bars later since)) (done_since (codes "until") names)
-      (λ since. done_give {A = Claim} (bars later since)))
+  done_bars = done_two (codes "until") (λ later since. record { kind = Bars; later = later; earlier = first; since = since })
 
   -- what a claim says behind its first labels
   abbrev read_rest : Parser Claim

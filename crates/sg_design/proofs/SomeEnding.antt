@@ -1,5 +1,5 @@
 -- A command on one file of a graph always has an ending.
-use Rattle.std.proofs.Common.{◌≡◌, ℕ, zero, suc, ◌+◌, ◌<◌, inl, inr, Bool, true, false, List, [], ◌∷◌, ◌++◌, length, get_or, Option, Some, None, refl, sym, subst, arith, add-one}
+use Rattle.std.proofs.Common.{◌≡◌, ℕ, zero, suc, ◌+◌, ◌<◌, inl, inr, Bool, true, false, List, [], ◌∷◌, ◌++◌, length, get_or, Option, Some, None, Err, refl, sym, subst, arith, add-one}
 use Rattle.std.specs.Prelude.{IsTrue, ◌↔◌, bytes_eq}
 use Rattle.std.specs.Fmt.{decimal}
 use Rattle.std.proofs.lemmas.Bool.{cases_Bool}
@@ -11,6 +11,7 @@ use Rattle.sg_claims.proofs.Suggesting.{adds_none, adds_on, adds_one, named_for,
 use Rattle.sg_claims_text.specs.Written.{written}
 use Rattle.sg_claims_text.proofs.Suggested.{suggestion-spells}
 use Rattle.sg_compile.specs.Laws.{Surely}
+use Rattle.sg_compile.specs.declared.check.CompileFault.{CompileFault}
 use Rattle.sg_compile.specs.Text.{program_text}
 use Rattle.sg_compile.proofs.Decided.{accepted_or_refused}
 use Rattle.sg_compile.proofs.Sure.{or_not, so, sure}
@@ -19,35 +20,50 @@ use Rattle.sg_model.specs.Claims.{Claim, HoldsOnWalks}
 use Rattle.sg_model.specs.Limits.{most_graph_file}
 use Rattle.sg_model.specs.Lists.{has_text}
 use Rattle.sg_parse.specs.Grammar.{SpellsGraph}
+use Rattle.sg_parse.specs.Reading.{read as parsed}
+use Rattle.sg_parse.specs.declared.fault.ParseFault.{ParseFault}
 use Rattle.sg_protocol.specs.Graph.{Graph, IsGraph, shape}
-use Rattle.sg_ending.specs.Ending.{Written, NoGraph, GraphRefused, NoRole}
+use Rattle.sg_ending.specs.Ending.{Ending, Written, NoGraph, GraphRefused, NoRole}
+use Rattle.sg_ending.specs.Graphs.{IsFirstRefused}
 use Rattle.sg_ending.specs.Laws.{EndsAlways, SomeEnding}
 use Rattle.sg_ending.specs.Output.{Output}
 use Rattle.sg_ending.proofs.SomeEnding.{always, compiled_or_refused, graph_or_none, text_written, with_text}
 use Rattle.sg_design.specs.Accepted.{check_text}
-use Rattle.sg_design.specs.Claimed.{IsSuggestion, Suggests}
+use Rattle.sg_design.specs.Claimed.{IsAcceptedText, IsSuggestion, Suggests}
 use Rattle.sg_design.specs.Ends.{Checks, Compiles}
+
+-- ---- graphs
+
+-- a command on a graph may end if it may on an accepted one: else the bytes are refused at their first wrong token, or their graph at its first fault
+graph_some : (Does : List ℕ → (old new : Output) → Ending → Type 0) (bytes : List ℕ) (old : Output)
+    → ((f : ParseFault) → parsed bytes ≡ Err f → Does bytes old old (NoGraph f))
+    → ((g : Graph) (f : CompileFault) → SpellsGraph bytes g → IsFirstRefused (g ∷ []) g f → Does bytes old old (GraphRefused g f))
+    → ((g : Graph) → IsAcceptedText bytes g → SomeEnding (λ new e. Does bytes old new e))
+    → SomeEnding (λ new e. Does bytes old new e)
+graph_some Does bytes old none refused accepted =
+    elim (graph_or_none bytes) [
+      | inr f ↦ sure (old, NoGraph f.0, (refl, λ e. cc), none f.0 f.1)
+      | inl g ↦
+          so (compiled_or_refused g.0 (g.1).is_graph (g.1).two_roles)
+          (λ a. elim a [
+            | inl w ↦ accepted g.0 (record { programs = w.0; spelled = g.1; compiled = w.1; few = w.2 })
+            | inr f ↦ sure (old, GraphRefused g.0 f.0, (refl, λ e. cc), refused g.0 f.0 g.1 f.1)
+          ])
+    ]
 
 -- ---- check
 
 check_some : (bytes : List ℕ) (old : Output) → SomeEnding (λ new e. Checks bytes old new e)
 check_some bytes old =
-    elim (graph_or_none bytes) [
-      | inr f ↦ sure (old, NoGraph f.0, (refl, λ e. cc), (refl, f.1))
-      | inl g ↦
-          so (compiled_or_refused g.0 (g.1).is_graph (g.1).two_roles)
-          (λ a. elim a [
-            | inl w ↦
-                (let text : List ℕ = check_text g.0 w.0 in
-                sure (
-                  with_text old text,
-                  Written,
-                  (refl, λ e. cc),
-                  (text, record { graph = g.0; programs = w.0; spelled = g.1; compiled = w.1; few = w.2; says = refl }, text_written old text),
-                ))
-            | inr f ↦ sure (old, GraphRefused g.0 f.0, (refl, λ e. cc), (refl, g.1, f.1))
-          ])
-    ]
+    graph_some Checks bytes old (λ f h. (refl, h)) (λ g f spelled first. (refl, spelled, first))
+    (λ g a.
+    (let text : List ℕ = check_text g a.programs in
+    sure (
+      with_text old text,
+      Written,
+      (refl, λ e. cc),
+      (text, record { graph = g; programs = a.programs; spelled = a.spelled; compiled = a.compiled; few = a.few; says = refl }, text_written old text),
+    )))
 
 pub check_always : EndsAlways Checks most_graph_file
 check_always = always Checks most_graph_file check_some
@@ -147,22 +163,14 @@ module _ (g : Graph) where
 
 suggest_some : (bytes : List ℕ) (old : Output) → SomeEnding (λ new e. Suggests bytes old new e)
 suggest_some bytes old =
-    elim (graph_or_none bytes) [
-      | inr f ↦ sure (old, NoGraph f.0, (refl, λ e. cc), (refl, f.1))
-      | inl g ↦
-          so (compiled_or_refused g.0 (g.1).is_graph (g.1).two_roles)
-          (λ a. elim a [
-            | inl w ↦
-                so (suggestion g.0 (g.1).is_graph)
-                (λ text. sure (
-                  with_text old text.0,
-                  Written,
-                  (refl, λ e. cc),
-                  (text.0, record { graph = g.0; accepted = record { programs = w.0; spelled = g.1; compiled = w.1; few = w.2 }; suggestion = text.1 }, text_written old text.0),
-                ))
-            | inr f ↦ sure (old, GraphRefused g.0 f.0, (refl, λ e. cc), (refl, g.1, f.1))
-          ])
-    ]
+    graph_some Suggests bytes old (λ f h. (refl, h)) (λ g f spelled first. (refl, spelled, first))
+    (λ g a. so (suggestion g (a.spelled).is_graph)
+    (λ text. sure (
+      with_text old text.0,
+      Written,
+      (refl, λ e. cc),
+      (text.0, record { graph = g; accepted = a; suggestion = text.1 }, text_written old text.0),
+    )))
 
 pub suggest_always : EndsAlways Suggests most_graph_file
 suggest_always = always Suggests most_graph_file suggest_some

@@ -1,41 +1,23 @@
 //! The command `check`: parses a graph, compiles it, and says whether it is accepted, and how many views each role has.
 ghost use Rattle.std.specs.Prelude.{◌≡◌, ◌++◌, ◌∷◌, [], All, IfOk, OnOk};
-ghost use Rattle.sg_model.specs.Limits.{most_graph_file};
 ghost use Rattle.sg_protocol.specs.IsSchedule.{AreCompiled};
 ghost use Rattle.sg_protocol.specs.Texts.{real};
 ghost use Rattle.sg_parse.specs.Grammar.{SpellsGraph};
 ghost use Rattle.sg_compile.specs.Compiled.{IsWhole};
-ghost use Rattle.sg_ending.specs.Files.{OnFile};
 ghost use Rattle.sg_ending.specs.Model.{ending_held};
 ghost use Rattle.sg_design.specs.Accepted.{accepted_line, check_text, views_line};
 ghost use Rattle.sg_design.specs.Ends.{Checks};
 
-use sg_base::{ByteOut, Files, OutOfMemory, Sink, write_all};
+use sg_base::{ByteOut, OutOfMemory, Sink, write_all};
 use sg_compile::{AllFault, compile_all};
-use sg_ending::{Ending, MOST_GRAPH_BYTES, graph_of, read_file};
+use sg_ending::{Ending, graph_of};
 use sg_graph::Graph;
 use sg_program::{Program, Programs};
 use std::alloc::Global;
 use std::slice;
 
-/// Checks the graph of a file and writes that it is accepted, or says why not.
-pub fn check<'w, F: Files, O: Sink>(
-    alloc: Global,
-    file: &'w str,
-    files: &mut F,
-    out: &mut O,
-) -> Ending<'w>
-    ensures kept { F.held files.new ≡ F.held files.old }
-    ensures ends { OnFile Checks most_graph_file file.now (F.held files.old) (F.faults files.old) (F.faults files.new)
-        (record { bytes = O.written out.old; faults = O.faults out.old }) (record { bytes = O.written out.new; faults = O.faults out.new }) (ending_held result) }
-{
-    match read_file(alloc, file, files, MOST_GRAPH_BYTES) {
-        Ok(bytes) => check_bytes(alloc, bytes.as_slice(), out),
-        Err(ending) => ending,
-    }
-}
-
-fn check_bytes<O: Sink>(alloc: Global, bytes: &[u8], out: &mut O) -> Ending<'static>
+/// Checks the graph that the bytes spell and writes that it is accepted, or says why not.
+pub fn check<O: Sink>(alloc: Global, bytes: &[u8], out: &mut O) -> Ending<'static>
     ensures { Checks bytes.now (record { bytes = O.written out.old; faults = O.faults out.old }) (record { bytes = O.written out.new; faults = O.faults out.new }) (ending_held result) }
 {
     match graph_of(alloc, bytes) {

@@ -1,40 +1,21 @@
 //! The command `compile`: parses a graph, compiles it for one of its roles, and writes the program.
 ghost use Rattle.std.specs.Prelude.{◌≡◌, ◌<◌, ◌≤◌, length, IsTrue, MatchOption};
-ghost use Rattle.sg_model.specs.Limits.{most_graph_file};
 ghost use Rattle.sg_model.specs.Lists.{has_text};
 ghost use Rattle.sg_protocol.specs.Graph.{role_name};
 ghost use Rattle.sg_parse.specs.Grammar.{SpellsGraph};
 ghost use Rattle.sg_compile.specs.Compiled.{IsCompiled};
-ghost use Rattle.sg_ending.specs.Files.{OnFile};
 ghost use Rattle.sg_ending.specs.Model.{ending_held};
 ghost use Rattle.sg_design.specs.Ends.{Compiles, RefusesRole};
 
-use sg_base::{Files, Name, Role, Sink, write_all};
+use sg_base::{Name, Role, Sink, write_all};
 use sg_compile::{CompileFault, check_graph, compile as program_of, encode};
-use sg_ending::{Ending, MOST_GRAPH_BYTES, graph_of, read_file};
+use sg_ending::{Ending, graph_of};
 use sg_graph::Graph;
 use sg_program::Program;
 use std::alloc::Global;
 
-/// Compiles the graph of a file for the role of this name and writes the program, or says why not.
-pub fn compile<'w, F: Files, O: Sink>(
-    alloc: Global,
-    file: &'w str,
-    role: &'w str,
-    files: &mut F,
-    out: &mut O,
-) -> Ending<'w>
-    ensures kept { F.held files.new ≡ F.held files.old }
-    ensures ends { OnFile (Compiles role.now) most_graph_file file.now (F.held files.old) (F.faults files.old) (F.faults files.new)
-        (record { bytes = O.written out.old; faults = O.faults out.old }) (record { bytes = O.written out.new; faults = O.faults out.new }) (ending_held result) }
-{
-    match read_file(alloc, file, files, MOST_GRAPH_BYTES) {
-        Ok(bytes) => compile_bytes(alloc, bytes.as_slice(), role, out),
-        Err(ending) => ending,
-    }
-}
-
-fn compile_bytes<'w, O: Sink>(alloc: Global, bytes: &[u8], name: &'w str, out: &mut O) -> Ending<'w>
+/// Compiles the graph that the bytes spell for the role of this name and writes the program, or says why not.
+pub fn compile<'w, O: Sink>(alloc: Global, bytes: &[u8], name: &'w str, out: &mut O) -> Ending<'w>
     ensures { Compiles name.now bytes.now (record { bytes = O.written out.old; faults = O.faults out.old }) (record { bytes = O.written out.new; faults = O.faults out.new }) (ending_held result) }
 {
     match graph_of(alloc, bytes) {

@@ -1,44 +1,26 @@
 //! The command `compose`: reads parts, expands them, checks the expansion and writes its canonical text.
 ghost use Rattle.std.specs.Prelude.{◌≡◌, ◌≤◌, ◌∷◌, [], All, Ok, length};
-ghost use Rattle.sg_model.specs.Limits.{most_graph_file};
 ghost use Rattle.sg_protocol.specs.IsSchedule.{AreCompiled};
 ghost use Rattle.sg_protocol.specs.Texts.{real};
 ghost use Rattle.sg_compile.specs.Compiled.{IsWhole};
 ghost use Rattle.sg_parse.specs.PartsGrammar.{SpellsParts};
 ghost use Rattle.sg_compose.specs.Expansion.{expansion};
 ghost use Rattle.sg_compose.specs.Laws.{IsComposed};
-ghost use Rattle.sg_ending.specs.Files.{OnFile};
 ghost use Rattle.sg_ending.specs.Model.{ending_held};
 ghost use Rattle.sg_design.specs.Ends.{Composes};
 
-use sg_base::{Files, Sink, write_all};
+use sg_base::{Sink, write_all};
 use sg_compile::{AllFault, compile_all};
 use sg_compose::{ComposeFault, expand};
-use sg_ending::{Ending, MOST_GRAPH_BYTES, read_file};
+use sg_ending::Ending;
 use sg_graph::{Graph, canonical_text};
 use sg_parse::{ParseFault, Part, parse_parts};
 use sg_program::Programs;
 use std::alloc::Global;
 use std::slice;
 
-/// Expands the parts of a file and writes the canonical text of their expansion, or says why not.
-pub fn compose<'w, F: Files, O: Sink>(
-    alloc: Global,
-    file: &'w str,
-    files: &mut F,
-    out: &mut O,
-) -> Ending<'w>
-    ensures kept { F.held files.new ≡ F.held files.old }
-    ensures ends { OnFile Composes most_graph_file file.now (F.held files.old) (F.faults files.old) (F.faults files.new)
-        (record { bytes = O.written out.old; faults = O.faults out.old }) (record { bytes = O.written out.new; faults = O.faults out.new }) (ending_held result) }
-{
-    match read_file(alloc, file, files, MOST_GRAPH_BYTES) {
-        Ok(bytes) => compose_bytes(alloc, bytes.as_slice(), out),
-        Err(ending) => ending,
-    }
-}
-
-fn compose_bytes<O: Sink>(alloc: Global, bytes: &[u8], out: &mut O) -> Ending<'static>
+/// Expands the parts that the bytes spell and writes the canonical text of their expansion, or says why not.
+pub fn compose<O: Sink>(alloc: Global, bytes: &[u8], out: &mut O) -> Ending<'static>
     ensures { Composes bytes.now (record { bytes = O.written out.old; faults = O.faults out.old }) (record { bytes = O.written out.new; faults = O.faults out.new }) (ending_held result) }
 {
     match parse_parts(alloc, bytes) {

@@ -1,35 +1,17 @@
 //! The command `claims` on a graph alone: reads a graph, checks it, and writes claims that hold of it.
 ghost use Rattle.std.specs.Prelude.{◌≡◌, IfOk};
-ghost use Rattle.sg_model.specs.Limits.{most_graph_file};
-ghost use Rattle.sg_ending.specs.Files.{OnFile};
 ghost use Rattle.sg_ending.specs.Model.{ending_held};
 ghost use Rattle.sg_design.specs.Claimed.{IsAcceptedText, IsSuggestion, Suggests};
 
 use crate::claims::accepted;
-use sg_base::{Files, OutOfMemory, Sink, write_all};
+use sg_base::{OutOfMemory, Sink, write_all};
 use sg_claims_text::claims_text;
-use sg_ending::{Ending, MOST_GRAPH_BYTES, read_file};
+use sg_ending::Ending;
 use sg_graph::Graph;
 use std::alloc::Global;
 
-/// Suggests claims of the graph of a file and writes their text, or says why not.
-pub fn suggest<'w, F: Files, O: Sink>(
-    alloc: Global,
-    file: &'w str,
-    files: &mut F,
-    out: &mut O,
-) -> Ending<'w>
-    ensures kept { F.held files.new ≡ F.held files.old }
-    ensures ends { OnFile Suggests most_graph_file file.now (F.held files.old) (F.faults files.old) (F.faults files.new)
-        (record { bytes = O.written out.old; faults = O.faults out.old }) (record { bytes = O.written out.new; faults = O.faults out.new }) (ending_held result) }
-{
-    match read_file(alloc, file, files, MOST_GRAPH_BYTES) {
-        Ok(bytes) => suggest_bytes(alloc, bytes.as_slice(), out),
-        Err(ending) => ending,
-    }
-}
-
-fn suggest_bytes<O: Sink>(alloc: Global, bytes: &[u8], out: &mut O) -> Ending<'static>
+/// Suggests claims of the graph that the bytes spell and writes their text, or says why not.
+pub fn suggest<O: Sink>(alloc: Global, bytes: &[u8], out: &mut O) -> Ending<'static>
     ensures { Suggests bytes.now (record { bytes = O.written out.old; faults = O.faults out.old }) (record { bytes = O.written out.new; faults = O.faults out.new }) (ending_held result) }
 {
     match accepted(alloc, bytes) {

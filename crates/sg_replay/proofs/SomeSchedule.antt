@@ -38,13 +38,11 @@ edge_made past _ e h = absurd (cc)
 
 -- ---- the first edge line
 
--- the lines up to the first edge line, and what they declare
-record FirstEdge (ls : List Line) : Type 0 where
+-- the first edge line, and the lines before it with what they declare
+record FirstEdge : Type 0 where
   before : List Line
   edge_line : Line
-  more : List Line
   items : List Item
-  all : ls ≡ before ++ edge_line ∷ more
   declared : Declare before items
   no_edge : edges items ≡ []
   label : List ℕ
@@ -52,30 +50,25 @@ record FirstEdge (ls : List Line) : Type 0 where
   to : ℕ
   is_edge : SaysLine edge_line (EdgeLine label from to)
 
+-- these lines have it
+abbrev HasFirstEdge : List Line → Type 0
+HasFirstEdge ls = (e : FirstEdge) × (more : List Line) × (ls ≡ e.before ++ e.edge_line ∷ more)
+
 no_edge_more : (items new : List Item) → edges items ≡ [] → edges new ≡ [] → edges (items ++ new) ≡ []
 no_edge_more items new a b = filter_map-append as_edge items new ∙ (λ i. a i ++ b i)
 
-added_edge : (first more : List Line) (items new : List Item) → Declare first items → edges items ≡ [] → Add items more new → edges (items ++ new) ≢ [] → FirstEdge (first ++ more)
+added_edge : (first more : List Line) (items new : List Item) → Declare first items → edges items ≡ [] → Add items more new → edges (items ++ new) ≢ [] → HasFirstEdge (first ++ more)
 added_edge first _ items _ d none (Skip {line} s) some = absurd (some (no_edge_more items [] none refl))
 added_edge first _ items _ d none (Show {block} {text} {g} b s n) some = absurd (some (no_edge_more items (GraphItem g ∷ []) none refl))
 added_edge first _ items _ d none (Say {line} {statement} {item} says right is) some = by item is some
   where
-    by : (item : Item) → made items statement ≡ Some item → edges (items ++ item ∷ []) ≢ [] → FirstEdge (first ++ line ∷ [])
+    by : (item : Item) → made items statement ≡ Some item → edges (items ++ item ∷ []) ≢ [] → HasFirstEdge (first ++ line ∷ [])
     by (EdgeItem e) is some =
-        let w = edge_made (so_far items) statement e is in
-        record {
-          before = first;
-          edge_line = line;
-          more = [];
-          items = items;
-          all = refl;
-          declared = d;
-          no_edge = none;
-          label = w.0;
-          from = w.1;
-          to = w.2;
-          is_edge = subst (SaysLine line) w.3 says;
-        }
+        let w = edge_made (so_far items) statement e is in (
+          record { before = first; edge_line = line; items = items; declared = d; no_edge = none; label = w.0; from = w.1; to = w.2; is_edge = subst (SaysLine line) w.3 says },
+          [],
+          refl,
+        )
     by (GraphItem g) is some = absurd (some (no_edge_more items (GraphItem g ∷ []) none refl))
     by (HonestItem n) is some = absurd (some (no_edge_more items (HonestItem n ∷ []) none refl))
     by (KeyItem k) is some = absurd (some (no_edge_more items (KeyItem k ∷ []) none refl))
@@ -86,26 +79,14 @@ none_or_some : {A : Type 0} (xs : List A) → (xs ≡ []) ⊎ (xs ≢ [])
 none_or_some [] = inl refl
 none_or_some (x ∷ xs) = inr (λ e. cc)
 
-first_edge : (ls : List Line) (items : List Item) → Declare ls items → edges items ≢ [] → FirstEdge ls
+first_edge : (ls : List Line) (items : List Item) → Declare ls items → edges items ≢ [] → HasFirstEdge ls
 first_edge _ _ Nothing some = absurd (some refl)
 first_edge _ _ (Next {first} {more} {items} {new} d add) some =
     elim (none_or_some (edges items)) [
       | inl none ↦ added_edge first more items new d none add some
       | inr there ↦
-          (let e = first_edge first items d there in
-          record {
-            before = e.before;
-            edge_line = e.edge_line;
-            more = e.more ++ more;
-            items = e.items;
-            all = ap (λ ls. ls ++ more) e.all ∙ append_assoc e.before (e.edge_line ∷ e.more) more;
-            declared = e.declared;
-            no_edge = e.no_edge;
-            label = e.label;
-            from = e.from;
-            to = e.to;
-            is_edge = e.is_edge;
-          })
+          (let (e, rest, all) = first_edge first items d there in
+          (e, rest ++ more, ap (λ ls. ls ++ more) all ∙ append_assoc e.before (e.edge_line ∷ rest) more))
     ]
 
 -- ---- blocks
@@ -167,32 +148,36 @@ module _ (bytes : List ℕ) where
     -- a block of a graph named `pair` behind edge lines
     pair_wrong : (block rest : List Line) (text : List ℕ) (g : AGraph) → lines bytes ≡ right ++ (block ++ rest) → IsBlock items block text → SpellsGraph text g → edges items ≢ [] → g.name ≡ codes "pair" → SpelledOrWrong
     pair_wrong block rest text g all is spelled some named =
-        let e = first_edge right items declared some in
+        let (e, more, is_all) = first_edge right items declared some in
         inr (
           suc (length e.before),
           Twice,
           AtEdge (record {
-            right = e.before;
-            edge_line = e.edge_line;
-            more = e.more;
+            right = right;
             block = block;
             rest = rest;
-            items = e.items;
-            later = items;
+            items = items;
             text = text;
-            all = all ∙ ap (λ ls. ls ++ (block ++ rest)) e.all;
-            declared = e.declared;
-            no_edge = e.no_edge;
-            label = e.label;
-            from = e.from;
-            to = e.to;
-            is_edge = e.is_edge;
-            declared_later = subst (λ ls. Declare ls items) e.all declared;
+            all = all;
+            first_edge = record {
+              right = e.before;
+              edge_line = e.edge_line;
+              more = more;
+              items = e.items;
+              all = is_all;
+              declared = e.declared;
+              no_edge = e.no_edge;
+              label = e.label;
+              from = e.from;
+              to = e.to;
+              is_edge = e.is_edge;
+              number = refl;
+            };
+            declared = declared;
             is_block = is;
             graph = g;
             spelled = spelled;
             named = named;
-            number = refl;
           }),
         )
 

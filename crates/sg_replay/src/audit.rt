@@ -8,42 +8,25 @@ ghost use Rattle.sg_audit.specs.Agree.{AreLogs};
 ghost use Rattle.sg_audit.specs.Model.{logs_of, reported_of};
 ghost use Rattle.sg_audit.specs.Spells.{SpellsLogs};
 ghost use Rattle.sg_audit.specs.TakingLines.{logs_held, session_of};
-ghost use Rattle.sg_ending.specs.Files.{OnFile};
 ghost use Rattle.sg_ending.specs.Model.{ending_held};
 ghost use Rattle.sg_replay.specs.Ends.{Audits};
 ghost use Rattle.sg_replay.specs.Faults.{ending_of_logs};
 
 use crate::answer::answers_text;
 use sg_audit::{LogFault, Logs, SessionLog, read_logs};
-use sg_base::{Files, Sink, write_all};
+use sg_base::{Sink, write_all};
 use sg_compile::{AllFault, compile_all};
-use sg_ending::{Ending, Wrong, read_file};
+use sg_ending::{Ending, Wrong};
 use sg_graph::Graph;
 use sg_program::Programs;
 use std::alloc::Global;
 use std::slice;
 
-// A log file has at most 16 MiB.
-const MOST_BYTES: u32 = 16_777_216;
+/// A log file has at most 16 MiB.
+pub const MOST_LOG_BYTES: u32 = 16_777_216;
 
-/// Audits the logs of a file and writes the answer for each session, or says why not.
-pub fn audit<'w, F: Files, O: Sink>(
-    alloc: Global,
-    file: &'w str,
-    files: &mut F,
-    out: &mut O,
-) -> Ending<'w>
-    ensures kept { F.held files.new ≡ F.held files.old }
-    ensures ends { OnFile Audits most_logs_file file.now (F.held files.old) (F.faults files.old) (F.faults files.new)
-        (record { bytes = O.written out.old; faults = O.faults out.old }) (record { bytes = O.written out.new; faults = O.faults out.new }) (ending_held result) }
-{
-    match read_file(alloc, file, files, MOST_BYTES) {
-        Ok(bytes) => audit_bytes(alloc, bytes.as_slice(), out),
-        Err(ending) => ending,
-    }
-}
-
-fn audit_bytes<O: Sink>(alloc: Global, bytes: &[u8], out: &mut O) -> Ending<'static>
+/// Audits the logs that the bytes spell and writes the answer for each session, or says why not.
+pub fn audit<O: Sink>(alloc: Global, bytes: &[u8], out: &mut O) -> Ending<'static>
     requires { length bytes.now ≤ most_logs_file }
     ensures { Audits bytes.now (record { bytes = O.written out.old; faults = O.faults out.old }) (record { bytes = O.written out.new; faults = O.faults out.new }) (ending_held result) }
 {

@@ -3,47 +3,27 @@
 //!
 //! The run is that of a schedule, which the generator's rules choose, so what holds of every replay holds of it (`sg_drive`).
 ghost use Rattle.std.specs.Prelude.{◌≡◌, ◌≤◌, ◌∷◌, [], All, IfErr, IfOk, length};
-ghost use Rattle.sg_model.specs.Limits.{most_driven, most_graph_file};
+ghost use Rattle.sg_model.specs.Limits.{most_driven};
 ghost use Rattle.sg_protocol.specs.IsSchedule.{AreCompiled};
 ghost use Rattle.sg_protocol.specs.Texts.{real};
 ghost use Rattle.sg_parse.specs.Grammar.{SpellsGraph};
 ghost use Rattle.sg_compile.specs.Compiled.{IsWhole};
-ghost use Rattle.sg_ending.specs.Files.{OnFile};
 ghost use Rattle.sg_ending.specs.Model.{ending_held};
 ghost use Rattle.sg_replay.specs.Driven.{StopsDrive, Sums};
 ghost use Rattle.sg_replay.specs.Ends.{Drives};
 
-use sg_base::{Files, Sink, write_all};
+use sg_base::{Sink, write_all};
 use sg_compile::{AllFault, compile_all};
 use sg_drive::{GenerateFault, generate, summary};
-use sg_ending::{Ending, MOST_GRAPH_BYTES, graph_of, read_file};
+use sg_ending::{Ending, graph_of};
 use sg_graph::Graph;
 use sg_program::Programs;
 use std::alloc::Global;
 use std::{mem, slice};
 
-/// Generates the run that a seed chooses for `sessions` sessions of the graph of a file, from 1 to 2,000, and writes its summary, or says
+/// Generates the run that a seed chooses for `sessions` sessions of the graph that the bytes spell, from 1 to 2,000, and writes its summary, or says
 /// why not.
-pub fn drive<'w, F: Files, O: Sink>(
-    alloc: Global,
-    seed: u32,
-    sessions: u32,
-    file: &'w str,
-    files: &mut F,
-    out: &mut O,
-) -> Ending<'w>
-    requires { (1 ≤ sessions) × (sessions ≤ most_driven) }
-    ensures kept { F.held files.new ≡ F.held files.old }
-    ensures ends { OnFile (Drives seed sessions) most_graph_file file.now (F.held files.old) (F.faults files.old) (F.faults files.new)
-        (record { bytes = O.written out.old; faults = O.faults out.old }) (record { bytes = O.written out.new; faults = O.faults out.new }) (ending_held result) }
-{
-    match read_file(alloc, file, files, MOST_GRAPH_BYTES) {
-        Ok(bytes) => drive_bytes(alloc, seed, sessions, bytes.as_slice(), out),
-        Err(ending) => ending,
-    }
-}
-
-fn drive_bytes<O: Sink>(
+pub fn drive<O: Sink>(
     alloc: Global,
     seed: u32,
     sessions: u32,

@@ -1,8 +1,8 @@
 //! The commands on runs of all principals: `replay` replays the run of a schedule, `drive` generates a run of a graph, and `audit` says whether the logs of
 //! a run agree.
 //!
-//! Each reads its file whole, and its first fault ends the work. Nothing is written before all is done, so what is refused leaves standard output as it
-//! was.
+//! Each is what is done with the bytes of one file, whose first fault ends the work. Nothing is written before all is done, so what is refused leaves
+//! standard output as it was.
 //!
 //! Each command has a module of its name. `answer` has the texts of audits.
 //!

@@ -15,16 +15,15 @@ ghost use Rattle.sg_sched.specs.Steps.{CanBeTaken};
 ghost use Rattle.sg_world.specs.Replay.{with_taken};
 ghost use Rattle.sg_sched.specs.Format.Spells.{SpellsSchedule};
 ghost use Rattle.sg_sched.specs.Format.StepsHeld.{step_of};
-ghost use Rattle.sg_ending.specs.Files.{OnFile};
 ghost use Rattle.sg_ending.specs.Graphs.{Refuses};
 ghost use Rattle.sg_ending.specs.Model.{ending_held};
 ghost use Rattle.sg_replay.specs.Ends.{Replays};
 ghost use Rattle.sg_replay.specs.Faults.{ending_of_fault, ending_of_line};
 ghost use Rattle.sg_replay.specs.Replayed.{CanBeReplayed, HasNoRoom, Reports, Stops};
 
-use sg_base::{Files, Sink, write_all};
+use sg_base::{Sink, write_all};
 use sg_compile::{AllFault, compile_all};
-use sg_ending::{Ending, Wrong, read_file};
+use sg_ending::{Ending, Wrong};
 use sg_graph::Graph;
 use sg_program::Programs;
 use sg_sched::{Kind, LineFault, Schedule, Step};
@@ -34,27 +33,11 @@ use sg_world::{StepFault, World};
 use std::alloc::Global;
 use std::mem;
 
-// A schedule file has at most 16 MiB.
-const MOST_BYTES: u32 = 16_777_216;
+/// A schedule file has at most 16 MiB.
+pub const MOST_SCHEDULE_BYTES: u32 = 16_777_216;
 
-/// Replays the schedule of a file and writes its report, or says why not.
-pub fn replay<'w, F: Files, O: Sink>(
-    alloc: Global,
-    file: &'w str,
-    files: &mut F,
-    out: &mut O,
-) -> Ending<'w>
-    ensures kept { F.held files.new ≡ F.held files.old }
-    ensures ends { OnFile Replays most_schedule_file file.now (F.held files.old) (F.faults files.old) (F.faults files.new)
-        (record { bytes = O.written out.old; faults = O.faults out.old }) (record { bytes = O.written out.new; faults = O.faults out.new }) (ending_held result) }
-{
-    match read_file(alloc, file, files, MOST_BYTES) {
-        Ok(bytes) => replay_bytes(alloc, bytes.as_slice(), out),
-        Err(ending) => ending,
-    }
-}
-
-fn replay_bytes<O: Sink>(alloc: Global, bytes: &[u8], out: &mut O) -> Ending<'static>
+/// Replays the schedule that the bytes spell and writes its report, or says why not.
+pub fn replay<O: Sink>(alloc: Global, bytes: &[u8], out: &mut O) -> Ending<'static>
     requires { length bytes.now ≤ most_schedule_file }
     ensures { Replays bytes.now (record { bytes = O.written out.old; faults = O.faults out.old }) (record { bytes = O.written out.new; faults = O.faults out.new }) (ending_held result) }
 {

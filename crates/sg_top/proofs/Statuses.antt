@@ -1,11 +1,11 @@
 -- With which statuses the program ends after a play.
-use Rattle.std.proofs.Common.{◌≡◌, ℕ, ◌⊎◌, inl, inr, List, Option, Some, None, refl, sym, subst}
+use Rattle.std.proofs.Common.{◌≡◌, ℕ, ◌⊎◌, inl, inr, List, Option, Some, refl, sym, subst}
 use Rattle.sg_ending.specs.Ending.{Ending, Written, WriteFailed, LinkFailed, InputFailed, DiskFailed, NoMemory, status_of, line_of}
 use Rattle.sg_ending.specs.Output.{Output}
 use Rattle.sg_principal.specs.Ledgers.{CanHaveKept}
 use Rattle.sg_principal.specs.Runs.{CanHavePlayed}
 use Rattle.sg_principal.specs.Serves.{CanHaveServed}
-use Rattle.sg_args.specs.Command.{Command, Check, Compile, Run, Replay, Drive, Ledger, Keep, Stream, Audit, Compose, Suggest, Claims, Serve, command_of}
+use Rattle.sg_args.specs.Command.{Command, Run, Keep, Stream, Serve, command_of}
 use Rattle.sg_ending.specs.Says.{Puts, Says}
 use Rattle.sg_top.specs.Top.{HasPlayed, IsOfKeep, IsOfPlay, IsOfServe, MayPlay, PlaysWith}
 
@@ -20,21 +20,12 @@ of_play _ h = absurd h
 -- and after one over a ledger
 of_keep : (e : Ending) → CanHaveKept e → IsOfKeep (status_of e)
 of_keep DiskFailed h = inr refl
-of_keep Written h = inl (of_play Written h)
-of_keep WriteFailed h = inl (of_play WriteFailed h)
-of_keep LinkFailed h = inl (of_play LinkFailed h)
-of_keep NoMemory h = inl (of_play NoMemory h)
-of_keep _ h = absurd h
+of_keep e h = inl (of_play e h)
 
 -- and after one for an application
 of_serve : (e : Ending) → CanHaveServed e → IsOfServe (status_of e)
 of_serve InputFailed h = inr refl
-of_serve Written h = inl (of_keep Written tt)
-of_serve WriteFailed h = inl (of_keep WriteFailed tt)
-of_serve LinkFailed h = inl (of_keep LinkFailed tt)
-of_serve DiskFailed h = inl (of_keep DiskFailed tt)
-of_serve NoMemory h = inl (of_keep NoMemory tt)
-of_serve _ h = absurd h
+of_serve e h = inl (of_keep e h)
 
 -- a status that is said is that of the ending, or that of a failed write, or that of 'out of memory'
 module _ (P : ℕ → Type 0) (six : P 6) (eight : P 8) where
@@ -58,17 +49,8 @@ status_reported : (c : Option Command) (work : Ending) (old new : Output) (statu
 status_reported (Some (Run keys script most programs)) work old new status h says = of_says IsOfPlay six_of_play eight_of_play work old new status (of_play work h) says
 status_reported (Some (Keep file keys script most programs)) work old new status h says = of_says IsOfKeep (inl six_of_play) (inl eight_of_play) work old new status (of_keep work h) says
 status_reported (Some (Stream keys script most programs)) work old new status h says = of_says IsOfPlay six_of_play eight_of_play work old new status (of_play work h) says
-status_reported (Some (Check file)) work old new status h says = absurd h
-status_reported (Some (Compile file role)) work old new status h says = absurd h
-status_reported (Some (Replay file)) work old new status h says = absurd h
-status_reported (Some (Drive seed sessions file)) work old new status h says = absurd h
-status_reported (Some (Ledger file)) work old new status h says = absurd h
-status_reported (Some (Audit file)) work old new status h says = absurd h
-status_reported (Some (Compose file)) work old new status h says = absurd h
-status_reported (Some (Suggest file)) work old new status h says = absurd h
-status_reported (Some (Claims graph claims)) work old new status h says = absurd h
 status_reported (Some (Serve over_tcp ledger keys programs)) work old new status h says = of_says IsOfServe (inl (inl six_of_play)) (inl (inl eight_of_play)) work old new status (of_serve work h) says
-status_reported None work old new status h says = absurd h
+status_reported _ work old new status h says = absurd h
 
 -- a command that may have played ends with one of its statuses; or the rest holds
 pub may_play : {Rest : Type 0} (args : List (List ℕ)) (c : Option Command) (work : Ending) (old new : Output) (status : ℕ) → c ≡ command_of args → HasPlayed c work ⊎ Rest

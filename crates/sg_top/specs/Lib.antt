@@ -1,3 +1,4 @@
+pub mod File
 pub mod Outside
 pub mod Top
 pub mod Laws

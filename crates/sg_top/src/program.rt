@@ -7,14 +7,11 @@ ghost use Rattle.sg_principal.specs.Outside.{IsKept, files_of, link_of, output_o
 ghost use Rattle.sg_top.specs.Outside.{objects_at_call, objects_at_return, outside_of, reported, reports_of, stream_of};
 ghost use Rattle.sg_top.specs.Top.{Ends, HasPlayed, Works, unplayed, untouched_by};
 
+use crate::file::{Task, on_file};
 use crate::objects::Objects;
 use sg_args::{Command, CommandLine, Parsed};
 use sg_base::{Files, Fresh, Link, Sink};
-use sg_design::check::check;
 use sg_design::claims::claims;
-use sg_design::compile::compile;
-use sg_design::compose::compose;
-use sg_design::suggest::suggest;
 use sg_ending::{Ending, say};
 use sg_input::Input;
 use sg_ledger::Disk;
@@ -23,9 +20,6 @@ use sg_principal::ledger::ledger;
 use sg_principal::run::run;
 use sg_principal::serve::serve;
 use sg_principal::{NamedFiles, RunFiles, Stage};
-use sg_replay::audit::audit;
-use sg_replay::drive::drive;
-use sg_replay::replay::replay;
 use sg_stream::{Conns, StreamLink};
 use sg_wait::TimedLink;
 use std::alloc::Global;
@@ -149,8 +143,14 @@ fn work<'w, F: Files, O: Sink, L: TimedLink, R: Fresh, D: Disk, S: Link, P: Time
     // Each arm returns, and is proved by itself.
     match command {
         None => return Ending::NoCommand,
-        Some(Command::Check { file }) => return check(alloc, file, files, out),
-        Some(Command::Compile { file, role }) => return compile(alloc, file, role, files, out),
+        Some(Command::Check { file }) => return on_file(alloc, Task::Check, file, files, out),
+        Some(Command::Compile { file, role }) => return on_file(
+            alloc,
+            Task::Compile { role },
+            file,
+            files,
+            out,
+        ),
         Some(
             Command::Run {
                 keys,
@@ -166,14 +166,14 @@ fn work<'w, F: Files, O: Sink, L: TimedLink, R: Fresh, D: Disk, S: Link, P: Time
             };
             return run(alloc, named, deliveries, files, Stage { out, link, fresh });
         }
-        Some(Command::Replay { file }) => return replay(alloc, file, files, out),
+        Some(Command::Replay { file }) => return on_file(alloc, Task::Replay, file, files, out),
         Some(
             Command::Drive {
                 seed,
                 sessions,
                 file,
             },
-        ) => return drive(alloc, seed, sessions, file, files, out),
+        ) => return on_file(alloc, Task::Drive { seed, sessions }, file, files, out),
         Some(Command::Ledger { file }) => return ledger(alloc, file, out, disk),
         Some(
             Command::Keep {
@@ -212,9 +212,9 @@ fn work<'w, F: Files, O: Sink, L: TimedLink, R: Fresh, D: Disk, S: Link, P: Time
             };
             return run(alloc, named, deliveries, files, stage);
         }
-        Some(Command::Audit { file }) => return audit(alloc, file, files, out),
-        Some(Command::Compose { file }) => return compose(alloc, file, files, out),
-        Some(Command::Suggest { file }) => return suggest(alloc, file, files, out),
+        Some(Command::Audit { file }) => return on_file(alloc, Task::Audit, file, files, out),
+        Some(Command::Compose { file }) => return on_file(alloc, Task::Compose, file, files, out),
+        Some(Command::Suggest { file }) => return on_file(alloc, Task::Suggest, file, files, out),
         Some(
             Command::Claims {
                 graph,

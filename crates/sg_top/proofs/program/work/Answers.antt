@@ -4,8 +4,8 @@ use Rattle.sg_top.specs.Outside.{objects_at_call}
 use Rattle.sg_top.proofs.Untouched.{served_link, served_port, unplayed_link, unplayed_stream, unserved_link, unserved_port}
 use Rattle.sg_top.proofs.program.work.Goals as goal
 
-pub drive-requires : goal.drive-requires
-drive-requires g c =
+pub on_file-requires-in-Some-Drive : goal.on_file-requires-in-Some-Drive
+on_file-requires-in-Some-Drive g c =
     let command : c.in-Some-Drive.field-0 ≡ Drive c.in-Some-Drive.seed c.in-Some-Drive.sessions c.in-Some-Drive.file = rw c.in-Some-Drive.is at c.in-Some-Drive.field-0-is in
     rw (c.in-Some-Drive.is, command) at c.requires
 

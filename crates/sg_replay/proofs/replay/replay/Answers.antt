@@ -2,7 +2,7 @@ use Rattle.sg_protocol.specs.Texts.{real}
 use Rattle.sg_ending.specs.Model.{ending_held}
 use Rattle.sg_replay.proofs.Refused.{no_schedule}
 use Rattle.sg_replay.proofs.Spelled.{spelled_named, spelled_taken}
-use Rattle.sg_replay.proofs.replay.replay_bytes.Goals as goal
+use Rattle.sg_replay.proofs.replay.replay.Goals as goal
 
 pub replay_schedule-ending-requires-clause-can : goal.replay_schedule-ending-requires-clause-can
 replay_schedule-ending-requires-clause-can g c = record {
