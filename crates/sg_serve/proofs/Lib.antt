@@ -14,3 +14,4 @@ pub mod Requests
 pub mod Pasts
 pub mod Calling
 pub mod Ending
+pub mod Keeping

@@ -1,15 +1,17 @@
 -- What a server represents: how far it has come, and the joins that it keeps.
-use Rattle.std.specs.Prelude.{◌≡◌, ◌⊎◌, ◌≤◌, ℕ, Bool, true, false, List, [], ◌∷◌, ◌++◌, map, length, Option, Some, None, is_some, Result, Ok, Err, OnOk, OnErr}
+use Rattle.std.specs.Prelude.{◌≡◌, ◌⊎◌, ◌≤◌, ℕ, Bool, true, false, List, [], ◌∷◌, ◌++◌, map, length, Option, Some, None, is_some, Result, Ok, Err, IfErr, IsNone, OnOk, OnErr}
 use Rattle.sg_base.specs.declared.address.Addr.{Addr}
 use Rattle.sg_base.specs.Outside.{Appends, AppendsPrefix, HasRisen}
 use Rattle.sg_input.specs.Lines.{Line, Whole, TooLong}
 use Rattle.sg_keep.specs.KeptRuns.{AllRepresent}
 use Rattle.sg_keep.specs.Representation.{AskedOnce}
 use Rattle.sg_ledger.specs.Format.{Join, OpenLedger, Represents}
+use Rattle.sg_ledger.specs.declared.disk.Disk as Disk
 use Rattle.sg_model.specs.Names.{Name}
 use Rattle.sg_node.specs.Answers.{IsAnsweredPast}
 use Rattle.sg_play.specs.Asking.{addressed, sealed_in}
 use Rattle.sg_play.specs.Played.{Play, answer_in}
+use Rattle.sg_play.specs.Faults.{CountsFaultAlone}
 use Rattle.sg_play.specs.Posting.{frames_made}
 use Rattle.sg_play.specs.Representation.{HasAsked, RepresentsPlay}
 use Rattle.sg_play.specs.Steps.{Step}
@@ -18,6 +20,7 @@ use Rattle.sg_protocol.specs.NodeStates.{RepresentsPast}
 use Rattle.sg_protocol.specs.Past.{Past, node_of}
 use Rattle.sg_report.specs.declared.outcome.Outcome.{Outcome}
 use Rattle.sg_serve.specs.declared.fault.ServeFault.{ServeFault}
+use Rattle.sg_serve.specs.declared.fault.ServeFault.TheVariants.{DiskFailed, OutOfMemory}
 use Rattle.sg_serve.specs.declared.server.Server.{Server}
 use Rattle.sg_serve.specs.Lines.{Run, asks_quit, given, gives, receipt, until_quit, with_line, with_lines}
 use Rattle.sg_serve.specs.Served.{Outside, Agrees, EndedAt, RepresentBetween, images_if, joins_of}
@@ -40,6 +43,15 @@ pub record HoldsJoins (sv : Server) (may_leave : List ℕ → Type 0) : Type 0 w
   pub answered : IsAnsweredPast past
   pub ledger : (l : OpenLedger) → sv.ledger ≡ Some l → l ≡ record { joins = sv.player.node.joins; failed = false }
   pub images : AllRepresent (images_if (is_some sv.ledger) may_leave) sv.player.node.joins
+
+-- what a request leaves of the disk, and of the ledger that the server had, if it had one: without one nothing is asked of the disk, whose faults are counted; and the server holds its joins, unless the disk failed or memory ran out
+pub record KeepsLedger {D A : Type 0} (disk : Disk.Ghosts D) (had : Option OpenLedger) (old new : D) (sv : Server) (result : Result A ServeFault) : Type 0 where
+  pub disk_bound : disk.bound new ≡ disk.bound old
+  pub faults : CountsFaultAlone DiskFailed (disk.faults old) (disk.faults new) result
+  pub untouched : IsNone had → new ≡ old
+  pub causes : IfErr result (λ e. (e ≡ DiskFailed) ⊎ (e ≡ OutOfMemory))
+  pub same : OnOk result (is_some sv.ledger ≡ is_some had)
+  pub holds : OnOk result (HoldsJoins sv (disk.may_leave new))
 
 -- the node has been asked one more call, and this is the outcome; the ledger, if there is one, has the joins from before
 pub record HasAskedNode (sv : Server) (may_leave : List ℕ → Type 0) (outcome : Outcome) : Type 0 where

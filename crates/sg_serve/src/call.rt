@@ -1,12 +1,11 @@
 //! The requests that call the node: a start, an act, a leaving, and a delivery.
-ghost use Rattle.std.specs.Prelude.{◌≡◌, ◌⊎◌, List, ℕ, Some, option_map, IfErr, IfOk, IsTrue, IsNone, OnOk, is_some};
+ghost use Rattle.std.specs.Prelude.{◌≡◌, List, ℕ, Some, option_map, IfErr, IfOk, IsTrue, OnOk, is_some};
 ghost use Rattle.std.specs.List.{list_all};
 ghost use Rattle.sg_request.specs.declared.request.Request.TheVariants as request;
 ghost use Rattle.sg_sched.specs.Format.Forms.{is_assignment};
 ghost use Rattle.sg_serve.specs.Served.{images_if};
 ghost use Rattle.sg_serve.specs.Serving.{Serving, acts, acts_by, calls, graph_at, of_session, starts, takes};
-ghost use Rattle.sg_serve.specs.Representation.{HasReplied, HoldsJoins, Replied, RepresentsServing};
-ghost use Rattle.sg_play.specs.Faults.{CountsFaultAlone};
+ghost use Rattle.sg_serve.specs.Representation.{HasReplied, HoldsJoins, KeepsLedger, Replied, RepresentsServing};
 ghost use Rattle.sg_play.specs.Representation.{KeepsJoins};
 ghost use Rattle.sg_protocol.specs.Calls.{Abandon};
 ghost use Rattle.sg_walk.specs.Model.{values_of};
@@ -33,12 +32,7 @@ impl<'p> Server<'p> {
         disk: &mut D,
     ) -> Result<Reply, ServeFault>
         requires holds { HoldsJoins self.old (D.may_leave disk.old) }
-        ensures disk_bound { D.bound disk.new ≡ D.bound disk.old }
-        ensures faults { CountsFaultAlone ServeFault.DiskFailed (D.faults disk.old) (D.faults disk.new) result }
-        ensures untouched { IsNone self.old.ledger → disk.new ≡ disk.old }
-        ensures causes { IfErr result (λ e. (e ≡ ServeFault.DiskFailed) ⊎ (e ≡ ServeFault.OutOfMemory)) }
-        ensures same { OnOk result (is_some self.new.ledger ≡ is_some self.old.ledger) }
-        ensures holds { OnOk result (HoldsJoins self.new (D.may_leave disk.new)) }
+        ensures kept { KeepsLedger D.Disk self.old.ledger disk.old disk.new self.new result }
         ensures random { OnOk result ((s : Serving) → RepresentsServing self.old s → R.random fresh.old ≡ Some s.play.random → R.random fresh.new ≡ Some (starts s start_of.now).0.play.random) }
         ensures replied { (s : Serving) → RepresentsServing self.old s → R.random fresh.old ≡ Some s.play.random
             → Replied (images_if (is_some self.old.ledger) (D.may_leave disk.new)) s self.new (starts s start_of.now) result }
@@ -60,12 +54,7 @@ impl<'p> Server<'p> {
         disk: &mut D,
     ) -> Result<Reply, ServeFault>
         requires holds { HoldsJoins self.old (D.may_leave disk.old) }
-        ensures disk_bound { D.bound disk.new ≡ D.bound disk.old }
-        ensures faults { CountsFaultAlone ServeFault.DiskFailed (D.faults disk.old) (D.faults disk.new) result }
-        ensures untouched { IsNone self.old.ledger → disk.new ≡ disk.old }
-        ensures causes { IfErr result (λ e. (e ≡ ServeFault.DiskFailed) ⊎ (e ≡ ServeFault.OutOfMemory)) }
-        ensures same { OnOk result (is_some self.new.ledger ≡ is_some self.old.ledger) }
-        ensures holds { OnOk result (HoldsJoins self.new (D.may_leave disk.new)) }
+        ensures kept { KeepsLedger D.Disk self.old.ledger disk.old disk.new self.new result }
         ensures replied { (s : Serving) → RepresentsServing self.old s
             → Replied (images_if (is_some self.old.ledger) (D.may_leave disk.new)) s self.new (takes s (option_map (λ bytes. bytes.items) found)) result }
     {

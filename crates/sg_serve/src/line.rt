@@ -1,12 +1,11 @@
 //! What a line of the input is answered, before it is given.
-ghost use Rattle.std.specs.Prelude.{◌≡◌, ◌≤◌, ◌⊎◌, List, ℕ, Some, IfErr, IsNone, OnOk, is_some};
+ghost use Rattle.std.specs.Prelude.{◌≡◌, ◌≤◌, List, ℕ, Some, OnOk, is_some};
 ghost use Rattle.std.specs.Option.{option_copied};
-ghost use Rattle.sg_play.specs.Faults.{CountsFaultAlone};
 ghost use Rattle.sg_serve.specs.Lines.{Run};
 ghost use Rattle.sg_serve.specs.Served.{images_if};
 ghost use Rattle.sg_serve.specs.Serving.{Serving, replies};
 ghost use Rattle.sg_serve.specs.Requests.{AreAssigned};
-ghost use Rattle.sg_serve.specs.Representation.{ProgressedToAnswer, HoldsJoins, Received, Replied, RepresentsServing, found_line, some_ok};
+ghost use Rattle.sg_serve.specs.Representation.{ProgressedToAnswer, HoldsJoins, KeepsLedger, Received, Replied, RepresentsServing, found_line, some_ok};
 
 use crate::ServeFault;
 use crate::reply::Reply;
@@ -30,14 +29,9 @@ impl<'p> Server<'p> {
     ) -> Result<Option<Reply>, ServeFault>
         requires holds { HoldsJoins self.old (D.may_leave disk.old) }
         ensures link_bound { L.bound link.new ≡ L.bound link.old }
-        ensures disk_bound { D.bound disk.new ≡ D.bound disk.old }
+        ensures kept { KeepsLedger D.Disk self.old.ledger disk.old disk.new self.new result }
         ensures link_falls { L.faults link.old ≤ L.faults link.new }
-        ensures faults { CountsFaultAlone ServeFault.DiskFailed (D.faults disk.old) (D.faults disk.new) result }
-        ensures untouched { IsNone self.old.ledger → disk.new ≡ disk.old }
-        ensures causes { IfErr result (λ e. (e ≡ ServeFault.DiskFailed) ⊎ (e ≡ ServeFault.OutOfMemory)) }
         ensures sent { L.sent link.new ≡ L.sent link.old }
-        ensures same { OnOk result (is_some self.new.ledger ≡ is_some self.old.ledger) }
-        ensures holds { OnOk result (HoldsJoins self.new (D.may_leave disk.new)) }
         ensures answered { (r : Run) → RepresentsServing self.old r.serving → R.random fresh.old ≡ Some r.serving.play.random → L.coming link.old ≡ Some r.coming
             → ProgressedToAnswer (images_if (is_some self.old.ledger) (D.may_leave disk.new)) self.new (R.random fresh.new) (L.coming link.new) (L.faults link.old) (L.faults link.new) r (found_line (option_copied line.entry)) result }
     {
@@ -62,14 +56,9 @@ impl<'p> Server<'p> {
     ) -> Result<Reply, ServeFault>
         requires holds { HoldsJoins self.old (D.may_leave disk.old) }
         ensures link_bound { L.bound link.new ≡ L.bound link.old }
-        ensures disk_bound { D.bound disk.new ≡ D.bound disk.old }
+        ensures kept { KeepsLedger D.Disk self.old.ledger disk.old disk.new self.new result }
         ensures link_falls { L.faults link.old ≤ L.faults link.new }
-        ensures faults { CountsFaultAlone ServeFault.DiskFailed (D.faults disk.old) (D.faults disk.new) result }
-        ensures untouched { IsNone self.old.ledger → disk.new ≡ disk.old }
-        ensures causes { IfErr result (λ e. (e ≡ ServeFault.DiskFailed) ⊎ (e ≡ ServeFault.OutOfMemory)) }
         ensures sent { L.sent link.new ≡ L.sent link.old }
-        ensures same { OnOk result (is_some self.new.ledger ≡ is_some self.old.ledger) }
-        ensures holds { OnOk result (HoldsJoins self.new (D.may_leave disk.new)) }
         ensures received { (r : Run) → RepresentsServing self.old r.serving → L.coming link.old ≡ Some r.coming
             → Received (images_if (is_some self.old.ledger) (D.may_leave disk.new)) self.new (L.coming link.new) (L.faults link.old) (L.faults link.new) r (is_some within) result }
     {
@@ -89,12 +78,7 @@ impl<'p> Server<'p> {
     ) -> Result<Reply, ServeFault>
         requires holds { HoldsJoins self.old (D.may_leave disk.old) }
         requires assigned { AreAssigned request }
-        ensures disk_bound { D.bound disk.new ≡ D.bound disk.old }
-        ensures faults { CountsFaultAlone ServeFault.DiskFailed (D.faults disk.old) (D.faults disk.new) result }
-        ensures untouched { IsNone self.old.ledger → disk.new ≡ disk.old }
-        ensures causes { IfErr result (λ e. (e ≡ ServeFault.DiskFailed) ⊎ (e ≡ ServeFault.OutOfMemory)) }
-        ensures same { OnOk result (is_some self.new.ledger ≡ is_some self.old.ledger) }
-        ensures holds { OnOk result (HoldsJoins self.new (D.may_leave disk.new)) }
+        ensures kept { KeepsLedger D.Disk self.old.ledger disk.old disk.new self.new result }
         ensures random { OnOk result ((s : Serving) → RepresentsServing self.old s → R.random fresh.old ≡ Some s.play.random → R.random fresh.new ≡ Some (replies s request.entry).0.play.random) }
         ensures replied { (s : Serving) → RepresentsServing self.old s → R.random fresh.old ≡ Some s.play.random
             → Replied (images_if (is_some self.old.ledger) (D.may_leave disk.new)) s self.new (replies s request.entry) result }

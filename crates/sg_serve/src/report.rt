@@ -14,7 +14,7 @@ ghost use Rattle.sg_report.specs.Outcome.{outcome_of};
 ghost use Rattle.sg_report.specs.Reported.{Sends, session_reported, sid_left};
 ghost use Rattle.sg_serve.specs.Served.{images_if, joins_kept};
 ghost use Rattle.sg_serve.specs.Serving.{Serving, as_sent, calls, graphs_with, last_of};
-ghost use Rattle.sg_serve.specs.Representation.{HasAskedNode, HasCalled, HasReplied, HoldsJoins, LedgerHas, Replied};
+ghost use Rattle.sg_serve.specs.Representation.{HasAskedNode, HasCalled, HasReplied, HoldsJoins, KeepsLedger, LedgerHas, Replied};
 
 use crate::ServeFault;
 use crate::frame::copied_if;
@@ -35,12 +35,7 @@ impl<'p> Server<'p> {
         disk: &mut D,
     ) -> Result<Reply, ServeFault>
         requires asked { HasAskedNode self.old (D.may_leave disk.old) outcome.now }
-        ensures disk_bound { D.bound disk.new ≡ D.bound disk.old }
-        ensures faults { CountsFaultAlone ServeFault.DiskFailed (D.faults disk.old) (D.faults disk.new) result }
-        ensures untouched { IsNone self.old.ledger → disk.new ≡ disk.old }
-        ensures causes { IfErr result (λ e. (e ≡ ServeFault.DiskFailed) ⊎ (e ≡ ServeFault.OutOfMemory)) }
-        ensures same { OnOk result (is_some self.new.ledger ≡ is_some self.old.ledger) }
-        ensures holds { OnOk result (HoldsJoins self.new (D.may_leave disk.new)) }
+        ensures kept { KeepsLedger D.Disk self.old.ledger disk.old disk.new self.new result }
         ensures replied { (s : Serving) (c : Call) → HasCalled self.old s c outcome.now None → LedgerHas self.old (node_of s.play.past).joins → None ≡ sid_left c
             → Replied (images_if (is_some self.old.ledger) (D.may_leave disk.new)) s self.new (calls s c) result }
     {

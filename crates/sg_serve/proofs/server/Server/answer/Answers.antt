@@ -4,10 +4,9 @@ use Rattle.sg_input.specs.Lines.{Whole, TooLong}
 use Rattle.sg_serve.specs.Served.{images_if}
 use Rattle.sg_serve.specs.Representation.{found_line, some_ok}
 use Rattle.sg_serve.proofs.Asking.{holds_all}
-use Rattle.sg_serve.proofs.Lining.{asked_other, asked_wait, came_as, mapped_ok, no_request, same_falls, some_if_err, some_on_ok, unread, wrong_form, some_counted}
+use Rattle.sg_serve.proofs.Lining.{asked_other, asked_wait, came_as, mapped_ok, no_request, same_falls, unread, wrong_form}
 use Rattle.sg_serve.proofs.Requests.{assigned_read}
-use Rattle.sg_play.proofs.Counting.{alone_same, no_fault}
-use Rattle.sg_serve.proofs.Counting.{disk_unasked}
+use Rattle.sg_serve.proofs.Keeping.{ran_out, some_kept, unasked}
 use Rattle.sg_serve.proofs.server.Server.answer.Goals as goal
 
 pub returns-in_default-clause-answered : goal.returns-in_default-clause-answered
@@ -48,14 +47,9 @@ returns-in-Ok-Some g c =
     let old = g.L.Link.faults c.args.link.now in
     record {
       link_bound = refl;
-      disk_bound = c.reply.ensures.disk_bound;
       link_falls = same_falls old;
-      faults = some_counted c.reply.result is c.reply.ensures.faults;
-      untouched = c.reply.ensures.untouched;
-      causes = some_if_err c.reply.result x _ is c.reply.ensures.causes;
+      kept = some_kept c.reply.result x is c.reply.ensures.kept;
       sent = refl;
-      same = some_on_ok c.reply.result x _ is c.reply.ensures.same;
-      holds = some_on_ok c.reply.result x _ is c.reply.ensures.holds;
       answered = λ r st w co.
           came_as images c.reply.new.self random coming old old r (Whole c.in-Some.bytes.now) (found_line (option_copied c.args.line)) (some_ok c.reply.result) x
           (ap (λ (o : Option (Bor (List ℕ))). found_line (option_copied o)) c.in-Some.is) is
@@ -80,17 +74,17 @@ returns-in-Err-clause-answered g c = λ r st w co later.
     let sv = c.args.self.now in
     unread (images_if (is_some sv.ledger) (g.D.Disk.may_leave c.args.disk.now)) r (found_line (option_copied c.args.line)) later (holds_all sv sv (g.D.Disk.may_leave c.args.disk.now) r.serving refl c.requires.holds st)
 
-pub returns-in_default-clause-faults : goal.returns-in_default-clause-faults
-returns-in_default-clause-faults g c = some_counted c.say_wrong.result c.some_reply.ensures (disk_unasked c.say_wrong.result c.say_wrong.ensures.memory)
+pub returns-in_default-clause-kept : goal.returns-in_default-clause-kept
+returns-in_default-clause-kept g c = some_kept c.say_wrong.result c.some_reply.result c.some_reply.ensures (unasked c.say_wrong.result c.say_wrong.ensures.memory c.requires.holds)
 
-pub returns-in-Ok-Some-Quit-clause-faults : goal.returns-in-Ok-Some-Quit-clause-faults
-returns-in-Ok-Some-Quit-clause-faults g c = alone_same refl (no_fault _)
+pub returns-in-Ok-Some-Quit-clause-kept : goal.returns-in-Ok-Some-Quit-clause-kept
+returns-in-Ok-Some-Quit-clause-kept g c = unasked _ tt c.requires.holds
 
-pub returns-in-Ok-Some-Receive-clause-faults : goal.returns-in-Ok-Some-Receive-clause-faults
-returns-in-Ok-Some-Receive-clause-faults g c = some_counted c.receive.result c.some_reply-in-Ok-Some-Receive.ensures c.receive.ensures.faults
+pub returns-in-Ok-Some-Receive-clause-kept : goal.returns-in-Ok-Some-Receive-clause-kept
+returns-in-Ok-Some-Receive-clause-kept g c = some_kept c.receive.result c.some_reply-in-Ok-Some-Receive.result c.some_reply-in-Ok-Some-Receive.ensures c.receive.ensures.kept
 
-pub returns-in-Ok-None-clause-faults : goal.returns-in-Ok-None-clause-faults
-returns-in-Ok-None-clause-faults g c = some_counted c.say_wrong-in-Ok-None.result c.some_reply-in-Ok-None.ensures (disk_unasked c.say_wrong-in-Ok-None.result c.say_wrong-in-Ok-None.ensures.memory)
+pub returns-in-Ok-None-clause-kept : goal.returns-in-Ok-None-clause-kept
+returns-in-Ok-None-clause-kept g c = some_kept c.say_wrong-in-Ok-None.result c.some_reply-in-Ok-None.result c.some_reply-in-Ok-None.ensures (unasked c.say_wrong-in-Ok-None.result c.say_wrong-in-Ok-None.ensures.memory c.requires.holds)
 
-pub returns-in-Err-clause-faults : goal.returns-in-Err-clause-faults
-returns-in-Err-clause-faults g c = disk_unasked _ refl
+pub returns-in-Err-clause-kept : goal.returns-in-Err-clause-kept
+returns-in-Err-clause-kept g c = ran_out

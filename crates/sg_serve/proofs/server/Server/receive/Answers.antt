@@ -5,7 +5,7 @@ use Rattle.sg_serve.specs.Served.{images_if}
 use Rattle.sg_serve.proofs.Asking.{holds_all}
 use Rattle.sg_serve.proofs.Lining.{wait_failed, wait_given}
 use Rattle.sg_serve.proofs.Replying.{none_called}
-use Rattle.sg_serve.proofs.Counting.{disk_unasked}
+use Rattle.sg_serve.proofs.Keeping.{ran_out, unasked}
 use Rattle.sg_serve.proofs.server.Server.receive.Goals as goal
 
 pub returns-in-Ok-clause-received : goal.returns-in-Ok-clause-received
@@ -25,8 +25,8 @@ returns-in-Err-OutOfMemory-clause-received g c = λ r st co.
     none_called (images_if (is_some sv.ledger) (g.D.Disk.may_leave c.args.disk.now)) r.serving (receipt true (is_some c.args.within) r).1
     (holds_all sv sv (g.D.Disk.may_leave c.args.disk.now) r.serving refl c.requires.holds st)
 
-pub returns-in-Err-Failed-clause-faults : goal.returns-in-Err-Failed-clause-faults
-returns-in-Err-Failed-clause-faults g c = disk_unasked c.say_failed.result c.say_failed.ensures.memory
+pub returns-in-Err-Failed-clause-kept : goal.returns-in-Err-Failed-clause-kept
+returns-in-Err-Failed-clause-kept g c = unasked c.say_failed.result c.say_failed.ensures.memory c.requires.holds
 
-pub returns-in-Err-OutOfMemory-clause-faults : goal.returns-in-Err-OutOfMemory-clause-faults
-returns-in-Err-OutOfMemory-clause-faults g c = disk_unasked _ refl
+pub returns-in-Err-OutOfMemory-clause-kept : goal.returns-in-Err-OutOfMemory-clause-kept
+returns-in-Err-OutOfMemory-clause-kept g c = ran_out

@@ -10,8 +10,7 @@ use Rattle.sg_serve.specs.Serving.{acts_by, calls, graph_at, of_session, replies
 use Rattle.sg_serve.specs.Representation.{HasReplied, Replied}
 use Rattle.sg_serve.proofs.Lining.{of_again, of_says, on_ok, replied_plain}
 use Rattle.sg_serve.proofs.Results.{applied}
-use Rattle.sg_play.proofs.Counting.{alone_same, no_fault}
-use Rattle.sg_serve.proofs.Counting.{disk_unasked}
+use Rattle.sg_serve.proofs.Keeping.{unasked, unasked_by}
 use Rattle.sg_serve.proofs.server.Server.reply.Goals as goal
 
 pub returns-in-Act-clause-replied : goal.returns-in-Act-clause-replied
@@ -74,23 +73,23 @@ returns-in-Id-clause-replied g c = λ s st w.
     (replied_plain sv sv (g.D.Disk.may_leave c.args.disk.now) s a c.id.result c.requires.holds st
     (applied c.id.result _ (λ (step : Step). HasReplied sv step a) (λ step h. h s st) c.id.ensures.replied))
 
-pub returns-in-Act-clause-faults : goal.returns-in-Act-clause-faults
-returns-in-Act-clause-faults g c = disk_unasked c.act.result c.act.ensures.memory
+pub returns-in-Act-clause-kept : goal.returns-in-Act-clause-kept
+returns-in-Act-clause-kept g c = unasked_by c.args.self.now c.act.new.self c.act.result c.act.ensures.memory c.requires.holds c.act.ensures.joins c.act.ensures.ledger
 
-pub returns-in-Abandon-clause-faults : goal.returns-in-Abandon-clause-faults
-returns-in-Abandon-clause-faults g c = disk_unasked c.abandon.result c.abandon.ensures.memory
+pub returns-in-Abandon-clause-kept : goal.returns-in-Abandon-clause-kept
+returns-in-Abandon-clause-kept g c = unasked_by c.args.self.now c.abandon.new.self c.abandon.result c.abandon.ensures.memory c.requires.holds c.abandon.ensures.joins c.abandon.ensures.ledger
 
-pub returns-in-Again-clause-faults : goal.returns-in-Again-clause-faults
-returns-in-Again-clause-faults g c = disk_unasked c.again.result c.again.ensures.memory
+pub returns-in-Again-clause-kept : goal.returns-in-Again-clause-kept
+returns-in-Again-clause-kept g c = unasked c.again.result c.again.ensures.memory c.requires.holds
 
-pub returns-in-Turn-clause-faults : goal.returns-in-Turn-clause-faults
-returns-in-Turn-clause-faults g c = disk_unasked c.turn.result c.turn.ensures.memory
+pub returns-in-Turn-clause-kept : goal.returns-in-Turn-clause-kept
+returns-in-Turn-clause-kept g c = unasked c.turn.result c.turn.ensures.memory c.requires.holds
 
-pub returns-in-Id-clause-faults : goal.returns-in-Id-clause-faults
-returns-in-Id-clause-faults g c = disk_unasked c.id.result c.id.ensures.memory
+pub returns-in-Id-clause-kept : goal.returns-in-Id-clause-kept
+returns-in-Id-clause-kept g c = unasked c.id.result c.id.ensures.memory c.requires.holds
 
-pub returns-in-Receive-clause-faults : goal.returns-in-Receive-clause-faults
-returns-in-Receive-clause-faults g c = alone_same refl (no_fault _)
+pub returns-in-Receive-clause-kept : goal.returns-in-Receive-clause-kept
+returns-in-Receive-clause-kept g c = unasked _ tt c.requires.holds
 
-pub returns-in-Quit-clause-faults : goal.returns-in-Quit-clause-faults
-returns-in-Quit-clause-faults g c = alone_same refl (no_fault _)
+pub returns-in-Quit-clause-kept : goal.returns-in-Quit-clause-kept
+returns-in-Quit-clause-kept g c = unasked _ tt c.requires.holds

@@ -29,13 +29,13 @@ returns-in-Ok-Some-clause-answered g c = λ r start st a.
     let line = found_line (option_copied c.args.line) in
     let came : HasAnswer c.answer.new.self random mid.coming old.failed mid.failed r line c.in-Ok-Some.reply = (rw c.in-Ok-Some.field-0-is at c.in-Ok-Some.ensures.answered) r st a.random_left a.coming in
     wrote_part start old mid _ random (images_if (is_some c.args.self.now.ledger) leaves) c.answer.new.self r line c.in-Ok-Some.reply a.gave refl c.answer.ensures.sent c.answer.ensures.link_falls came c.in-Err-give.fault c.in-Err-give.ensures.causes
-    (holds_all c.answer.new.self c.args.self.now leaves came.reply.0 c.in-Ok-Some.ensures.same c.in-Ok-Some.ensures.holds came.replied.represents) c.in-Err-give.ensures.is_out
+    (holds_all c.answer.new.self c.args.self.now leaves came.reply.0 c.in-Ok-Some.ensures.kept.same c.in-Ok-Some.ensures.kept.holds came.replied.represents) c.in-Err-give.ensures.is_out
 
 pub returns-in-Ok-clause-faults : goal.returns-in-Ok-clause-faults
 returns-in-Ok-clause-faults g c = record {
   link_falls = le_trans c.answer.ensures.link_falls c.in-Ok.ensures.is_out.falls;
   out = alone_went true c.in-Ok.ensures.faults;
-  disk = alone_went true c.in-Ok-Some.ensures.faults;
+  disk = alone_went true c.in-Ok-Some.ensures.kept.faults;
 }
 
 pub returns-in-Ok-Some-clause-faults : goal.returns-in-Ok-Some-clause-faults
@@ -44,11 +44,11 @@ returns-in-Ok-Some-clause-faults g c =
     record {
       link_falls = le_trans c.answer.ensures.link_falls c.in-Err-give.ensures.is_out.falls;
       out = alone_passed refl c.in-Err-give.ensures.faults;
-      disk = alone_same (c.in-Ok-Some.ensures.faults.same (no_fault _)) (other_fault refl (λ e. absurd (cc)));
+      disk = alone_same (c.in-Ok-Some.ensures.kept.faults.same (no_fault _)) (other_fault refl (λ e. absurd (cc)));
     }
 
 pub returns-in-Ok-None-clause-faults : goal.returns-in-Ok-None-clause-faults
-returns-in-Ok-None-clause-faults g c = record { link_falls = c.answer.ensures.link_falls; out = alone_same refl (no_fault _); disk = alone_went false c.in-Ok-None.ensures.faults }
+returns-in-Ok-None-clause-faults g c = record { link_falls = c.answer.ensures.link_falls; out = alone_same refl (no_fault _); disk = alone_went false c.in-Ok-None.ensures.kept.faults }
 
 pub returns-clause-faults : goal.returns-clause-faults
-returns-clause-faults g c = record { link_falls = c.answer.ensures.link_falls; out = alone_same refl (other_fault refl (not_write c.in-Err.ensures.causes)); disk = alone_passed refl c.in-Err.ensures.faults }
+returns-clause-faults g c = record { link_falls = c.answer.ensures.link_falls; out = alone_same refl (other_fault refl (not_write c.in-Err.ensures.kept.causes)); disk = alone_passed refl c.in-Err.ensures.kept.faults }

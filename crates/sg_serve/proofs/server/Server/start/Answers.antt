@@ -11,7 +11,7 @@ use Rattle.sg_serve.specs.Serving.{calls, less, starts}
 use Rattle.sg_serve.proofs.Asking.{asked_node, has_called, holds_all, ledger_has}
 use Rattle.sg_serve.proofs.Calling.{less_represents, no_start, starts_is}
 use Rattle.sg_serve.proofs.Replying.{none_called, replied_as, replied_so, said_as}
-use Rattle.sg_serve.proofs.Counting.{disk_unasked}
+use Rattle.sg_serve.proofs.Keeping.{ran_out, unasked}
 use Rattle.sg_serve.proofs.server.Server.start.Goals as goal
 
 pub returns-then-is_none-clause-replied : goal.returns-then-is_none-clause-replied
@@ -49,8 +49,8 @@ returns-in-Err-clause-replied g c = λ s st w.
     let leaves = g.D.Disk.may_leave c.args.disk.now in
     none_called (images_if (is_some sv.ledger) leaves) s (starts s c.args.start_of.now) (holds_all sv sv leaves s refl c.requires.holds st)
 
-pub returns-then-is_none-clause-faults : goal.returns-then-is_none-clause-faults
-returns-then-is_none-clause-faults g c = disk_unasked c.say_wrong.result c.say_wrong.ensures.memory
+pub returns-then-is_none-clause-kept : goal.returns-then-is_none-clause-kept
+returns-then-is_none-clause-kept g c = unasked c.say_wrong.result c.say_wrong.ensures.memory c.requires.holds
 
-pub returns-in-Err-clause-faults : goal.returns-in-Err-clause-faults
-returns-in-Err-clause-faults g c = disk_unasked _ refl
+pub returns-in-Err-clause-kept : goal.returns-in-Err-clause-kept
+returns-in-Err-clause-kept g c = ran_out

@@ -6,7 +6,7 @@ use Rattle.sg_serve.specs.Served.{images_if}
 use Rattle.sg_serve.specs.Serving.{calls, takes}
 use Rattle.sg_serve.proofs.Asking.{asked_node, has_called, holds_all, ledger_has}
 use Rattle.sg_serve.proofs.Replying.{none_called, replied_as, replied_so, said_as}
-use Rattle.sg_serve.proofs.Counting.{disk_unasked}
+use Rattle.sg_serve.proofs.Keeping.{ran_out, unasked}
 use Rattle.sg_serve.proofs.server.Server.take.Goals as goal
 
 pub returns-in_default-clause-replied : goal.returns-in_default-clause-replied
@@ -39,8 +39,8 @@ returns-clause-replied g c = λ s st.
     let leaves = g.D.Disk.may_leave c.args.disk.now in
     none_called (images_if (is_some sv.ledger) leaves) s (takes s (option_map (λ bytes. bytes.items) c.args.found)) (holds_all sv sv leaves s refl c.requires.holds st)
 
-pub returns-in_default-clause-faults : goal.returns-in_default-clause-faults
-returns-in_default-clause-faults g c = disk_unasked c.say_quiet.result c.say_quiet.ensures.memory
+pub returns-in_default-clause-kept : goal.returns-in_default-clause-kept
+returns-in_default-clause-kept g c = unasked c.say_quiet.result c.say_quiet.ensures.memory c.requires.holds
 
-pub returns-clause-faults : goal.returns-clause-faults
-returns-clause-faults g c = disk_unasked _ refl
+pub returns-clause-kept : goal.returns-clause-kept
+returns-clause-kept g c = ran_out
