@@ -1,35 +1,18 @@
 -- The text of a block, line by line.
-use Rattle.std.proofs.Common.{◌≡◌, ℕ, ◌+◌, ◌==◌, ◌≤◌, Bool, true, false, List, [], ◌∷◌, ◌++◌, length, take, Some, None, Ok, Err, Result, refl, sym, ap, ◌∙◌, arith, append_assoc, append-nil, length-append, if◌then◌else◌}
+use Rattle.std.proofs.Common.{◌≡◌, ℕ, ◌+◌, ◌≤◌, true, false, List, [], ◌∷◌, ◌++◌, length, take, Some, None, Ok, Err, Result, refl, sym, ap, ◌∙◌, arith, append_assoc, append-nil, length-append}
 use Rattle.std.specs.Prelude.{Option, option_map, is_err, not, codes}
-use Rattle.std.specs.List.{concat, onto_first}
+use Rattle.std.specs.List.{concat}
 use Rattle.std.proofs.lemmas.Bool.{not-false}
 use Rattle.sg_protocol.specs.Graph.{Graph}
-use Rattle.sg_parse.specs.Reading.{Parsed, on, after, give, whole, statement, up_to, read as parsed, read_beginning, read_head, read_role, read_variables, read_nodes, read_edges, read_statements, read_text, read_end}
+use Rattle.sg_parse.specs.Reading.{Parsed, on, after, give, whole, statement, up_to, read as parsed, read_beginning, read_head, read_role, read_variables, read_nodes, read_edges, read_statements, read_end}
 use Rattle.sg_parse.specs.Tokens.{tokens}
 use Rattle.sg_parse.specs.declared.fault.ParseFault.{ParseFault}
 use Rattle.sg_sched.specs.Text.{lines}
+use Rattle.sg_sched.proofs.TextLaws.{joined, take_prefix}
 use Rattle.sg_sched.specs.Format.Spells.{Line, closes}
 use Rattle.sg_audit.specs.Read.{begins_block, begins_graph, block_text, first_block, read_block, with_graph}
 use Rattle.sg_audit.specs.Spells.{WrongLine}
 use Rattle.sg_audit.specs.declared.fault.Mistake.TheVariants.{Form}
-
--- ---- joined lines
-
-onto : (c : ℕ) (ls : List Line) → concat (onto_first c ls) ≡ c ∷ concat ls
-onto c [] = refl
-onto c (l ∷ ls) = refl
-
-joined : (bytes : List ℕ) → concat (lines bytes) ≡ bytes
-joined [] = refl
-joined (c ∷ cs) = by (c == 10) (joined cs)
-  where
-    by : (b : Bool) → concat (lines cs) ≡ cs → concat (if b then (c ∷ []) ∷ lines cs else onto_first c (lines cs)) ≡ c ∷ cs
-    by true h = ap (λ xs. c ∷ xs) h
-    by false h = onto c (lines cs) ∙ ap (λ xs. c ∷ xs) h
-
-take_prefix : (xs ys : List ℕ) → take (length xs) (xs ++ ys) ≡ xs
-take_prefix [] ys = refl
-take_prefix (x ∷ xs) ys = ap (λ zs. x ∷ zs) (take_prefix xs ys)
 
 -- ---- a search
 

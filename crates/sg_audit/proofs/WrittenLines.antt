@@ -14,7 +14,7 @@ use Rattle.sg_graph.specs.Parts.{variable_names, edge_names}
 use Rattle.sg_sched.specs.Format.LineContents.{Word}
 use Rattle.sg_sched.specs.Format.Values.{spelled_value, is_value, value_of}
 use Rattle.sg_sched.specs.Format.Reading.{word, after, ended}
-use Rattle.sg_sched.proofs.FormLaws.{none_some, step, ended_is, line_up, name_ok}
+use Rattle.sg_sched.proofs.FormLaws.{none_some, step, ended_is, line_up, tested_is, name_ok}
 use Rattle.sg_sched.proofs.FormatWords.{both}
 use Rattle.sg_sched.proofs.NumberLaws.{number_is, number_ok}
 use Rattle.sg_audit.specs.LineContents.{Assignments, StepContent, LogContent, SessionLine, LogHeadLine, EventLine, WalkLine, numbered}
@@ -27,11 +27,7 @@ use Rattle.sg_audit.proofs.WrittenWalks.{steps_are, steps_ok}
 
 name_is : (w n : Word) → name w ≡ Some n → (w ≡ n) × (is_name n ≡ true)
 unfolding name
-name_is w n h = by (is_name w) refl h
-  where
-    by : (b : Bool) → is_name w ≡ b → (if b then Some w else None) ≡ Some n → (w ≡ n) × (is_name n ≡ true)
-    by true e h = (some_same h, subst (λ v. is_name v ≡ true) (some_same h) e)
-    by false e h = none_some h
+name_is w n h = tested_is is_name w n h
 
 -- a time, as its digits are written
 abbrev pub is_time : ℕ → Bool

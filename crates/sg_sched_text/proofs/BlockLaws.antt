@@ -1,32 +1,17 @@
 -- Lines up to the end of a block, one after the other.
-use Rattle.std.proofs.Common.{◌≡◌, ℕ, ◌+◌, ◌≤◌, ◌==◌, Bool, true, false, not, ◌&&◌, List, [], ◌∷◌, ◌++◌, length, take, refl, sym, ap, ◌∙◌, subst, arith, append_assoc, append-nil, if◌then◌else◌}
-use Rattle.std.specs.List.{list_all, concat, onto_first}
+use Rattle.std.proofs.Common.{◌≡◌, ℕ, ◌+◌, ◌≤◌, Bool, true, false, not, ◌&&◌, List, [], ◌∷◌, ◌++◌, length, take, refl, sym, ap, ◌∙◌, subst, arith, append_assoc, append-nil}
+use Rattle.std.specs.List.{list_all, concat}
 use Rattle.std.proofs.lemmas.List.{length-append}
 use Rattle.sg_sched.specs.Text.{lines}
+use Rattle.sg_sched.proofs.TextLaws.{joined, take_prefix}
 use Rattle.sg_sched.specs.Format.Spells.{Line, closes}
 use Rattle.sg_sched_text.specs.Block.{IsOpen, IsClosed}
 
 -- ---- joined lines
 
-onto : (c : ℕ) (ls : List Line) → concat (onto_first c ls) ≡ c ∷ concat ls
-onto c [] = refl
-onto c (l ∷ ls) = refl
-
-pub joined : (bytes : List ℕ) → concat (lines bytes) ≡ bytes
-joined [] = refl
-joined (c ∷ cs) = by (c == 10) (joined cs)
-  where
-    by : (b : Bool) → concat (lines cs) ≡ cs → concat (if b then (c ∷ []) ∷ lines cs else onto_first c (lines cs)) ≡ c ∷ cs
-    by true h = ap (λ xs. c ∷ xs) h
-    by false h = onto c (lines cs) ∙ ap (λ xs. c ∷ xs) h
-
 concat_append : (xs ys : List Line) → concat (xs ++ ys) ≡ concat xs ++ concat ys
 concat_append [] ys = refl
 concat_append (x ∷ xs) ys = ap (λ zs. x ++ zs) (concat_append xs ys) ∙ sym (append_assoc x (concat xs) (concat ys))
-
-take_prefix : (xs ys : List ℕ) → take (length xs) (xs ++ ys) ≡ xs
-take_prefix [] ys = refl
-take_prefix (x ∷ xs) ys = ap (λ zs. x ∷ zs) (take_prefix xs ys)
 
 open_more : (c d e : Bool) → (c && d) ≡ true → (d ≡ true → e ≡ true) → (c && e) ≡ true
 open_more true d e h next = next h

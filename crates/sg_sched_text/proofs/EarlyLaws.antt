@@ -1,13 +1,13 @@
 -- What is known of a line that takes no memory.
-use Rattle.std.proofs.Common.{◌≡◌, ℕ, true, false, List, [], ◌∷◌, length, Some, Ok, Err, sym, ap, ◌∙◌}
+use Rattle.std.proofs.Common.{◌≡◌, ℕ, true, false, List, [], ◌∷◌, length, Some, Ok, Err, refl, sym, ap, ◌∙◌}
 use Rattle.std.specs.Prelude.{IsNone, Result}
-use Rattle.sg_model.proofs.Small.{first_false, second_false}
+use Rattle.sg_model.proofs.Small.{clash, first_false, second_false}
 use Rattle.sg_sched.specs.Text.{content, lines, words}
 use Rattle.sg_sched.specs.Format.Early.{line_beginning}
 use Rattle.sg_sched.specs.Format.Form.{form}
 use Rattle.sg_sched.specs.Format.Forms.{is_skipped}
 use Rattle.sg_sched.specs.Format.Items.{SoFar}
-use Rattle.sg_sched.specs.Format.LineContents.{LineContent}
+use Rattle.sg_sched.specs.Format.LineContents.{LineContent, BlockLine}
 use Rattle.sg_sched.specs.Format.Spells.{Line}
 use Rattle.sg_sched.specs.declared.fault.LineFault.{LineFault}
 use Rattle.sg_sched_text.specs.Early.{begins_late, is_kept, is_said, takes_memory}
@@ -34,6 +34,10 @@ module _ (past : SoFar) (all : List Line) (line : Line) (ls : List Line) (split 
   -- what it says isn't kept
   pub not_kept : is_skipped line ≡ false → (s : LineContent) → Some s ≡ form (words (content line)) → is_kept past s ≡ false
   not_kept skip s e = ap (is_said past) e ∙ second_false _ (is_said past (form (words (content line)))) (no_memory skip)
+
+  -- a block begins, which takes memory
+  pub block_late : {A : Type 0} → is_skipped line ≡ false → Some BlockLine ≡ form (words (content line)) → A
+  block_late skip said = clash (is_kept past BlockLine) refl (not_kept skip BlockLine said)
 
 -- the fault that is given
 abbrev fault_of : {A : Type 0} → LineFault → Result A LineFault → LineFault

@@ -1,10 +1,10 @@
 -- What is declared after one item more, and what a line of a form that is taken adds.
 use Rattle.std.proofs.Common.{◌≡◌, List, [], ◌∷◌, ◌++◌, max, refl, sym, ap, ◌∙◌, append-nil}
-use Rattle.std.specs.Prelude.{Option, Some, None, Ok, Err, filter_map, fold}
+use Rattle.std.specs.Prelude.{Option, Some, None, Ok, Err, filter_map}
 use Rattle.std.proofs.lemmas.List.Elements.{filter_map-append}
 use Rattle.std.proofs.lemmas.List.Sums.{fold_push}
 use Rattle.sg_sched.specs.Format.LineContents.{LineContent, BlockLine, EdgeLine, HonestLine, KeyLine, SessionLine, StartLine, ActLine, AbandonLine, DeliverLine, MakeLine}
-use Rattle.sg_sched.specs.Format.Items.{Item, GraphItem, EdgeItem, HonestItem, KeyItem, SessionItem, StepItem, SoFar, so_far, group_of, as_block, as_edge, as_honest, as_key, as_session, as_step}
+use Rattle.sg_sched.specs.Format.Items.{Item, GraphItem, EdgeItem, HonestItem, KeyItem, SessionItem, StepItem, SoFar, so_far, last_group, blocks, edges, honest, keys, sessions, steps, group_of, as_block, as_edge, as_honest, as_key, as_session, as_step}
 use Rattle.sg_sched.specs.Format.Kinds.{Kind}
 use Rattle.sg_sched.specs.Format.Numbered.{made}
 use Rattle.sg_sched.specs.Format.Faults.{fault}
@@ -13,71 +13,48 @@ use Rattle.sg_sched_text.specs.Adding.{added, after_line}
 
 -- ---- one item more
 
-module _ (items : List Item) (i : Item) where
-  none : {B : Type 0} (pick : Item → Option B) → filter_map pick (i ∷ []) ≡ [] → filter_map pick (items ++ i ∷ []) ≡ filter_map pick items
-  none pick e = filter_map-append pick items (i ∷ []) ∙ ap (λ xs. filter_map pick items ++ xs) e ∙ append-nil (filter_map pick items)
+-- the elements, and those behind them, if there are any
+abbrev followed : {B : Type 0} → List B → List B → List B
+followed xs [] = xs
+followed xs (b ∷ bs) = xs ++ b ∷ bs
 
-  some : {B : Type 0} (pick : Item → Option B) (b : B) → filter_map pick (i ∷ []) ≡ b ∷ [] → filter_map pick (items ++ i ∷ []) ≡ filter_map pick items ++ b ∷ []
-  some pick b e = filter_map-append pick items (i ∷ []) ∙ ap (λ xs. filter_map pick items ++ xs) e
+is_followed : {B : Type 0} (xs ys : List B) → xs ++ ys ≡ followed xs ys
+is_followed xs [] = append-nil xs
+is_followed xs (b ∷ bs) = refl
 
-  group : fold (λ n i. max n (group_of i)) 0 (items ++ i ∷ []) ≡ max (fold (λ n i. max n (group_of i)) 0 items) (group_of i)
-  group = fold_push (λ n i. max n (group_of i)) 0 items i
+picked : {B : Type 0} (pick : Item → Option B) (items : List Item) (i : Item) → filter_map pick (items ++ i ∷ []) ≡ followed (filter_map pick items) (filter_map pick (i ∷ []))
+picked pick items i = filter_map-append pick items (i ∷ []) ∙ is_followed (filter_map pick items) (filter_map pick (i ∷ []))
+
+-- of each kind, what there was and what the item is
+abbrev grown : List Item → Item → SoFar
+grown items i = record {
+  group = max (last_group items) (group_of i);
+  blocks = followed (blocks items) (blocks (i ∷ []));
+  edges = followed (edges items) (edges (i ∷ []));
+  honest = followed (honest items) (honest (i ∷ []));
+  keys = followed (keys items) (keys (i ∷ []));
+  sessions = followed (sessions items) (sessions (i ∷ []));
+  steps = followed (steps items) (steps (i ∷ []));
+}
+
+so_far_grown : (items : List Item) (i : Item) → so_far (items ++ i ∷ []) ≡ grown items i
+so_far_grown items i = λ k. record {
+  group = fold_push (λ n i. max n (group_of i)) 0 items i k;
+  blocks = picked as_block items i k;
+  edges = picked as_edge items i k;
+  honest = picked as_honest items i k;
+  keys = picked as_key items i k;
+  sessions = picked as_session items i k;
+  steps = picked as_step items i k;
+}
 
 pub one_more : (items : List Item) (i : Item) → so_far (items ++ i ∷ []) ≡ plus (so_far items) i
-one_more items (GraphItem g) = let i = GraphItem g in λ k. record {
-  group = group items i k;
-  blocks = some items i as_block g refl k;
-  edges = none items i as_edge refl k;
-  honest = none items i as_honest refl k;
-  keys = none items i as_key refl k;
-  sessions = none items i as_session refl k;
-  steps = none items i as_step refl k;
-}
-one_more items (EdgeItem e) = let i = EdgeItem e in λ k. record {
-  group = group items i k;
-  blocks = none items i as_block refl k;
-  edges = some items i as_edge e refl k;
-  honest = none items i as_honest refl k;
-  keys = none items i as_key refl k;
-  sessions = none items i as_session refl k;
-  steps = none items i as_step refl k;
-}
-one_more items (HonestItem who) = let i = HonestItem who in λ k. record {
-  group = group items i k;
-  blocks = none items i as_block refl k;
-  edges = none items i as_edge refl k;
-  honest = some items i as_honest who refl k;
-  keys = none items i as_key refl k;
-  sessions = none items i as_session refl k;
-  steps = none items i as_step refl k;
-}
-one_more items (KeyItem key) = let i = KeyItem key in λ k. record {
-  group = group items i k;
-  blocks = none items i as_block refl k;
-  edges = none items i as_edge refl k;
-  honest = none items i as_honest refl k;
-  keys = some items i as_key key refl k;
-  sessions = none items i as_session refl k;
-  steps = none items i as_step refl k;
-}
-one_more items (SessionItem s) = let i = SessionItem s in λ k. record {
-  group = group items i k;
-  blocks = none items i as_block refl k;
-  edges = none items i as_edge refl k;
-  honest = none items i as_honest refl k;
-  keys = none items i as_key refl k;
-  sessions = some items i as_session s refl k;
-  steps = none items i as_step refl k;
-}
-one_more items (StepItem s) = let i = StepItem s in λ k. record {
-  group = group items i k;
-  blocks = none items i as_block refl k;
-  edges = none items i as_edge refl k;
-  honest = none items i as_honest refl k;
-  keys = none items i as_key refl k;
-  sessions = none items i as_session refl k;
-  steps = some items i as_step s refl k;
-}
+one_more items (GraphItem g) = so_far_grown items (GraphItem g)
+one_more items (EdgeItem e) = so_far_grown items (EdgeItem e)
+one_more items (HonestItem who) = so_far_grown items (HonestItem who)
+one_more items (KeyItem k) = so_far_grown items (KeyItem k)
+one_more items (SessionItem s) = so_far_grown items (SessionItem s)
+one_more items (StepItem s) = so_far_grown items (StepItem s)
 
 -- ---- lines that are taken
 

@@ -97,13 +97,9 @@ meant Nothing = record {
   blocks = tt;
   edges = record { labels = refl; ends = tt; few = omega arith };
   names = refl;
-  honest = refl;
-  are_names = refl;
-  keys = tt;
-  pairs = λ i j d l k. absurd (omega (arith, l, k));
-  steps = tt;
-  few = omega arith;
-  none_yet = λ h. refl;
+  honest = record { differ = refl; named = refl };
+  keys = record { each = tt; apart = λ i j d l k. absurd (omega (arith, l, k)) };
+  steps = record { fit = tt; few = omega arith; none_yet = λ h. refl };
 }
 meant (Next {first = first} {more = more} {items = items} {new = new} d a) = added items more new a (meant d)
   where
@@ -226,20 +222,20 @@ module _ (p : SoFar) (m : Meant p) where
   meant_schedule = record {
     are_graphs = All-from_recursion IsGraph gs (all_graphs p m);
     graph_names = m.names;
-    honest_names = (λ i. m.honest i && m.are_names i);
-    keys = All-from_recursion IsPairKey p.keys m.keys;
-    pairs = m.pairs;
+    honest_names = (λ i. m.honest.differ i && m.honest.named i);
+    keys = All-from_recursion IsPairKey p.keys m.keys.each;
+    pairs = m.keys.apart;
     sessions = All-from_recursion (IsDeclared real gs) (map (declared real gs) p.sessions) (declared_are p.sessions m.sound.sessions);
-    steps = All-from_recursion (IsStep real s) p.steps (all_weaker (FitsStep p.sessions) (IsStep real s) (step_is s refl refl) p.steps m.steps);
+    steps = All-from_recursion (IsStep real s) p.steps (all_weaker (FitsStep p.sessions) (IsStep real s) (step_is s refl refl) p.steps m.steps.fit);
   }
 
   pub meant_whole : IsMeant s
   meant_whole = record {
     schedule = meant_schedule;
     roles = All-from_recursion HasRoles gs (all_weaker HasFewRoles HasRoles (λ g h. h.some) gs m.sound.graphs);
-    few = m.few;
+    few = m.steps.few;
     steps = All-from_recursion (λ x. (t : Schedule) → SameDeclared s t → CanBeTaken t x) p.steps
-        (all_weaker (FitsStep p.sessions) (λ x. (t : Schedule) → SameDeclared s t → CanBeTaken t x) (λ x f t d. can_be_taken t (sym d.graphs) (sym d.sessions) x f) p.steps m.steps);
+        (all_weaker (FitsStep p.sessions) (λ x. (t : Schedule) → SameDeclared s t → CanBeTaken t x) (λ x f t d. can_be_taken t (sym d.graphs) (sym d.sessions) x f) p.steps m.steps.fit);
   }
 
 -- what bytes spell is meant

@@ -58,19 +58,31 @@ FitsStep ss other = ⊤
 abbrev pub Apart : PairKey → PairKey → Type 0
 Apart j k = ((j.one ≢ k.one) ⊎ (j.two ≢ k.two)) × ((j.one ≢ k.two) ⊎ (j.two ≢ k.one))
 
+-- what is held of honest principals
+pub record AreHonest (honest : List Name) : Type 0 where
+  pub differ : all_differ honest ≡ true
+  pub named : list_all is_name honest ≡ true
+
+-- what is held of keys
+pub record AreKeys (keys : List PairKey) : Type 0 where
+  pub each : AllByRecursion IsPairKey keys
+  pub apart : AllPairs Apart keys
+
+-- what is held of steps, of which there is none before their group has begun
+pub record AreSteps (group : ℕ) (ss : List Session) (steps : List Step) : Type 0 where
+  pub fit : AllByRecursion (FitsStep ss) steps
+  pub few : length steps ≤ most_steps
+  pub none_yet : group ≤ 3 → steps ≡ []
+
 -- what is held of all that is declared
 pub record Meant (p : SoFar) : Type 0 where
   pub sound : Sound p
   pub blocks : AllByRecursion IsGraph p.blocks
   pub edges : AreEdges p.edges
   pub names : all_differ (graph_names (graphs_declared p)) ≡ true
-  pub honest : all_differ p.honest ≡ true
-  pub are_names : list_all is_name p.honest ≡ true
-  pub keys : AllByRecursion IsPairKey p.keys
-  pub pairs : AllPairs Apart p.keys
-  pub steps : AllByRecursion (FitsStep p.sessions) p.steps
-  pub few : length p.steps ≤ most_steps
-  pub none_yet : p.group ≤ 3 → p.steps ≡ []
+  pub honest : AreHonest p.honest
+  pub keys : AreKeys p.keys
+  pub steps : AreSteps p.group p.sessions p.steps
 
 -- ---- lists
 
@@ -100,6 +112,10 @@ nothing_of : (ss : List Session) (steps : List Step) → steps ≡ [] → AllByR
 nothing_of ss [] e = tt
 nothing_of ss (s ∷ steps) e = absurd (cc)
 
+-- before their group there are none, whatever else is declared
+no_steps : {old new : ℕ} {ss ts : List Session} {steps : List Step} → AreSteps old ss steps → old ≤ 3 → AreSteps new ts steps
+no_steps {ts = ts} {steps = steps} a early = let none = a.none_yet early in record { fit = nothing_of ts steps none; few = a.few; none_yet = λ h. none }
+
 -- the names of all graphs with an edge more
 edge_names : (p : SoFar) (es : List Edge) (e : Edge) → p.edges ≡ es → all_differ (graph_names (graphs_declared p)) ≡ true
     → has_text (codes "pair") (graph_names p.blocks) ≡ false → all_differ (graph_names (p.blocks ++ graphs_of (es ++ e ∷ []))) ≡ true
@@ -113,7 +129,6 @@ edge_names p (f ∷ es) e q d h =
 module _ (p : SoFar) (m : Meant p) where
   pub graph_meant : (g : Graph) → p.group ≤ 0 → Sound (plus p (GraphItem g)) → IsGraph g → has_text g.name (graph_names (graphs_declared p)) ≡ false → Meant (plus p (GraphItem g))
   graph_meant g early sound is fresh =
-      let none : p.steps ≡ [] = m.none_yet (omega (arith, early)) in
       let pair = graphs_of p.edges in
       let apart = names_append p.blocks pair in
       record {
@@ -123,12 +138,8 @@ module _ (p : SoFar) (m : Meant p) where
         names = ap all_differ (names_append (p.blocks ++ g ∷ []) pair ∙ ap (λ ns. ns ++ graph_names pair) (names_append p.blocks (g ∷ [])))
             ∙ differ_middle (graph_names p.blocks) g.name (graph_names pair) (sym (ap all_differ apart) ∙ m.names) (sym (ap (has_text g.name) apart) ∙ fresh);
         honest = m.honest;
-        are_names = m.are_names;
         keys = m.keys;
-        pairs = m.pairs;
-        steps = nothing_of p.sessions p.steps none;
-        few = m.few;
-        none_yet = λ h. none;
+        steps = no_steps m.steps (omega (arith, early));
       }
 
   pub edge_meant : (label : Name) (from to : ℕ) → is_form (EdgeLine label from to) ≡ true → IsRight p (EdgeLine label from to)
@@ -138,7 +149,6 @@ module _ (p : SoFar) (m : Meant p) where
       let f = or_parts (nat_lt 0 p.group) (nat_le 512 (length p.edges)) r.form in
       let o = or_parts (has_text label (map (λ (e : Edge). e.name) p.edges)) (has_text (codes "pair") (graph_names p.blocks)) r.once in
       let early = in_group p 0 f.0 in
-      let none : p.steps ≡ [] = m.none_yet (omega (arith, early)) in
       let a = is_name label && not (has_text label reserved) in
       let p4 = and_parts (a && nat_le from 255 && nat_le to 255) _ form in
       let p3 = and_parts (a && nat_le from 255) (nat_le to 255) p4.0 in
@@ -161,12 +171,8 @@ module _ (p : SoFar) (m : Meant p) where
         };
         names = edge_names p p.edges e refl m.names o.1;
         honest = m.honest;
-        are_names = m.are_names;
         keys = m.keys;
-        pairs = m.pairs;
-        steps = nothing_of p.sessions p.steps none;
-        few = m.few;
-        none_yet = λ h. none;
+        steps = no_steps m.steps (omega (arith, early));
       }
     where
       below_of : (b : Bool) → nat_le 512 (length p.edges) ≡ b → b ≡ false → length p.edges < 512
@@ -176,19 +182,14 @@ module _ (p : SoFar) (m : Meant p) where
   pub honest_meant : (who : Name) → is_form (HonestLine who) ≡ true → IsRight p (HonestLine who) → Sound (plus p (HonestItem who)) → Meant (plus p (HonestItem who))
   honest_meant who form r sound =
       let early = in_group p 1 r.form in
-      let none : p.steps ≡ [] = m.none_yet (omega (arith, early)) in
       record {
         sound = sound;
         blocks = m.blocks;
         edges = m.edges;
         names = m.names;
-        honest = all_differ-append p.honest who m.honest r.once;
-        are_names = list_all-append is_name p.honest (who ∷ []) ∙ (λ i. m.are_names i && (form i && true));
+        honest = record { differ = all_differ-append p.honest who m.honest.differ r.once; named = list_all-append is_name p.honest (who ∷ []) ∙ (λ i. m.honest.named i && (form i && true)) };
         keys = m.keys;
-        pairs = m.pairs;
-        steps = nothing_of p.sessions p.steps none;
-        few = m.few;
-        none_yet = λ h. none;
+        steps = no_steps m.steps (omega (arith, early));
       }
 
   -- no earlier key is of the pair
@@ -215,7 +216,6 @@ module _ (p : SoFar) (m : Meant p) where
       → (k : PairKey) → k ≡ record { one = one; two = two; key = bytes_of digits } → Sound (plus p (KeyItem k)) → Meant (plus p (KeyItem k))
   key_meant one two digits form r k e sound =
       let early = in_group p 2 r.form in
-      let none : p.steps ≡ [] = m.none_yet (omega (arith, early)) in
       let a = and_parts (is_name one && is_name two && not (bytes_eq one two)) _ form in
       let b = and_parts (is_name one && is_name two) (not (bytes_eq one two)) a.0 in
       record {
@@ -224,30 +224,15 @@ module _ (p : SoFar) (m : Meant p) where
         edges = m.edges;
         names = m.names;
         honest = m.honest;
-        are_names = m.are_names;
-        keys = all-append IsPairKey p.keys (k ∷ []) m.keys (subst IsPairKey (sym e) ((λ s. contradicts b.1 (ap not (bytes_same one two s))), key_is digits a.1), tt);
-        pairs = all_pairs_push Apart p.keys k m.pairs (λ i d l. subst (Apart (get_or p.keys i d)) (sym e) (others one two (bytes_of digits) p.keys r.once i d l));
-        steps = nothing_of p.sessions p.steps none;
-        few = m.few;
-        none_yet = λ h. none;
+        keys = record {
+          each = all-append IsPairKey p.keys (k ∷ []) m.keys.each (subst IsPairKey (sym e) ((λ s. contradicts b.1 (ap not (bytes_same one two s))), key_is digits a.1), tt);
+          apart = all_pairs_push Apart p.keys k m.keys.apart (λ i d l. subst (Apart (get_or p.keys i d)) (sym e) (others one two (bytes_of digits) p.keys r.once i d l));
+        };
+        steps = no_steps m.steps (omega (arith, early));
       }
 
   pub session_meant : (s : Session) → p.group ≤ 3 → Sound (plus p (SessionItem s)) → Meant (plus p (SessionItem s))
-  session_meant s early sound =
-      let none : p.steps ≡ [] = m.none_yet early in
-      record {
-        sound = sound;
-        blocks = m.blocks;
-        edges = m.edges;
-        names = m.names;
-        honest = m.honest;
-        are_names = m.are_names;
-        keys = m.keys;
-        pairs = m.pairs;
-        steps = nothing_of (p.sessions ++ s ∷ []) p.steps none;
-        few = m.few;
-        none_yet = λ h. none;
-      }
+  session_meant s early sound = record { sound = sound; blocks = m.blocks; edges = m.edges; names = m.names; honest = m.honest; keys = m.keys; steps = no_steps m.steps early }
 
   pub step_meant : (s : Step) → length p.steps < most_steps → FitsStep p.sessions s → Sound (plus p (StepItem s)) → Meant (plus p (StepItem s))
   step_meant s room fits sound = record {
@@ -256,10 +241,10 @@ module _ (p : SoFar) (m : Meant p) where
     edges = m.edges;
     names = m.names;
     honest = m.honest;
-    are_names = m.are_names;
     keys = m.keys;
-    pairs = m.pairs;
-    steps = all-append (FitsStep p.sessions) p.steps (s ∷ []) m.steps (fits, tt);
-    few = (let l = length-append p.steps (s ∷ []) in omega (arith, l, room));
-    none_yet = λ h. absurd (omega (arith, h));
+    steps = record {
+      fit = all-append (FitsStep p.sessions) p.steps (s ∷ []) m.steps.fit (fits, tt);
+      few = (let l = length-append p.steps (s ∷ []) in omega (arith, l, room));
+      none_yet = λ h. absurd (omega (arith, h));
+    };
   }

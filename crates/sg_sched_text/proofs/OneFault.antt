@@ -1,5 +1,5 @@
 -- Bytes have one first fault at most, and none if they spell a schedule.
-use Rattle.std.proofs.Common.{◌≡◌, ℕ, suc, ◌+◌, Bool, true, false, not, ◌||◌, List, [], ◌∷◌, ◌++◌, length, refl, sym, ap, ◌∙◌, subst, append_assoc, append-nil}
+use Rattle.std.proofs.Common.{◌≡◌, ℕ, suc, ◌+◌, Bool, true, false, ◌||◌, List, [], ◌∷◌, ◌++◌, length, refl, sym, ap, ◌∙◌, subst, append_assoc, append-nil}
 use Rattle.std.specs.Prelude.{Option, Some, None, Result, Err, codes, bytes_eq}
 use Rattle.std.proofs.lemmas.List.Elements.{filter_map-append}
 use Rattle.std.proofs.lemmas.Bool.{or_parts}
@@ -21,7 +21,7 @@ use Rattle.sg_sched.specs.Format.Numbered.{made}
 use Rattle.sg_sched.specs.Format.Kinds.{Kind, Graph as OfGraph}
 use Rattle.sg_sched.specs.Format.Faults.{fault}
 use Rattle.sg_sched.specs.Format.Spells.{Line, IsOpened, IsBlock, Skip, Say, Show, Declare, Nothing, Next, SpellsSchedule, IsWrong, OfNoForm, OfAForm, NotClosed, NoGraph, SameGraph, IsWrongAt, IsPairAt, IsFirstFault, AtIt, AtEdge}
-use Rattle.sg_sched.proofs.FormatReading.{says_one}
+use Rattle.sg_sched.proofs.LineLaws.{says_one}
 use Rattle.sg_sched.proofs.FormatOnce.{head_same, tail_same, first_closing}
 use Rattle.sg_sched.proofs.FormatPieces.{laid, ok_same}
 use Rattle.sg_sched.proofs.FormatApart.{one_text, names_append, never_closed, ok_err}
@@ -203,20 +203,25 @@ module _ (ls : List Line) where
 
   wrong_and_pair : (n m : ℕ) (k : Kind) → IsWrongAt ls n k → IsPairAt ls m → ⊥
   wrong_and_pair n m k w p =
-      let some = some_edges p.right p.more p.edge_line p.items p.later p.label p.from p.to p.declared p.declared_later p.is_edge in
-      let s = same_past (prefix w.declared) (prefix p.declared_later) (w.these ++ w.rest) (p.block ++ p.rest) (wrong_ends w.items w.these w.rest k w.wrong p.later)
-      (pair_ends p.later p.block p.rest p.text p.graph some p.is_block p.spelled p.named w.items) (sym w.all ∙ p.all) in
-      wrong_or_pair p.later w.these w.rest p.block p.rest k p.text p.graph (subst (λ is. IsWrong is w.these w.rest k) s.items_same w.wrong) p.is_block p.spelled p.named
-      (no_pair_block p.declared_later some) s.rest_same
+      let f = p.first_edge in
+      let some = some_edges f.right f.more f.edge_line f.items p.items f.label f.from f.to f.declared (subst (λ ls. Declare ls p.items) f.all p.declared) f.is_edge in
+      let s = same_past (prefix w.declared) (prefix p.declared) (w.these ++ w.rest) (p.block ++ p.rest) (wrong_ends w.items w.these w.rest k w.wrong p.items)
+      (pair_ends p.items p.block p.rest p.text p.graph some p.is_block p.spelled p.named w.items) (sym w.all ∙ p.all) in
+      wrong_or_pair p.items w.these w.rest p.block p.rest k p.text p.graph (subst (λ is. IsWrong is w.these w.rest k) s.items_same w.wrong) p.is_block p.spelled p.named
+      (no_pair_block p.declared some) s.rest_same
+
+  -- the first edge line, and all behind it
+  from_edge : (n : ℕ) (p : IsPairAt ls n) → ls ≡ p.first_edge.right ++ p.first_edge.edge_line ∷ (p.first_edge.more ++ (p.block ++ p.rest))
+  from_edge n p = let f = p.first_edge in p.all ∙ ap (λ ls. ls ++ (p.block ++ p.rest)) f.all ∙ append_assoc f.right (f.edge_line ∷ f.more) (p.block ++ p.rest)
 
   two_pairs : (n m : ℕ) → IsPairAt ls n → IsPairAt ls m → n ≡ m
   two_pairs n m p q =
-      let a = append_assoc p.right (p.edge_line ∷ p.more) (p.block ++ p.rest) in
-      let b = append_assoc q.right (q.edge_line ∷ q.more) (q.block ++ q.rest) in
-      let s = same_past (prefix p.declared) (prefix q.declared) (p.edge_line ∷ (p.more ++ (p.block ++ p.rest))) (q.edge_line ∷ (q.more ++ (q.block ++ q.rest)))
-      (edge_ends p.items p.edge_line (p.more ++ (p.block ++ p.rest)) p.label p.from p.to p.is_edge q.items q.no_edge)
-      (edge_ends q.items q.edge_line (q.more ++ (q.block ++ q.rest)) q.label q.from q.to q.is_edge p.items p.no_edge) (sym a ∙ sym p.all ∙ q.all ∙ b) in
-      p.number ∙ ap (λ ls. suc (length ls)) s.right_same ∙ sym q.number
+      let f = p.first_edge in
+      let g = q.first_edge in
+      let s = same_past (prefix f.declared) (prefix g.declared) (f.edge_line ∷ (f.more ++ (p.block ++ p.rest))) (g.edge_line ∷ (g.more ++ (q.block ++ q.rest)))
+      (edge_ends f.items f.edge_line (f.more ++ (p.block ++ p.rest)) f.label f.from f.to f.is_edge g.items g.no_edge)
+      (edge_ends g.items g.edge_line (g.more ++ (q.block ++ q.rest)) g.label g.from g.to g.is_edge f.items f.no_edge) (sym (from_edge n p) ∙ from_edge m q) in
+      f.number ∙ ap (λ ls. suc (length ls)) s.right_same ∙ sym g.number
 
 -- bytes have one first fault at most
 pub one_fault : (bytes : List ℕ) (n m : ℕ) (k j : Kind) → IsFirstFault bytes n k → IsFirstFault bytes m j → (n ≡ m) × (k ≡ j)

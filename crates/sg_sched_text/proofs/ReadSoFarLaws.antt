@@ -15,7 +15,7 @@ use Rattle.sg_sched.specs.Format.Forms.{SaysLine, is_skipped, is_comment}
 use Rattle.sg_sched.specs.Format.Items.{Item, GraphItem, EdgeItem, HonestItem, KeyItem, SessionItem, StepItem, SoFar, so_far, edges, graphs, graph_names, graphs_declared}
 use Rattle.sg_sched.specs.Format.Kinds.{Kind, Form}
 use Rattle.sg_sched.specs.Format.Numbered.{made}
-use Rattle.sg_sched.specs.Format.Spells.{Line, Declare, Nothing, Next, Skip, Say, Show, IsBlock, IsFirstFault, AtIt, AtEdge, IsPairAt, OfNoForm, OfAForm, NotClosed, NoGraph, SameGraph}
+use Rattle.sg_sched.specs.Format.Spells.{Line, Declare, Nothing, Next, Skip, Say, Show, IsBlock, IsFirstEdge, IsFirstFault, AtIt, AtEdge, IsPairAt, IsWrong, OfNoForm, OfAForm, NotClosed, NoGraph, SameGraph}
 use Rattle.sg_sched_text.specs.declared.reader.ScheduleReader.{ScheduleReader}
 use Rattle.sg_sched.specs.declared.fault.LineFault.{LineFault}
 use Rattle.sg_sched.specs.declared.fault.LineFault.TheVariants.{Line as AtLine, OutOfMemory as NoMemory}
@@ -28,7 +28,7 @@ use Rattle.sg_sched.specs.declared.fault.Kind.TheVariants.{Form as KindForm, Unk
 use Rattle.sg_sched_text.specs.declared.stop.Stop.{Stop}
 use Rattle.sg_sched_text.specs.declared.stop.Stop.TheVariants.{Wrong, OutOfMemory}
 use Rattle.sg_sched_text.specs.TakingLines.{IsRefused, kind_of, fault_at}
-use Rattle.sg_sched_text.specs.ReadSoFar.{IsFirstEdge, HasRead, Opens, IsAt, IsShown, IsBad, IsBadAt, IsFault, Refused, Again, AsPair}
+use Rattle.sg_sched_text.specs.ReadSoFar.{HasRead, Opens, IsAt, IsShown, IsBad, IsBadAt, IsFault, Refused, Again, AsPair}
 use Rattle.sg_sched_text.proofs.Growing.{one_more, TookItem, took, stopped, begun}
 
 -- ---- lists
@@ -213,31 +213,26 @@ module _ (bytes rest after : List ℕ) (line : Line) (r : ScheduleReader) (s : H
           let kept : r.past.edges ≡ edges s.items = ap (λ (p : SoFar). p.edges) s.keeps.past in
           subst (EdgeOf s.right s.items) (sym (first_edge ∙ ap (λ b. if b then r.number + 1 else r.first_edge) (some_counted r.past.edges (λ h. some.0 (sym kept ∙ h))))) (inr some)
 
-  -- a line of no form
-  pub no_form : (n : ℕ) → n ≡ r.number + 1 → is_skipped line ≡ false → ((statement : LineContent) → SaysLine line statement → ⊥) → IsFirstFault bytes n Form
-  no_form n number no_skip none = AtIt record {
+  -- the line is wrong
+  wrong_here : (n : ℕ) (kind : Kind) → n ≡ r.number + 1 → IsWrong s.items (line ∷ []) (lines after) kind → IsFirstFault bytes n kind
+  wrong_here n kind number wrong = AtIt record {
     right = s.right;
     these = line ∷ [];
     rest = lines after;
     items = s.items;
     all = s.all ∙ ap (λ ls. s.right ++ ls) e;
     declared = s.keeps.declared;
-    wrong = OfNoForm no_skip none;
+    wrong = wrong;
     number = let b = s.number in omega (arith, b, number);
   }
 
+  -- a line of no form
+  pub no_form : (n : ℕ) → n ≡ r.number + 1 → is_skipped line ≡ false → ((statement : LineContent) → SaysLine line statement → ⊥) → IsFirstFault bytes n Form
+  no_form n number no_skip none = wrong_here n Form number (OfNoForm no_skip none)
+
   -- a line of a form that is wrong
   pub wrong : (statement : LineContent) (n : ℕ) (kind : Kind) → n ≡ r.number + 1 → SaysLine line statement → after_line r.past statement ≡ Err kind → IsFirstFault bytes n kind
-  wrong statement n kind number is bad = AtIt record {
-    right = s.right;
-    these = line ∷ [];
-    rest = lines after;
-    items = s.items;
-    all = s.all ∙ ap (λ ls. s.right ++ ls) e;
-    declared = s.keeps.declared;
-    wrong = OfAForm is (stopped s.items statement kind (ap (λ p. after_line p statement) (sym s.keeps.past) ∙ bad));
-    number = let b = s.number in omega (arith, b, number);
-  }
+  wrong statement n kind number is bad = wrong_here n kind number (OfAForm is (stopped s.items statement kind (ap (λ p. after_line p statement) (sym s.keeps.past) ∙ bad)))
 
   -- a line that isn't taken
   pub not_taken : (statement : LineContent) (fault : LineFault) → SaysLine line statement → IsAt (after_line r.past statement) (r.number + 1) fault → IsFault bytes fault
@@ -309,28 +304,22 @@ module _ (bytes after : List ℕ) (r : ScheduleReader) (o : Opens bytes r after)
     at_end : (n : ℕ) → n ≡ r.number + count + 1 → n ≡ length o.right + length these
     at_end n number = let b = many in let d = o.number in omega (arith, b, d, number)
 
+    wrong_block : (n : ℕ) (kind : Kind) → n ≡ r.number + count + 1 → IsWrong o.items these (lines rest) kind → IsFirstFault bytes n kind
+    wrong_block n kind number wrong = AtIt record {
+      right = o.right;
+      these = these;
+      rest = lines rest;
+      items = o.items;
+      all = all_lines;
+      declared = o.keeps.declared;
+      wrong = wrong;
+      number = at_end n number;
+    }
+
     -- the block is wrong
     pub bad : (new : ScheduleReader) (n : ℕ) (kind : Kind) → new.past ≡ r.past → new.number ≡ r.number + count + 1 → new.first_edge ≡ r.first_edge → IsBad text new n kind → IsFirstFault bytes n kind
-    bad new n _ past number first_edge (Refused refused at) = AtIt record {
-      right = o.right;
-      these = these;
-      rest = lines rest;
-      items = o.items;
-      all = all_lines;
-      declared = o.keeps.declared;
-      wrong = NoGraph is_block refused;
-      number = at_end n (at ∙ number);
-    }
-    bad new n _ past number first_edge (Again g spelled there at) = AtIt record {
-      right = o.right;
-      these = these;
-      rest = lines rest;
-      items = o.items;
-      all = all_lines;
-      declared = o.keeps.declared;
-      wrong = SameGraph is_block spelled (ap (λ (p : SoFar). has_text g.name (graph_names p.blocks)) (sym (past ∙ o.keeps.past)) ∙ there);
-      number = at_end n (at ∙ number);
-    }
+    bad new n _ past number first_edge (Refused refused at) = wrong_block n _ (at ∙ number) (NoGraph is_block refused)
+    bad new n _ past number first_edge (Again g spelled there at) = wrong_block n _ (at ∙ number) (SameGraph is_block spelled (ap (λ (p : SoFar). has_text g.name (graph_names p.blocks)) (sym (past ∙ o.keeps.past)) ∙ there))
     bad new n _ past number first_edge (AsPair g spelled named some at) = AtEdge (pair_at o.keeps.edge)
       where
         kept : new.past.edges ≡ edges o.items
@@ -338,28 +327,19 @@ module _ (bytes after : List ℕ) (r : ScheduleReader) (o : Opens bytes r after)
 
         pair_at : EdgeOf o.right o.items r.first_edge → IsPairAt (lines bytes) n
         pair_at (inl none) = absurd (some (kept ∙ none))
-        pair_at (inr e) = let f = e.1 in record {
-          right = f.right;
-          edge_line = f.edge_line;
-          more = f.more;
+        pair_at (inr e) = record {
+          right = o.right;
           block = these;
           rest = lines rest;
-          items = f.items;
-          later = o.items;
+          items = o.items;
           text = text;
-          all = all_lines ∙ ap (λ ls. ls ++ (these ++ lines rest)) f.all;
-          declared = f.declared;
-          no_edge = f.no_edge;
-          label = f.label;
-          from = f.from;
-          to = f.to;
-          is_edge = f.is_edge;
-          declared_later = subst (λ ls. Declare ls o.items) f.all o.keeps.declared;
+          all = all_lines;
+          first_edge = subst (IsFirstEdge o.right) (sym (at ∙ first_edge)) e.1;
+          declared = o.keeps.declared;
           is_block = is_block;
           graph = g;
           spelled = spelled;
           named = named;
-          number = at ∙ first_edge ∙ f.number;
         }
 
 -- ---- what shows of a text

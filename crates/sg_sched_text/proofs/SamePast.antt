@@ -17,7 +17,7 @@ use Rattle.sg_sched.specs.Format.Items.{Item, EdgeItem, as_edge, blocks, edges, 
 use Rattle.sg_sched.specs.Format.Numbered.{made}
 use Rattle.sg_sched.specs.Format.Kinds.{Kind}
 use Rattle.sg_sched.specs.Format.Spells.{Line, IsBlock, Add, Skip, Say, Show, Declare, IsWrong}
-use Rattle.sg_sched.proofs.FormatReading.{says_one}
+use Rattle.sg_sched.proofs.LineLaws.{says_one}
 use Rattle.sg_sched.proofs.FormatOnce.{not_skipped, head_same}
 use Rattle.sg_sched.proofs.FormatPieces.{laid, one_add, say_or_show, skip_or_show, ok_same}
 use Rattle.sg_sched.proofs.FormatOne.{Prefix, Done, More, of_declare}

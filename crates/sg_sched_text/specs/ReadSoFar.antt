@@ -1,19 +1,18 @@
 -- Where the reader stands in a text, and how it goes on.
 use Rattle.std.specs.Prelude.{◌≡◌, ◌⊎◌, ◌==◌, ℕ, suc, if◌then◌else◌, List, [], ◌∷◌, ◌++◌, length, codes, Result, Ok, Err, OnOk, IfErr, IsTrue, IsFalse, ⊤, None}
 use Rattle.sg_model.specs.Lists.{has_text}
-use Rattle.sg_model.specs.Names.{Name}
 use Rattle.sg_protocol.specs.Graph.{Graph as AGraph}
 use Rattle.sg_parse.specs.Grammar.{SpellsGraph}
 use Rattle.sg_parse.specs.Reading.{read}
 use Rattle.sg_parse.specs.declared.fault.ParseFault.{ParseFault}
 use Rattle.sg_sched.specs.Text.{lines}
-use Rattle.sg_sched.specs.Format.LineContents.{BlockLine, EdgeLine}
+use Rattle.sg_sched.specs.Format.LineContents.{BlockLine}
 use Rattle.sg_sched.specs.Format.Forms.{SaysLine}
 use Rattle.sg_sched.specs.Format.Items.{Item, GraphItem, SoFar, so_far, edges, graphs_declared, graph_names}
 use Rattle.sg_sched.specs.Format.Kinds as Format
 use Rattle.sg_sched.specs.Format.Kinds.{Twice, Graph}
 use Rattle.sg_sched.specs.Format.Faults.{fault}
-use Rattle.sg_sched.specs.Format.Spells.{Line, Declare, IsFirstFault}
+use Rattle.sg_sched.specs.Format.Spells.{Line, Declare, IsFirstEdge, IsFirstFault}
 use Rattle.sg_sched.specs.declared.fault.LineFault.{LineFault}
 use Rattle.sg_sched.specs.declared.fault.LineFault.TheVariants.{Line as AtLine, OutOfMemory}
 use Rattle.sg_sched_text.specs.declared.reader.ScheduleReader.{ScheduleReader}
@@ -22,21 +21,6 @@ use Rattle.sg_sched_text.specs.Plus.{plus}
 use Rattle.sg_sched_text.specs.TakingLines.{kind_of}
 
 -- ---- where it stands
-
--- the first edge line among these lines has this number
-pub record IsFirstEdge (ls : List Line) (n : ℕ) : Type 0 where
-  pub right : List Line
-  pub edge_line : Line
-  pub more : List Line
-  pub items : List Item
-  pub all : ls ≡ right ++ edge_line ∷ more
-  pub declared : Declare right items
-  pub no_edge : edges items ≡ []
-  pub label : Name
-  pub from : ℕ
-  pub to : ℕ
-  pub is_edge : SaysLine edge_line (EdgeLine label from to)
-  pub number : n ≡ suc (length right)
 
 -- these lines are right and declare these items, which the reader keeps, and it knows the number of the first edge line, if there is one
 pub record Keeps (r : ScheduleReader) (right : List Line) (items : List Item) : Type 0 where

@@ -10,7 +10,7 @@ use Rattle.sg_sched_text.specs.declared.reader.ScheduleReader.{ScheduleReader}
 use Rattle.sg_sched_text.specs.Early.{begins_late, is_kept}
 use Rattle.sg_sched_text.specs.ReadSoFar.{HasRead}
 use Rattle.sg_sched_text.proofs.BlockLine.{only_block}
-use Rattle.sg_sched_text.proofs.EarlyLaws.{one_fault, not_kept, read_early, still_early}
+use Rattle.sg_sched_text.proofs.EarlyLaws.{one_fault, not_kept, block_late, read_early, still_early}
 use Rattle.sg_sched_text.proofs.ReadSoFarLaws.{skips, says, opens, no_form, not_taken, skipped_is}
 use Rattle.sg_sched_text.proofs.reader.ScheduleReader.next.Goals as goal
 
@@ -29,6 +29,11 @@ returns-in_err-say-in-Block-clause-has_read c = λ bytes s.
     let same : c.from_residual.result ≡ Err c.in_err-say-in-Block.field-0.0 = search rules in
     rw same (not_taken bytes c.args.rest.now c.split_line.result.1.now line _ at c.split_line.ensures.split BlockLine c.in_err-say-in-Block.field-0.0 is c.in_err-say-in-Block.ensures.says.wrong)
 
+pub returns-in_err-say-in-Block-clause-early : goal.returns-in_err-say-in-Block-clause-early
+returns-in_err-say-in-Block-clause-early c = λ h.
+    block_late c.args.self.now.past (lines c.args.rest.now) c.split_line.result.0.now (lines c.split_line.result.1.now) c.split_line.ensures.split h
+    (skipped_is c.split_line.result.0.now c.line_content.result.now false c.line_content.ensures c.if-is_skipped.ensures) (rw c.in-Block.is at (rw c.in-Ok-Some.field-0-is at c.in-Ok-Some.ensures.form))
+
 pub returns-in_ok-say-in-Block-clause-has_read : goal.returns-in_ok-say-in-Block-clause-has_read
 returns-in_ok-say-in-Block-clause-has_read c = λ bytes s.
     let line = c.split_line.result.0.now in
@@ -37,12 +42,20 @@ returns-in_ok-say-in-Block-clause-has_read c = λ bytes s.
     let e = c.in_ok-say-in-Block.ensures.says in
     c.block.ensures.has_read bytes (opens bytes c.args.rest.now c.split_line.result.1.now line _ at c.split_line.ensures.split c.say.new.self is e.taken e.number e.edge)
 
+pub returns-in_ok-say-in-Block-clause-early : goal.returns-in_ok-say-in-Block-clause-early
+returns-in_ok-say-in-Block-clause-early c = λ h.
+    block_late c.args.self.now.past (lines c.args.rest.now) c.split_line.result.0.now (lines c.split_line.result.1.now) c.split_line.ensures.split h
+    (skipped_is c.split_line.result.0.now c.line_content.result.now false c.line_content.ensures c.if-is_skipped.ensures) (rw c.in-Block.is at (rw c.in-Ok-Some.field-0-is at c.in-Ok-Some.ensures.form))
+
+pub returns-in_ok-say-in-Block-clause-so_far : goal.returns-in_ok-say-in-Block-clause-so_far
+returns-in_ok-say-in-Block-clause-so_far c = λ h.
+    block_late c.args.self.now.past (lines c.args.rest.now) c.split_line.result.0.now (lines c.split_line.result.1.now) c.split_line.ensures.split h
+    (skipped_is c.split_line.result.0.now c.line_content.result.now false c.line_content.ensures c.if-is_skipped.ensures) (rw c.in-Block.is at (rw c.in-Ok-Some.field-0-is at c.in-Ok-Some.ensures.form))
+
 pub returns-in_err-say-in_default : goal.returns-in_err-say-in_default
 returns-in_err-say-in_default c =
     let line = c.split_line.result.0.now in
     let is : SaysLine line (statement c.in-Ok-Some.statement) = rw c.in-Ok-Some.field-0-is at c.in-Ok-Some.ensures.says in
-    let said : Some (statement c.in-Ok-Some.statement) ≡ form (words (content line)) = rw c.in-Ok-Some.field-0-is at c.in-Ok-Some.ensures.form in
-    let skip : is_skipped line ≡ false = skipped_is line c.line_content.result.now false c.line_content.ensures c.if-is_skipped.ensures in
     let same : c.from_residual-in_err-say-in_default.result ≡ Err c.in_err-say-in_default.field-0.0 = search rules in
     record {
       has_read = λ bytes s.
@@ -50,6 +63,8 @@ returns-in_err-say-in_default c =
           rw same (not_taken bytes c.args.rest.now c.split_line.result.1.now line _ at c.split_line.ensures.split (statement c.in-Ok-Some.statement) c.in_err-say-in_default.field-0.0 is c.in_err-say-in_default.ensures.says.wrong);
       shorter = rw same tt;
       early = λ h.
+          let said : Some (statement c.in-Ok-Some.statement) ≡ form (words (content line)) = rw c.in-Ok-Some.field-0-is at c.in-Ok-Some.ensures.form in
+          let skip : is_skipped line ≡ false = skipped_is line c.line_content.result.now false c.line_content.ensures c.if-is_skipped.ensures in
           let kept = not_kept c.args.self.now.past (lines c.args.rest.now) line (lines c.split_line.result.1.now) c.split_line.ensures.split h skip (statement c.in-Ok-Some.statement) said in
           let kept' = subst (λ (r : ScheduleReader). is_kept r.past (statement c.in-Ok-Some.statement) ≡ false) (sym c.self.view_is) kept in
           λ e. c.in_err-say-in_default.ensures.early kept' (one_fault c.in_err-say-in_default.field-0.0 NoMemory c.from_residual-in_err-say-in_default.result same e);
@@ -60,8 +75,6 @@ pub returns-in_ok-say-in_default : goal.returns-in_ok-say-in_default
 returns-in_ok-say-in_default c =
     let line = c.split_line.result.0.now in
     let is : SaysLine line (statement c.in-Ok-Some.statement) = rw c.in-Ok-Some.field-0-is at c.in-Ok-Some.ensures.says in
-    let said : Some (statement c.in-Ok-Some.statement) ≡ form (words (content line)) = rw c.in-Ok-Some.field-0-is at c.in-Ok-Some.ensures.form in
-    let skip : is_skipped line ≡ false = skipped_is line c.line_content.result.now false c.line_content.ensures c.if-is_skipped.ensures in
     let e = c.in_ok-say-in_default.ensures.says in
     let n = ap (λ (r : ScheduleReader). r.number) c.self.view_is in
     let k = e.number in
@@ -73,6 +86,8 @@ returns-in_ok-say-in_default c =
       shorter = (c.split_line.ensures.shorter, omega (arith, n, k));
       early = λ h e. absurd (cc);
       so_far = λ h.
+          let said : Some (statement c.in-Ok-Some.statement) ≡ form (words (content line)) = rw c.in-Ok-Some.field-0-is at c.in-Ok-Some.ensures.form in
+          let skip : is_skipped line ≡ false = skipped_is line c.line_content.result.now false c.line_content.ensures c.if-is_skipped.ensures in
           let kept = not_kept c.args.self.now.past (lines c.args.rest.now) line (lines c.split_line.result.1.now) c.split_line.ensures.split h skip (statement c.in-Ok-Some.statement) said in
           let kept' = subst (λ (r : ScheduleReader). is_kept r.past (statement c.in-Ok-Some.statement) ≡ false) (sym c.self.view_is) kept in
           absurd (c.in_ok-say-in_default.ensures.early kept');
@@ -91,30 +106,6 @@ returns-then-is_skipped-clause-so_far c = λ h.
     let skip : is_skipped line ≡ true = skipped_is line c.line_content.result.now true c.line_content.ensures c.if-is_skipped.ensures in
     subst (λ (r : ScheduleReader). begins_late r.past (lines c.split_line.result.1.now) ≡ false) (sym c.self.view_is)
     (still_early c.args.self.now.past (lines c.args.rest.now) line (lines c.split_line.result.1.now) c.split_line.ensures.split h skip)
-
-pub returns-in_err-say-in-Block-clause-early : goal.returns-in_err-say-in-Block-clause-early
-returns-in_err-say-in-Block-clause-early c = λ h.
-    let line = c.split_line.result.0.now in
-    let skip : is_skipped line ≡ false = skipped_is line c.line_content.result.now false c.line_content.ensures c.if-is_skipped.ensures in
-    let said : Some BlockLine ≡ form (words (content line)) = rw c.in-Block.is at (rw c.in-Ok-Some.field-0-is at c.in-Ok-Some.ensures.form) in
-    let kept : true ≡ false = not_kept c.args.self.now.past (lines c.args.rest.now) line (lines c.split_line.result.1.now) c.split_line.ensures.split h skip BlockLine said in
-    absurd (cc)
-
-pub returns-in_ok-say-in-Block-clause-early : goal.returns-in_ok-say-in-Block-clause-early
-returns-in_ok-say-in-Block-clause-early c = λ h.
-    let line = c.split_line.result.0.now in
-    let skip : is_skipped line ≡ false = skipped_is line c.line_content.result.now false c.line_content.ensures c.if-is_skipped.ensures in
-    let said : Some BlockLine ≡ form (words (content line)) = rw c.in-Block.is at (rw c.in-Ok-Some.field-0-is at c.in-Ok-Some.ensures.form) in
-    let kept : true ≡ false = not_kept c.args.self.now.past (lines c.args.rest.now) line (lines c.split_line.result.1.now) c.split_line.ensures.split h skip BlockLine said in
-    absurd (cc)
-
-pub returns-in_ok-say-in-Block-clause-so_far : goal.returns-in_ok-say-in-Block-clause-so_far
-returns-in_ok-say-in-Block-clause-so_far c = λ h.
-    let line = c.split_line.result.0.now in
-    let skip : is_skipped line ≡ false = skipped_is line c.line_content.result.now false c.line_content.ensures c.if-is_skipped.ensures in
-    let said : Some BlockLine ≡ form (words (content line)) = rw c.in-Block.is at (rw c.in-Ok-Some.field-0-is at c.in-Ok-Some.ensures.form) in
-    let kept : true ≡ false = not_kept c.args.self.now.past (lines c.args.rest.now) line (lines c.split_line.result.1.now) c.split_line.ensures.split h skip BlockLine said in
-    absurd (cc)
 
 pub returns-in-Err-clause-early : goal.returns-in-Err-clause-early
 returns-in-Err-clause-early c = λ h.
