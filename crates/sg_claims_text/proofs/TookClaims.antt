@@ -23,7 +23,7 @@ use Rattle.sg_parse.specs.declared.token.Token.TheVariants.{Word, Colon, Semicol
 use Rattle.sg_parse.specs.declared.fault.ParseFault.{ParseFault}
 use Rattle.sg_parse.specs.declared.fault.ParseFault.TheVariants.{TooMany}
 use Rattle.sg_parse.proofs.Sound.{Sound, sound-tokens}
-use Rattle.sg_parse.proofs.Took.{Took, IsFresh, bare, ok_same, err_ok, on-inv, branch-inv, took-both, took-give, took-token, took-name, took-new, only-word, only-colon, only-semicolon}
+use Rattle.sg_parse.proofs.Took.{Took, IsFresh, bare, ok_same, err_ok, on-inv, branch-inv, took-both, took-give, took-token, took-mark, took-name, took-new, only-word}
 use Rattle.sg_parse.proofs.TookGraph.{took-end, whole-inv}
 use Rattle.sg_parse.proofs.TookParts.{names-one_more}
 use Rattle.sg_parse.proofs.Indices.{repeat-there, repeat-away, repeat-none}
@@ -99,11 +99,11 @@ took-claim names claims ps o s h =
     let b = on-inv (new_name (claim_names claims) (a.0).rest) _ o a.2 in
     let n = took-new (claim_names claims) (a.0).rest b.0 first.sound b.1 in
     let c = on-inv (token is_colon (b.0).rest) _ o b.2 in
-    let colon = took-token is_colon Colon (b.0).rest c.0 only-colon (n.0).sound c.1 in
+    let colon = took-mark Colon (b.0).rest c.0 (n.0).sound c.1 in
     let d = on-inv (read_kind names (c.0).rest) _ o c.2 in
     let said' = took-claim_kind_tokens names (c.0).rest d.0 colon.sound d.1 in
     let e = on-inv (token is_semicolon (d.0).rest) _ o d.2 in
-    let last = took-token is_semicolon Semicolon (d.0).rest e.0 only-semicolon (said'.0).sound e.1 in
+    let last = took-mark Semicolon (d.0).rest e.0 (said'.0).sound e.1 in
     let claim : NamedClaim = record { name = (b.0).value; claim = (d.0).value } in
     let end = took-give (claims ++ claim ∷ []) (e.0).rest o last.sound e.2 in (
       claim,
@@ -189,7 +189,7 @@ record TookAll (names : List Name) (ps : List TokenAt) (cs : List NamedClaim) : 
 took-all : (names : List Name) (ps : List TokenAt) (o : Parsed (List NamedClaim)) → Sound ps → read_claims names ps ≡ Ok o → TookAll names ps o.value
 took-all names ps o s h =
     let a = on-inv (token is_semicolon ps) _ o h in
-    let first = took-token is_semicolon Semicolon ps a.0 only-semicolon s a.1 in
+    let first = took-mark Semicolon ps a.0 s a.1 in
     let b = on-inv (repeat most_claims (is_word (codes "claim")) (read_claim names) [] (a.0).rest) _ o a.2 in
     let t = took-claims names most_claims [] (a.0).rest b.0 first.sound refl b.1 in
     let c = on-inv (no_more (codes "claim") (b.0).rest) _ o b.2 in

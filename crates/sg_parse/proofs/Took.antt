@@ -70,29 +70,28 @@ pub only-word : (w : List ℕ) (u : Token) → is_word w u ≡ true → u ≡ Wo
 only-word w (Word v) h = ap Word ((bytes_eq-Decides v w).0 h)
 only-word w u h = absurd (cc)
 
-pub only-colon : (u : Token) → is_colon u ≡ true → u ≡ Colon
-only-colon Colon h = refl
-only-colon u h = absurd (cc)
+-- the test that this token alone passes, if it is no word
+abbrev pub test_of : Token → Token → Bool
+test_of Colon = is_colon
+test_of Semicolon = is_semicolon
+test_of Arrow = is_arrow
+test_of Use = is_use
+test_of As = is_as
+test_of End = is_end
+test_of t = λ u. false
 
-pub only-semicolon : (u : Token) → is_semicolon u ≡ true → u ≡ Semicolon
-only-semicolon Semicolon h = refl
-only-semicolon u h = absurd (cc)
+pub only-mark : (t u : Token) → test_of t u ≡ true → u ≡ t
+only-mark Colon Colon h = refl
+only-mark Semicolon Semicolon h = refl
+only-mark Arrow Arrow h = refl
+only-mark Use Use h = refl
+only-mark As As h = refl
+only-mark End End h = refl
+only-mark t u h = absurd (cc)
 
-pub only-arrow : (u : Token) → is_arrow u ≡ true → u ≡ Arrow
-only-arrow Arrow h = refl
-only-arrow u h = absurd (cc)
-
-pub only-use : (u : Token) → is_use u ≡ true → u ≡ Use
-only-use Use h = refl
-only-use u h = absurd (cc)
-
-pub only-as : (u : Token) → is_as u ≡ true → u ≡ As
-only-as As h = refl
-only-as u h = absurd (cc)
-
-pub only-end : (u : Token) → is_end u ≡ true → u ≡ End
-only-end End h = refl
-only-end u h = absurd (cc)
+-- so for each of them
+pub took-mark : (t : Token) (ps : List TokenAt) (o : Parsed (Unit {0})) → Sound ps → token (test_of t) ps ≡ Ok o → Took ps o (t ∷ [])
+took-mark t ps o s h = took-token (test_of t) t ps o (only-mark t) s h
 
 -- ---- names
 

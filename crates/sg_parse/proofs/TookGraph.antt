@@ -13,7 +13,7 @@ use Rattle.sg_parse.specs.declared.token.Token.{Token}
 use Rattle.sg_parse.specs.declared.token.Token.TheVariants.{Word, Semicolon, End}
 use Rattle.sg_parse.specs.declared.fault.ParseFault.{ParseFault}
 use Rattle.sg_parse.proofs.Sound.{Sound, sound-tokens}
-use Rattle.sg_parse.proofs.Took.{Took, bare, ok_same, err_ok, on-inv, branch-inv, took-both, took-give, took-token, took-name, only-word, only-semicolon, only-end}
+use Rattle.sg_parse.proofs.Took.{Took, bare, ok_same, err_ok, on-inv, branch-inv, took-both, took-give, took-token, took-mark, took-name, only-word, only-mark}
 use Rattle.sg_parse.proofs.TookStatements.{SpellsRole, SpellsNode, took-role, took-variable, took-node, took-edge}
 use Rattle.sg_parse.proofs.TookText.{adds, Ran, in_turn-map, took-statement, one_ran, took-up_to}
 
@@ -63,7 +63,7 @@ took-head ps o s h =
     let b = on-inv (name (a.0).rest) _ o a.2 in
     let n = took-name (a.0).rest b.0 first.sound b.1 in
     let c = on-inv (token is_semicolon (b.0).rest) _ o b.2 in
-    let last = took-token is_semicolon Semicolon (b.0).rest c.0 only-semicolon (n.0).sound c.1 in
+    let last = took-mark Semicolon (b.0).rest c.0 (n.0).sound c.1 in
     let end = took-give (no_parts (b.0).value.0) (c.0).rest o last.sound c.2 in (
       (b.0).value.0,
       end.0,
@@ -113,7 +113,7 @@ took-end (p ∷ ps) o s h = pick (branch-inv is_end (give tt) Reading.refused (p
     last t h = absurd (cc)
 
     pick : ((is_end p.token ≡ true) × (give tt (p ∷ ps) ≡ Ok o)) ⊎ ((is_end p.token ≡ false) × (Reading.refused (p ∷ ps) ≡ Ok o)) → bare (p ∷ ps) ≡ End ∷ []
-    pick (inl (e, k)) = (let none : ps ≡ [] = s.1 (last p.token e) in rw (none, only-end p.token e) refl)
+    pick (inl (e, k)) = (let none : ps ≡ [] = s.1 (last p.token e) in rw (none, only-mark End p.token e) refl)
     pick (inr (e, k)) = err_ok (Reading.refusal (p ∷ ps)) o k
 
 -- what was read as a whole

@@ -22,7 +22,7 @@ use Rattle.sg_parse.specs.declared.token.TokenAt.{TokenAt}
 use Rattle.sg_parse.specs.declared.token.Token.{Token}
 use Rattle.sg_parse.specs.declared.token.Token.TheVariants.{Word, Colon, Semicolon, Arrow, Use as UseWord, As, End}
 use Rattle.sg_parse.proofs.Sound.{Sound, sound-part_tokens}
-use Rattle.sg_parse.proofs.Took.{Took, IsFresh, bare, ok_same, on-inv, took-both, took-give, took-token, took-new, took-known, named-word, index_has, only-word, only-colon, only-semicolon, only-arrow, only-use, only-as}
+use Rattle.sg_parse.proofs.Took.{Took, IsFresh, bare, ok_same, on-inv, took-both, took-give, took-token, took-mark, took-new, took-known, named-word, index_has, only-word}
 use Rattle.sg_parse.proofs.TookStatements.{node_at}
 use Rattle.sg_parse.proofs.TookGraph.{took-statements, took-end, whole-inv}
 use Rattle.sg_parse.proofs.TookIndices.{took-indices}
@@ -44,25 +44,25 @@ took-use : (names : List Name) (g : Graph) (uses : List Use) (ps : List TokenAt)
     → (u : Use) × (ts : List Token) × (uses ++ u ∷ [] ≡ o.value) × (IsUse (length names) g u × IsFresh (use_names uses) u.name × (ts ≡ use_tokens names g u)) × Took ps o ts
 took-use names g uses ps o s h =
     let a = on-inv (token is_use ps) _ o h in
-    let first = took-token is_use UseWord ps a.0 only-use s a.1 in
+    let first = took-mark UseWord ps a.0 s a.1 in
     let b = on-inv (new_name (use_names uses) (a.0).rest) _ o a.2 in
     let n = took-new (use_names uses) (a.0).rest b.0 first.sound b.1 in
     let c = on-inv (token is_colon (b.0).rest) _ o b.2 in
-    let colon = took-token is_colon Colon (b.0).rest c.0 only-colon (n.0).sound c.1 in
+    let colon = took-mark Colon (b.0).rest c.0 (n.0).sound c.1 in
     let d = on-inv (known_name names (c.0).rest) _ o c.2 in
     let part = took-known names (c.0).rest d.0 colon.sound d.1 in
     let e = on-inv (known_name (node_names g) (d.0).rest) _ o d.2 in
     let source = took-known (node_names g) (d.0).rest e.0 (part.0).sound e.1 in
     let f = on-inv (token is_arrow (e.0).rest) _ o e.2 in
-    let arrow = took-token is_arrow Arrow (e.0).rest f.0 only-arrow (source.0).sound f.1 in
+    let arrow = took-mark Arrow (e.0).rest f.0 (source.0).sound f.1 in
     let k = on-inv (known_name (node_names g) (f.0).rest) _ o f.2 in
     let target = took-known (node_names g) (f.0).rest k.0 arrow.sound k.1 in
     let l = on-inv (token is_as (k.0).rest) _ o k.2 in
-    let as' = took-token is_as As (k.0).rest l.0 only-as (target.0).sound l.1 in
+    let as' = took-mark As (k.0).rest l.0 (target.0).sound l.1 in
     let m = on-inv (some_indices is_named g.roles (l.0).rest) _ o l.2 in
     let roles = took-indices is_named g.roles (λ r. r < length g.roles) (λ t w n. ((named-word t w n).0, (λ h. (index_has (text_of t) g.roles h).0))) (l.0).rest m.0 as'.sound m.1 in
     let q = on-inv (token is_semicolon (m.0).rest) _ o m.2 in
-    let last = took-token is_semicolon Semicolon (m.0).rest q.0 only-semicolon (roles.0).sound q.1 in
+    let last = took-mark Semicolon (m.0).rest q.0 (roles.0).sound q.1 in
     let u : Use = record { name = (b.0).value; part = (d.0).value; from = (e.0).value; to = (k.0).value; roles = (m.0).value } in
     let end = took-give (uses ++ u ∷ []) (q.0).rest o last.sound q.2 in
     let from = node_at g (e.0).value source.1 in
@@ -148,7 +148,7 @@ took-part bytes parts ps o s h =
     let a2 = on-inv (new_name names (a1.0).rest) _ a.0 a1.2 in
     let n = took-new names (a1.0).rest a2.0 first.sound a2.1 in
     let a3 = on-inv (token is_semicolon (a2.0).rest) _ a.0 a2.2 in
-    let last = took-token is_semicolon Semicolon (a2.0).rest a3.0 only-semicolon (n.0).sound a3.1 in
+    let last = took-mark Semicolon (a2.0).rest a3.0 (n.0).sound a3.1 in
     let end = took-give (no_parts (a2.0).value) (a3.0).rest a.0 last.sound a3.2 in
     let head : Took ps a.0 (head_tokens (a2.0).value) =
     took-both ps a1.0 a.0 (Word (codes "graph") ∷ []) _ first (took-both (a1.0).rest a2.0 a.0 (Word (a2.0).value ∷ []) _ n.0 (took-both (a2.0).rest a3.0 a.0 (Semicolon ∷ []) [] last end.1)) in

@@ -13,7 +13,7 @@ use Rattle.sg_parse.specs.declared.token.TokenAt.{TokenAt}
 use Rattle.sg_parse.specs.declared.token.Token.{Token}
 use Rattle.sg_parse.specs.declared.token.Token.TheVariants.{Word, Colon, Semicolon, Arrow}
 use Rattle.sg_parse.proofs.Sound.{Sound}
-use Rattle.sg_parse.proofs.Took.{Took, bare, on-inv, branch-inv, took-both, took-give, took-token, took-new, took-known, only-word, only-colon, only-semicolon, only-arrow}
+use Rattle.sg_parse.proofs.Took.{Took, bare, on-inv, branch-inv, took-both, took-give, took-token, took-mark, took-new, took-known, only-word}
 use Rattle.sg_parse.proofs.TookSets.{took-some, took-clause}
 
 -- a part was added to a graph, and its statement was taken from behind its first word
@@ -37,7 +37,7 @@ took-role g ps o is room s h =
     let i = on-inv (new_name g.roles ps) (λ n. after (token is_semicolon) λ _. give (with_role g n)) o h in
     let n = took-new g.roles ps i.0 s i.1 in
     let j = on-inv (token is_semicolon (i.0).rest) (λ _. give (with_role g (i.0).value)) o i.2 in
-    let t = took-token is_semicolon Semicolon (i.0).rest j.0 only-semicolon (n.0).sound j.1 in
+    let t = took-mark Semicolon (i.0).rest j.0 (n.0).sound j.1 in
     let e = took-give (with_role g (i.0).value) (j.0).rest o t.sound j.2 in
     record {
       part = (i.0).value;
@@ -74,7 +74,7 @@ took-variable g ps o is room s h =
     let a = on-inv (new_name (variable_names g) ps) _ o h in
     let n = took-new (variable_names g) ps a.0 s a.1 in
     let b = on-inv (token is_colon (a.0).rest) _ o a.2 in
-    let colon = took-token is_colon Colon (a.0).rest b.0 only-colon (n.0).sound b.1 in
+    let colon = took-mark Colon (a.0).rest b.0 (n.0).sound b.1 in
     let c = on-inv (read_kind (b.0).rest) _ o b.2 in
     let kind = took-kind (b.0).rest c.0 colon.sound c.1 in
     let d = on-inv (token (is_word (codes "by")) (c.0).rest) _ o c.2 in
@@ -82,7 +82,7 @@ took-variable g ps o is room s h =
     let e = on-inv (some_names 16 g.roles (d.0).rest) _ o d.2 in
     let writers = took-some 16 g.roles is.sizes.0 (d.0).rest e.0 by.sound e.1 in
     let f = on-inv (token is_semicolon (e.0).rest) _ o e.2 in
-    let last = took-token is_semicolon Semicolon (e.0).rest f.0 only-semicolon (writers.1).sound f.1 in
+    let last = took-mark Semicolon (e.0).rest f.0 (writers.1).sound f.1 in
     let v : Variable = record { name = (a.0).value; kind = (c.0).value; writers = (e.0).value } in
     let end = took-give (with_variable g v) (f.0).rest o last.sound f.2 in
     let some : 0 < length (e.0).value = omega (arith, writers.4) in
@@ -105,11 +105,11 @@ took-node g ps o is room s h =
     let a = on-inv (new_name (node_names g) ps) _ o h in
     let n = took-new (node_names g) ps a.0 s a.1 in
     let b = on-inv (token is_colon (a.0).rest) _ o a.2 in
-    let colon = took-token is_colon Colon (a.0).rest b.0 only-colon (n.0).sound b.1 in
+    let colon = took-mark Colon (a.0).rest b.0 (n.0).sound b.1 in
     let c = on-inv (known_name g.roles (b.0).rest) _ o b.2 in
     let role = took-known g.roles (b.0).rest c.0 colon.sound c.1 in
     let d = on-inv (token is_semicolon (c.0).rest) _ o c.2 in
-    let last = took-token is_semicolon Semicolon (c.0).rest d.0 only-semicolon (role.0).sound d.1 in
+    let last = took-mark Semicolon (c.0).rest d.0 (role.0).sound d.1 in
     let m : Node = record { name = (a.0).value; role = (c.0).value } in
     let end = took-give (with_node g m) (d.0).rest o last.sound d.2 in
     record {
@@ -134,11 +134,11 @@ took-edge g ps o is room s h =
     let a = on-inv (new_name (edge_names g) ps) _ o h in
     let n = took-new (edge_names g) ps a.0 s a.1 in
     let b = on-inv (token is_colon (a.0).rest) _ o a.2 in
-    let colon = took-token is_colon Colon (a.0).rest b.0 only-colon (n.0).sound b.1 in
+    let colon = took-mark Colon (a.0).rest b.0 (n.0).sound b.1 in
     let c = on-inv (known_name (node_names g) (b.0).rest) _ o b.2 in
     let source = took-known (node_names g) (b.0).rest c.0 colon.sound c.1 in
     let d = on-inv (token is_arrow (c.0).rest) _ o c.2 in
-    let arrow = took-token is_arrow Arrow (c.0).rest d.0 only-arrow (source.0).sound d.1 in
+    let arrow = took-mark Arrow (c.0).rest d.0 (source.0).sound d.1 in
     let e = on-inv (known_name (node_names g) (d.0).rest) _ o d.2 in
     let target = took-known (node_names g) (d.0).rest e.0 arrow.sound e.1 in
     let f = on-inv (read_clause (codes "writes") (variable_names g) (e.0).rest) _ o e.2 in
@@ -146,7 +146,7 @@ took-edge g ps o is room s h =
     let k = on-inv (read_clause (codes "reads") (variable_names g) (f.0).rest) _ o f.2 in
     let reads = took-clause (codes "reads") (variable_names g) (f.0).rest k.0 few (writes.1).sound k.1 in
     let l = on-inv (token is_semicolon (k.0).rest) _ o k.2 in
-    let last = took-token is_semicolon Semicolon (k.0).rest l.0 only-semicolon (reads.1).sound l.1 in
+    let last = took-mark Semicolon (k.0).rest l.0 (reads.1).sound l.1 in
     let m : Edge = record { name = (a.0).value; source = (c.0).value; target = (e.0).value; writes = (f.0).value; reads = (k.0).value } in
     let end = took-give (with_edge g m) (l.0).rest o last.sound l.2 in
     let from = node_at g (c.0).value source.1 in
