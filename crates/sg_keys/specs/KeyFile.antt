@@ -1,5 +1,5 @@
 -- The key file: the keyring that the data of its TOML text spell, or the first fault.
-use Rattle.std.specs.Prelude.{◌≡◌, IsTrue, ℕ, ◌+◌, Bool, true, ◌&&◌, ◌||◌, bytes_eq, if◌then◌else◌, List, [], ◌∷◌, ◌++◌, map, codes, Option, Some, None, is_some, option_and_then, Result, Ok, Err}
+use Rattle.std.specs.Prelude.{◌≡◌, IsTrue, ℕ, ◌+◌, Bool, true, ◌&&◌, if◌then◌else◌, List, [], ◌∷◌, ◌++◌, map, codes, Option, Some, None, is_some, option_and_then, Result, Ok, Err}
 use Rattle.std.specs.List.{list_all}
 use Rattle.std.specs.Str.{is_utf8}
 use Rattle.sg_base.specs.declared.address.Addr.{Addr}
@@ -16,10 +16,14 @@ use Rattle.sg_keys.specs.Words.{address}
 
 -- ---- tables
 
--- each key of the table is one that may stand there
-abbrev pub has_keys_alone : (List ℕ → Bool) → Members → Bool
-has_keys_alone may_stand no_members = true
-has_keys_alone may_stand (member k d table) = may_stand k && has_keys_alone may_stand table
+-- each key of the table passes
+abbrev pub all_keys : (List ℕ → Bool) → Members → Bool
+all_keys passes no_members = true
+all_keys passes (member k d table) = passes k && all_keys passes table
+
+-- each key of the table is one of these words
+abbrev pub has_keys_alone : List (List ℕ) → Members → Bool
+has_keys_alone words table = all_keys (λ k. has_text k words) table
 
 -- the text at a key
 abbrev pub text_at : List ℕ → Members → Option (List ℕ)
@@ -41,14 +45,10 @@ abbrev pub peer_from : Option Name → Option Addr → Option (List ℕ) → Opt
 peer_from (Some n) (Some a) (Some k) = Some (peer_at n a k)
 peer_from _ _ _ = None
 
--- the keys of a peer
-abbrev pub is_peer_key : List ℕ → Bool
-is_peer_key k = (bytes_eq k (codes "name") || bytes_eq k (codes "addr")) || bytes_eq k (codes "key")
-
 -- a table with exactly a name, an address and a key
 abbrev pub peer_in : Members → Option Peer
 peer_in table =
-    if has_keys_alone is_peer_key table
+    if has_keys_alone (codes "name" ∷ codes "addr" ∷ codes "key" ∷ []) table
     then peer_from (at name (codes "name") table) (at address (codes "addr") table) (at (hex_bytes 32) (codes "key") table)
     else None
 
@@ -76,14 +76,10 @@ abbrev pub head_from : Option Name → Option Addr → Option (List Data) → Op
 head_from (Some n) (Some a) (Some es) = Some (record { me = n; listen = a; entries = es })
 head_from _ _ _ = None
 
--- the keys of the head
-abbrev pub is_head_key : List ℕ → Bool
-is_head_key k = (bytes_eq k (codes "me") || bytes_eq k (codes "listen")) || bytes_eq k (codes "peer")
-
 -- a table with exactly the principal's own name, an address, and maybe a list of tables
 unfoldable pub head_of : Members → Option Head
 head_of table =
-    if has_keys_alone is_head_key table
+    if has_keys_alone (codes "me" ∷ codes "listen" ∷ codes "peer" ∷ []) table
     then head_from (at name (codes "me") table) (at address (codes "listen") table) (tables_of (get_member (codes "peer") table))
     else None
 

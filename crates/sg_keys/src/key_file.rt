@@ -4,14 +4,13 @@ ghost use Rattle.toml.specs.View.{view, table_view};
 ghost use Rattle.sg_keys.specs.KeyFile.{document, key_file, head_of, peer_of, with_entry, with_entries, SpellsKeys};
 ghost use Rattle.sg_keys.specs.Names.{peer_at};
 
-use crate::table::{
-    address_at, has_head_keys_alone, has_peer_keys_alone, key_at, name_at, tables_at,
-};
+use crate::document::read_document;
+use crate::table::{address_at, has_keys_alone, key_at, name_at, tables_at};
 use crate::{Keyring, PeerFault};
 use sg_base::{Addr, Name};
 use std::alloc::Global;
 use std::error::Error;
-use std::{fmt, str};
+use std::fmt;
 use toml::{Table, Value};
 
 /// Why a key file can't be read: the fault of the first entry that has one. The head is entry 0, and peers are counted from 1.
@@ -92,7 +91,9 @@ fn read_keys(alloc: Global, bytes: &[u8]) -> Result<Keyring, KeyFault>
     ensures fault { IfErr result (λ e. e ≢ KeyFault.OutOfMemory → key_file bytes.now ≡ Err e) }
     ensures not_text { ¬ IsUtf8 bytes.now → result ≡ Err KeyFault.NotToml }
 {
-    let table = read_document(alloc, bytes)?;
+    let Some(table) = read_document(alloc, bytes).map_err(|_| KeyFault::OutOfMemory)? else {
+        return Err(KeyFault::NotToml);
+    };
     let Some(head) = read_head(&table) else {
         return Err(KeyFault::BadEntry { entry: 0 });
     };
@@ -103,34 +104,12 @@ fn read_keys(alloc: Global, bytes: &[u8]) -> Result<Keyring, KeyFault>
     )
 }
 
-// The data of a TOML text.
-#[tactic(auto, unfolding(crate::specs::KeyFile::document))]
-fn read_document(alloc: Global, bytes: &[u8]) -> Result<Table, KeyFault>
-    ensures ok { IfOk result (λ t. document bytes.now ≡ Some (table_view t)) }
-    ensures refused { IfErr result (λ e. e ≢ KeyFault.OutOfMemory → (e ≡ KeyFault.NotToml) × (document bytes.now ≡ None)) }
-    ensures not_text { ¬ IsUtf8 bytes.now → result ≡ Err KeyFault.NotToml }
-{
-    if str::from_utf8(bytes).is_err() {
-        return Err(KeyFault::NotToml);
-    }
-    match toml::table_from_slice(alloc, bytes) {
-        Ok(table) => Ok(table),
-        Err(fault) => {
-            if fault.is_memory() {
-                Err(KeyFault::OutOfMemory)
-            } else {
-                Err(KeyFault::NotToml)
-            }
-        }
-    }
-}
-
 // The head of the data of a key file.
 #[tactic(auto, unfolding(crate::specs::KeyFile::head_of))]
 fn read_head(table: &Table) -> Option<Head<'_>>
     ensures { option_map (λ h. record { me = h.me; listen = h.listen; entries = map view h.entries.now }) result ≡ head_of (table_view table.now) }
 {
-    if !has_head_keys_alone(table) {
+    if !has_keys_alone(table, &["me", "listen", "peer"]) {
         return None;
     }
     let me = name_at(table, "me")?;
@@ -149,7 +128,7 @@ fn read_peer(value: &Value) -> Option<PeerEntry>
     ensures { option_map (λ p. peer_at p.name p.addr p.key) result ≡ peer_of (view value.now) }
 {
     let table = value.as_table()?;
-    if !has_peer_keys_alone(table) {
+    if !has_keys_alone(table, &["name", "addr", "key"]) {
         return None;
     }
     let name = name_at(table, "name")?;

@@ -15,16 +15,18 @@
 //! key = "1111111111111111111111111111111111111111111111111111111111111111"
 //! ```
 //!
-//! with exactly these keys. There may be no `peer` at all. `text_at`, `name_at` and `tables_at` read what stands at a key of a table, for
-//! scripts too. `laws` says that bytes spell one keyring at most.
+//! with exactly these keys. There may be no `peer` at all. `read_document` gives the table of a text, `has_keys_alone` tests its keys, and
+//! `value_at`, `text_at`, `name_at` and `tables_at` read what stands at a key, for scripts too. `laws` says that bytes spell one keyring at most.
 #![tactic(auto)]
 
+mod document;
 mod key_file;
 mod keyring;
 pub mod laws;
 mod table;
 mod word;
 
+pub use document::read_document;
 pub use key_file::KeyFault;
 pub use keyring::{Keyring, PeerFault};
-pub use table::{name_at, tables_at, text_at};
+pub use table::{has_keys_alone, name_at, tables_at, text_at, value_at};

@@ -1,10 +1,10 @@
 //! What the tables of a TOML text hold at their keys, and those of a key file.
-ghost use Rattle.std.specs.Prelude.{◌≡◌, is_some, map, string_bytes, option_map, option_and_then};
-ghost use Rattle.std.specs.List.{list_all};
+ghost use Rattle.std.specs.Prelude.{◌≡◌, bytes_eq, is_some, map, string_bytes, option_map, option_and_then};
+ghost use Rattle.std.specs.List.{list_all, list_any};
 ghost use Rattle.std.specs.BTreeMap.{keys};
 ghost use Rattle.toml.specs.Data.{as_str, as_array, as_table, get_member};
 ghost use Rattle.toml.specs.View.{view, items_view, table_view};
-ghost use Rattle.sg_keys.specs.KeyFile.{has_keys_alone, text_at, at, is_head_key, is_peer_key, tables_in, tables_of};
+ghost use Rattle.sg_keys.specs.KeyFile.{has_keys_alone, text_at, at, tables_in, tables_of};
 ghost use Rattle.sg_base.specs.Words.{name, hex_bytes};
 ghost use Rattle.sg_keys.specs.Words.{address};
 
@@ -12,11 +12,18 @@ use crate::word::read_address;
 use sg_base::{Addr, Name, read_hex};
 use toml::{Table, Value};
 
+/// What stands at a key, or `None` if nothing does.
+pub fn value_at<'a>(table: &'a Table, key: &str) -> Option<&'a Value>
+    ensures { option_map (λ v. view v.now) result ≡ get_member key.now (table_view table.now) }
+{
+    table.get(key)
+}
+
 /// The text at a key, or `None` if there is none.
 pub fn text_at<'a>(table: &'a Table, key: &str) -> Option<&'a str>
     ensures { option_map (λ s. s.now) result ≡ text_at key.now (table_view table.now) }
 {
-    match table.get(key) {
+    match value_at(table, key) {
         Some(value) => value.as_str(),
         None => None,
     }
@@ -44,42 +51,23 @@ pub(crate) fn key_at(table: &Table, key: &str) -> Option<[u8; 32]>
     read_hex(text_at(table, key)?.as_bytes())
 }
 
-fn is_head_key(key: &str) -> bool
-    ensures { result ≡ is_head_key key.now }
+/// Whether each key of the table is one of these words.
+pub fn has_keys_alone(table: &Table, words: &[&str]) -> bool
+    ensures { result ≡ has_keys_alone (map (λ w. w.now) words.now) (table_view table.now) }
 {
-    key == "me" || key == "listen" || key == "peer"
+    are_words(table, words)
 }
 
-fn is_peer_key(key: &str) -> bool
-    ensures { result ≡ is_peer_key key.now }
+fn are_words(table: &Table, words: &[&str]) -> bool
+    ensures { result ≡ list_all (λ k. list_any (λ w. bytes_eq (string_bytes k) w.now) words.now) (keys table.now) }
 {
-    key == "name" || key == "addr" || key == "key"
+    table.keys().all(|key| is_one_of(key.as_str(), words))
 }
 
-/// Whether each key of the table is one of the head.
-pub(crate) fn has_head_keys_alone(table: &Table) -> bool
-    ensures { result ≡ has_keys_alone is_head_key (table_view table.now) }
+fn is_one_of(key: &str, words: &[&str]) -> bool
+    ensures { result ≡ list_any (λ w. bytes_eq key.now w.now) words.now }
 {
-    are_head_keys(table)
-}
-
-fn are_head_keys(table: &Table) -> bool
-    ensures { result ≡ list_all (λ k. is_head_key (string_bytes k)) (keys table.now) }
-{
-    table.keys().all(|key| is_head_key(key.as_str()))
-}
-
-/// Whether each key of the table is one of a peer.
-pub(crate) fn has_peer_keys_alone(table: &Table) -> bool
-    ensures { result ≡ has_keys_alone is_peer_key (table_view table.now) }
-{
-    are_peer_keys(table)
-}
-
-fn are_peer_keys(table: &Table) -> bool
-    ensures { result ≡ list_all (λ k. is_peer_key (string_bytes k)) (keys table.now) }
-{
-    table.keys().all(|key| is_peer_key(key.as_str()))
+    words.iter().any(|word| key == *word)
 }
 
 fn are_tables(values: &[Value]) -> bool
@@ -113,7 +101,7 @@ fn tables_of(value: &Value) -> Option<&[Value]>
 pub fn tables_at<'a>(table: &'a Table, key: &str) -> Option<&'a [Value]>
     ensures { option_map (λ vs. map view vs.now) result ≡ tables_of (get_member key.now (table_view table.now)) }
 {
-    match table.get(key) {
+    match value_at(table, key) {
         Some(value) => tables_of(value),
         None => Some(&[]),
     }

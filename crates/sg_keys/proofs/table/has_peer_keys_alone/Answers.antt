@@ -1,7 +1,0 @@
-use Rattle.std.proofs.Common.{◌∙◌}
-use Rattle.sg_keys.specs.KeyFile.{is_peer_key}
-use Rattle.sg_keys.proofs.TableLaws.{keys_alone}
-use Rattle.sg_keys.proofs.table.has_peer_keys_alone.Goals as goal
-
-pub returns : goal.returns
-returns c = c.are_peer_keys.ensures ∙ keys_alone is_peer_key c.args.table.now.entries
