@@ -4,7 +4,7 @@ use Rattle.toml.specs.Data.{Data, Members, get_member}
 use Rattle.sg_keys.specs.KeyFile.{document, has_keys_alone, tables_of}
 use Rattle.sg_protocol.specs.Keyring.{Program}
 use Rattle.sg_script.specs.Script.{Start, Choice, Script}
-use Rattle.sg_script.specs.Format.{is_script_key, start_of, choice_of, starts_of, then_with, each_from, entries, answer_to, answer_to_table, script_file, SpellsTable, SpellsScript}
+use Rattle.sg_script.specs.Format.{script_keys, start_of, choice_of, starts_of, then_with, each_from, entries, answer_to, answer_to_table, script_file, SpellsTable, SpellsScript}
 use Rattle.sg_script.specs.declared.fault.ScriptFault.{ScriptFault}
 use Rattle.sg_script.specs.declared.fault.ScriptFault.TheVariants.{NotToml, BadStart, BadChoice, OutOfMemory}
 
@@ -51,11 +51,11 @@ both_steps (Ok xs) (Ok ys) s h =
     (ap (λ (t : Script). Ok t.starts) whole, ap (λ (t : Script). Ok t.choices) whole)
 
 -- the list of starts is there if nothing else is
-starts_there : (table : Members) (ds : List Data) → starts_of table ≡ Some ds → (has_keys_alone is_script_key table ≡ true) × (tables_of (get_member (codes "start") table) ≡ Some ds)
-starts_there table ds h = by (has_keys_alone is_script_key table) refl h
+starts_there : (table : Members) (ds : List Data) → starts_of table ≡ Some ds → (has_keys_alone script_keys table ≡ true) × (tables_of (get_member (codes "start") table) ≡ Some ds)
+starts_there table ds h = by (has_keys_alone script_keys table) refl h
   where
-    by : (b : Bool) → has_keys_alone is_script_key table ≡ b → (if b then tables_of (get_member (codes "start") table) else None) ≡ Some ds
-        → (has_keys_alone is_script_key table ≡ true) × (tables_of (get_member (codes "start") table) ≡ Some ds)
+    by : (b : Bool) → has_keys_alone script_keys table ≡ b → (if b then tables_of (get_member (codes "start") table) else None) ≡ Some ds
+        → (has_keys_alone script_keys table ≡ true) × (tables_of (get_member (codes "start") table) ≡ Some ds)
     by true e k = (e, k)
     by false e k = absurd (cc)
 
@@ -69,7 +69,7 @@ spells_table programs table s h =
 
 pub table_answers : (programs : List Program) (table : Members) (s : Script) → SpellsTable programs table s → answer_to_table programs table ≡ Ok s
 table_answers programs table s t =
-    let alone : has_keys_alone is_script_key table ≡ true = t.alone in
+    let alone : has_keys_alone script_keys table ≡ true = t.alone in
     let there : starts_of table ≡ Some t.starts = rw alone t.start_list in
     let starts = entries_read BadStart (start_of programs) (starts_of table) s.starts (record { listed = t.starts; there = there; each = t.each_start }) in
     let choices = entries_read BadChoice (choice_of programs) (tables_of (get_member (codes "choice") table)) s.choices (record { listed = t.choices; there = t.choice_list; each = t.each_choice }) in

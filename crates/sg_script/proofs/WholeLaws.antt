@@ -10,7 +10,7 @@ use Rattle.toml.specs.Data.{Data, Items, Members, get_member, as_str, as_integer
 use Rattle.sg_base.specs.Words.{name}
 use Rattle.sg_graph.proofs.FirstIndex.{passes_there}
 use Rattle.sg_graph.specs.Parts.{variable_names, node_names, edge_names}
-use Rattle.sg_keys.specs.KeyFile.{at, has_keys_alone, list_of, text_at}
+use Rattle.sg_keys.specs.KeyFile.{all_keys, at, has_keys_alone, list_of, text_at}
 use Rattle.sg_model.specs.Last.{Map}
 use Rattle.sg_model.specs.Lists.{below, range_from, rises_from}
 use Rattle.sg_model.specs.Names.{Name, is_name}
@@ -21,7 +21,7 @@ use Rattle.sg_protocol.specs.Keyring.{Program}
 use Rattle.sg_protocol.specs.TextLaws.{IsVersion}
 use Rattle.sg_program.specs.Together.{is_named}
 use Rattle.sg_script.specs.Script.{Start, Choice, Script, IsStart, IsChoice, IsScript}
-use Rattle.sg_script.specs.Format.{between, number_or, name_of, all_there, cast_in, cast_of, graph_named, number_of, spelled_value, given, values_in, values_or_none, is_start_key, start_from, start_in, start_of, is_choice_key, choice_from, choice_at, choice_in, choice_of, SpellsScript}
+use Rattle.sg_script.specs.Format.{between, number_or, name_of, all_there, cast_in, cast_of, graph_named, number_of, spelled_value, given, values_in, values_or_none, start_keys, start_from, start_of, choice_keys, choice_from, choice_at, choice_of, SpellsScript}
 
 -- ---- steps
 
@@ -38,6 +38,16 @@ steps f (Some x) y h = record { first = x; was = refl; next = h }
 tested : {A : Type 0} (b : Bool) (o : Option A) (y : A) → (if b then o else None) ≡ Some y → (b ≡ true) × (o ≡ Some y)
 tested true o y h = (refl, h)
 tested false o y h = absurd (cc)
+
+-- an entry is a table with these keys alone, and its parts are read
+record Entry {A : Type 0} (read : Members → Option A) (y : A) : Type 0 where
+  table : Members
+  read_is : read table ≡ Some y
+
+entry_is : {A : Type 0} (words : List (List ℕ)) (read : Members → Option A) (d : Data) (y : A) → option_and_then (λ t. if has_keys_alone words t then read t else None) (as_table d) ≡ Some y → Entry read y
+entry_is words read d y h =
+    let f = steps (λ t. if has_keys_alone words t then read t else None) (as_table d) y h in
+    record { table = f.first; read_is = (tested (has_keys_alone words f.first) (read f.first) y f.next).1 }
 
 -- ---- numbers
 
@@ -158,11 +168,8 @@ version_is o v h = let w = number_within 1 1 2 o v (omega arith) (omega arith) h
 pub start_is : (programs : List Program) (d : Data) (s : Start) → start_of programs d ≡ Some s → IsStart programs s
 unfolding start_of
 start_is programs d s h =
-    let f = steps (start_in programs) (as_table d) s h in
-    let table = f.first in
-    let t = tested (has_keys_alone is_start_key table)
-    (start_from programs (at name (codes "graph") table) (number_or 1 1 2 (get_member (codes "version") table)) (cast_of (get_member (codes "cast") table))) s f.next in
-    parts_start programs _ _ _ s t.1 (version_is (get_member (codes "version") table)) (cast_at_is (get_member (codes "cast") table))
+    let e = entry_is start_keys (λ t. start_from programs (at name (codes "graph") t) (number_or 1 1 2 (get_member (codes "version") t)) (cast_of (get_member (codes "cast") t))) d s h in
+    parts_start programs _ _ _ s e.read_is (version_is (get_member (codes "version") e.table)) (cast_at_is (get_member (codes "cast") e.table))
 
 -- ---- choices
 
@@ -223,7 +230,7 @@ values_rise : (names : List Name) (o : Option Data) (m : Map Value) → values_o
 values_rise names None m h = (let e : [] ≡ m = some_same h in subst (Rising 0 (length names)) e (record { rise = refl; under = tt }))
 values_rise names (Some d) m h =
     let s = steps (values_in names) (as_table d) m h in
-    let t = tested (has_keys_alone (λ k. is_some (number_of names k)) s.first) (all_there (filter_map (given names s.first) (below (length names)))) m s.next in
+    let t = tested (all_keys (λ k. is_some (number_of names k)) s.first) (all_there (filter_map (given names s.first) (below (length names)))) m s.next in
     rising (given names s.first) (given_own names s.first) (length names) 0 0 (length names) m (omega arith) (omega arith) t.1
 
 -- each part of a choice is one
@@ -273,13 +280,10 @@ choice_at_is programs table n g c found h =
 pub choice_is : (programs : List Program) (d : Data) (c : Choice) → choice_of programs d ≡ Some c → IsChoice programs c
 unfolding choice_of
 choice_is programs d c h =
-    let f = steps (choice_in programs) (as_table d) c h in
-    let table = f.first in
-    let t = tested (has_keys_alone is_choice_key table)
-    (option_and_then (λ n. option_and_then (choice_at table n) (graph_named programs n)) (at name (codes "graph") table)) c f.next in
-    let n = steps (λ n. option_and_then (choice_at table n) (graph_named programs n)) (at name (codes "graph") table) c t.1 in
-    let g = steps (choice_at table n.first) (graph_named programs n.first) c n.next in
-    choice_at_is programs table n.first g.first c g.was g.next
+    let e = entry_is choice_keys (λ t. option_and_then (λ n. option_and_then (choice_at t n) (graph_named programs n)) (at name (codes "graph") t)) d c h in
+    let n = steps (λ n. option_and_then (choice_at e.table n) (graph_named programs n)) (at name (codes "graph") e.table) c e.read_is in
+    let g = steps (choice_at e.table n.first) (graph_named programs n.first) c n.next in
+    choice_at_is programs e.table n.first g.first c g.was g.next
 
 -- ---- scripts
 

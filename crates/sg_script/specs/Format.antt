@@ -1,9 +1,9 @@
 -- The script: what the data of its TOML text spell beside the programs that the principal has, or the first fault.
-use Rattle.std.specs.Prelude.{◌≡◌, ℕ, ◌+◌, ℤ, pos, Bool, ◌&&◌, ◌||◌, IsTrue, nat_le, bytes_eq, if◌then◌else◌, List, [], ◌∷◌, length, map, filter_map, find, position, get_or, codes, Option, Some, None, is_some, option_map, option_and_then, Result, Ok, Err}
+use Rattle.std.specs.Prelude.{◌≡◌, ℕ, ◌+◌, ℤ, pos, Bool, ◌&&◌, IsTrue, nat_le, bytes_eq, if◌then◌else◌, List, [], ◌∷◌, length, map, filter_map, find, position, get_or, codes, Option, Some, None, is_some, option_map, option_and_then, Result, Ok, Err}
 use Rattle.toml.specs.Data.{Data, string, integer, Members, get_member, as_str, as_integer, as_array, as_table}
 use Rattle.sg_base.specs.Words.{name}
 use Rattle.sg_graph.specs.Parts.{variable_names, node_names, edge_names}
-use Rattle.sg_keys.specs.KeyFile.{at, document, has_keys_alone, list_of, tables_of}
+use Rattle.sg_keys.specs.KeyFile.{all_keys, at, document, has_keys_alone, list_of, tables_of}
 use Rattle.sg_model.specs.Last.{Map}
 use Rattle.sg_model.specs.Lists.{below}
 use Rattle.sg_model.specs.Names.{Name}
@@ -70,7 +70,7 @@ given names table x = option_map (λ d. option_map (λ v. (x, v)) (spelled_value
 -- each key is a variable's name: the variables with their values, in rising order
 abbrev pub values_in : List Name → Members → Option (Map Value)
 values_in names table =
-    if has_keys_alone (λ k. is_some (number_of names k)) table then all_there (filter_map (given names table) (below (length names))) else None
+    if all_keys (λ k. is_some (number_of names k)) table then all_there (filter_map (given names table) (below (length names))) else None
 
 -- the values of an entry, none if they are missing
 abbrev pub values_or_none : List Name → Option Data → Option (Map Value)
@@ -80,8 +80,8 @@ values_or_none names (Some d) = option_and_then (values_in names) (as_table d)
 -- ---- starts
 
 -- the keys of a start
-abbrev pub is_start_key : List ℕ → Bool
-is_start_key k = (bytes_eq k (codes "graph") || bytes_eq k (codes "cast")) || bytes_eq k (codes "version")
+abbrev pub start_keys : List (List ℕ)
+start_keys = codes "graph" ∷ codes "cast" ∷ codes "version" ∷ []
 
 -- a start of its parts, if a program of its graph is there
 abbrev pub start_from : List Program → Option Name → Option ℕ → Option (List Name) → Option Start
@@ -91,7 +91,7 @@ start_from programs _ _ _ = None
 -- a table with a graph, a cast and maybe a version
 abbrev pub start_in : List Program → Members → Option Start
 start_in programs table =
-    if has_keys_alone is_start_key table
+    if has_keys_alone start_keys table
     then start_from programs (at name (codes "graph") table) (number_or 1 1 2 (get_member (codes "version") table)) (cast_of (get_member (codes "cast") table))
     else None
 
@@ -102,9 +102,8 @@ start_of programs d = option_and_then (start_in programs) (as_table d)
 -- ---- choices
 
 -- the keys of a choice
-abbrev pub is_choice_key : List ℕ → Bool
-is_choice_key k =
-    (((bytes_eq k (codes "graph") || bytes_eq k (codes "node")) || bytes_eq k (codes "label")) || bytes_eq k (codes "values")) || bytes_eq k (codes "times")
+abbrev pub choice_keys : List (List ℕ)
+choice_keys = codes "graph" ∷ codes "node" ∷ codes "label" ∷ codes "values" ∷ codes "times" ∷ []
 
 -- a choice of its parts
 abbrev pub choice_from : Name → Option ℕ → Option ℕ → Option (Map Value) → Option ℕ → Option Choice
@@ -120,7 +119,7 @@ choice_at table n g =
 -- a table with a graph of which a program is there
 abbrev pub choice_in : List Program → Members → Option Choice
 choice_in programs table =
-    if has_keys_alone is_choice_key table
+    if has_keys_alone choice_keys table
     then option_and_then (λ n. option_and_then (choice_at table n) (graph_named programs n)) (at name (codes "graph") table)
     else None
 
@@ -131,12 +130,12 @@ choice_of programs d = option_and_then (choice_in programs) (as_table d)
 -- ---- what the file spells
 
 -- the keys of a script
-abbrev pub is_script_key : List ℕ → Bool
-is_script_key k = bytes_eq k (codes "start") || bytes_eq k (codes "choice")
+abbrev pub script_keys : List (List ℕ)
+script_keys = codes "start" ∷ codes "choice" ∷ []
 
 -- the data spell the script: lists of tables at `start` and `choice` and at no other key, and each table a start or a choice, in order
 pub record SpellsTable (programs : List Program) (table : Members) (s : Script) : Type 0 where
-  pub alone : IsTrue (has_keys_alone is_script_key table)
+  pub alone : IsTrue (has_keys_alone script_keys table)
   pub starts : List Data
   pub choices : List Data
   pub start_list : tables_of (get_member (codes "start") table) ≡ Some starts
@@ -168,7 +167,7 @@ entries fault read (Some ds) = each_from fault 1 (map read ds)
 
 -- the list of starts, if nothing stands beside `start` and `choice`
 abbrev pub starts_of : Members → Option (List Data)
-starts_of table = if has_keys_alone is_script_key table then tables_of (get_member (codes "start") table) else None
+starts_of table = if has_keys_alone script_keys table then tables_of (get_member (codes "start") table) else None
 
 -- the answer to a table: the starts go before the choices
 abbrev pub answer_to_table : List Program → Members → Result Script ScriptFault

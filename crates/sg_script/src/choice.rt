@@ -5,11 +5,11 @@ ghost use Rattle.sg_script.specs.Format.{choice_at, choice_in, choice_of};
 
 use crate::ScriptChoice;
 use crate::graph::{graph_named, label_at, node_at};
-use crate::table::{has_choice_keys_alone, number_or};
+use crate::table::number_or;
 use crate::value::values_at;
 use sg_base::{Name, OutOfMemory};
 use sg_graph::Graph;
-use sg_keys::name_at;
+use sg_keys::{has_keys_alone, name_at};
 use sg_program::Programs;
 use std::alloc::Global;
 use toml::{Table, Value};
@@ -37,7 +37,7 @@ fn choice_in(
 ) -> Result<Option<ScriptChoice>, OutOfMemory>
     ensures { IfOk result (λ o. o ≡ choice_in programs.now (table_view table.now)) }
 {
-    if !has_choice_keys_alone(table) {
+    if !has_keys_alone(table, &["graph", "node", "label", "values", "times"]) {
         return Ok(None);
     }
     let Some(name) = name_at(table, "graph") else {

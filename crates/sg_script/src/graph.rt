@@ -4,7 +4,7 @@ ghost use Rattle.std.specs.BTreeMap.{keys};
 ghost use Rattle.std.specs.List.{list_all};
 ghost use Rattle.toml.specs.View.{table_view};
 ghost use Rattle.sg_graph.specs.Parts.{variable_names, node_names, edge_names};
-ghost use Rattle.sg_keys.specs.KeyFile.{at, has_keys_alone};
+ghost use Rattle.sg_keys.specs.KeyFile.{all_keys, at};
 ghost use Rattle.sg_protocol.specs.Graph.{variable_name};
 ghost use Rattle.sg_script.specs.Format.{graph_named, number_of};
 
@@ -82,7 +82,7 @@ fn is_variable(graph: &Graph, text: &str) -> bool
 
 /// Whether each key of the table is the name of a variable.
 pub(crate) fn has_variables_alone(graph: &Graph, table: &Table) -> bool
-    ensures { result ≡ has_keys_alone (λ k. is_some (number_of (variable_names graph.now) k)) (table_view table.now) }
+    ensures { result ≡ all_keys (λ k. is_some (number_of (variable_names graph.now) k)) (table_view table.now) }
 {
     are_variables(graph, table)
 }

@@ -2,19 +2,17 @@
 ghost use Rattle.std.specs.Prelude.{◌≡◌, ◌≢◌, ◌⊎◌, ◌++◌, [], ◌∷◌, codes, map, option_map, Ok, Err, Some, None, IfErr, IfOk, IsUtf8, OnOk};
 ghost use Rattle.toml.specs.Data.{get_member};
 ghost use Rattle.toml.specs.View.{view, table_view};
-ghost use Rattle.sg_keys.specs.KeyFile.{document, tables_of};
+ghost use Rattle.sg_keys.specs.KeyFile.{tables_of};
 ghost use Rattle.sg_script.specs.Format.{answer_to_table, choice_of, each_from, entries, script_file, start_of, starts_of, SpellsScript};
 ghost use Rattle.sg_script.specs.Script.{IsScript, Script};
 
 use crate::choice::read_choice;
 use crate::start::read_start;
-use crate::table::has_script_keys_alone;
 use crate::{Script, ScriptChoice, ScriptFault, ScriptStart};
 use sg_base::Seq;
-use sg_keys::tables_at;
+use sg_keys::{has_keys_alone, read_document, tables_at};
 use sg_program::Programs;
 use std::alloc::Global;
-use std::str;
 use toml::{Table, Value};
 
 /// The script that the bytes spell beside the programs, or its first fault: what stands beside `start` and `choice`, or a `start` that
@@ -37,30 +35,10 @@ fn answer(alloc: Global, bytes: &[u8], programs: &Programs) -> Result<Script, Sc
     ensures fault { IfErr result (λ e. e ≢ ScriptFault.OutOfMemory → script_file programs.now bytes.now ≡ Err e) }
     ensures not_text { ¬ IsUtf8 bytes.now → result ≡ Err ScriptFault.NotToml }
 {
-    let table = read_document(alloc, bytes)?;
-    read_table(alloc, &table, programs)
-}
-
-// The data of a TOML text.
-#[tactic(auto, unfolding(sg_keys::specs::KeyFile::document))]
-fn read_document(alloc: Global, bytes: &[u8]) -> Result<Table, ScriptFault>
-    ensures ok { IfOk result (λ t. document bytes.now ≡ Some (table_view t)) }
-    ensures refused { IfErr result (λ e. e ≢ ScriptFault.OutOfMemory → (e ≡ ScriptFault.NotToml) × (document bytes.now ≡ None)) }
-    ensures not_text { ¬ IsUtf8 bytes.now → result ≡ Err ScriptFault.NotToml }
-{
-    if str::from_utf8(bytes).is_err() {
+    let Some(table) = read_document(alloc, bytes).map_err(|_| ScriptFault::OutOfMemory)? else {
         return Err(ScriptFault::NotToml);
-    }
-    match toml::table_from_slice(alloc, bytes) {
-        Ok(table) => Ok(table),
-        Err(fault) => {
-            if fault.is_memory() {
-                Err(ScriptFault::OutOfMemory)
-            } else {
-                Err(ScriptFault::NotToml)
-            }
-        }
-    }
+    };
+    read_table(alloc, &table, programs)
 }
 
 // The script of a table, or the first fault.
@@ -92,7 +70,7 @@ fn read_starts(
 fn list_of_starts(table: &Table) -> Option<&[Value]>
     ensures { option_map (λ vs. map view vs.now) result ≡ starts_of (table_view table.now) }
 {
-    if has_script_keys_alone(table) {
+    if has_keys_alone(table, &["start", "choice"]) {
         tables_at(table, "start")
     } else {
         None

@@ -7,9 +7,9 @@ ghost use Rattle.sg_script.specs.Format.{all_there, cast_in, cast_of, name_of, s
 
 use crate::ScriptStart;
 use crate::graph::has_graph;
-use crate::table::{has_start_keys_alone, name_of, number_or, value_at};
+use crate::table::{name_of, number_or};
 use sg_base::{Name, OutOfMemory, Seq};
-use sg_keys::name_at;
+use sg_keys::{has_keys_alone, name_at, value_at};
 use sg_program::Programs;
 use std::alloc::Global;
 use toml::{Table, Value};
@@ -37,7 +37,7 @@ fn start_in(
 ) -> Result<Option<ScriptStart>, OutOfMemory>
     ensures { IfOk result (λ o. o ≡ start_in programs.now (table_view table.now)) }
 {
-    if !has_start_keys_alone(table) {
+    if !has_keys_alone(table, &["graph", "cast", "version"]) {
         return Ok(None);
     }
     let Some(graph) = name_at(table, "graph") else {

@@ -11,9 +11,9 @@ ghost use Rattle.sg_walk.specs.Model.{values_of};
 ghost use Rattle.sg_script.specs.Format.{all_there, given, spelled_value, values_in, values_or_none};
 
 use crate::graph::has_variables_alone;
-use crate::table::value_at;
 use sg_base::{Chars, CharsFault, OutOfMemory, Seq, Value, Var};
 use sg_graph::Graph;
+use sg_keys::value_at;
 use std::alloc::{AllocError, Global};
 use toml::{Table, Value as Entry};
 
