@@ -1,5 +1,6 @@
 -- What a search along the edges finds.
-use Rattle.std.specs.Prelude.{◌≡◌, ℕ, ◌<◌, ◌==◌, ◌||◌, Bool, true, false, nat_lt, if◌then◌else◌, List, [], ◌∷◌, ◌++◌, filter, length, get_or, None, is_some, All, AllPairs, Contains}
+use Rattle.std.specs.Prelude.{◌≡◌, ℕ, ◌<◌, ◌≤◌, ◌==◌, ◌||◌, Bool, true, false, nat_lt, if◌then◌else◌, List, [], ◌∷◌, ◌++◌, filter, length, get_or, None, is_some, All, AllPairs, Contains}
+use Rattle.sg_model.specs.Limits.{most_open_views}
 use Rattle.sg_model.specs.Shape.{Walk, end_of, role_at, source, target, receiver}
 use Rattle.sg_protocol.specs.Graph.{Graph, IsGraph, shape}
 use Rattle.sg_protocol.specs.Evidence.{View, view_of}
@@ -91,6 +92,12 @@ Followed g r states p = (e : ℕ) → e < length g.edges → source (shape g) e 
 -- the states below a number are followed
 abbrev pub FollowedBelow : Graph → ℕ → List State → ℕ → Type 0
 FollowedBelow g r states n = (i : ℕ) (d : State) → i < n → i < length states → Followed g r states (get_or states i d)
+
+-- all states are found and followed, and few of their views are open
+pub record AllFound (g : Graph) (r : ℕ) (states : List State) : Type 0 where
+  pub searched : Searched g r states
+  pub followed : FollowedBelow g r states (length states)
+  pub few : length (open_states states) ≤ most_open_views
 
 -- the second list begins with the first
 abbrev pub Extends : {A : Type 0} → List A → List A → Type 0

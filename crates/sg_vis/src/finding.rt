@@ -1,12 +1,12 @@
 //! The views of a role.
 ghost use Rattle.std.specs.Prelude.{◌≡◌, ℕ, ◌<◌, ◌≤◌, ◌++◌, [], ◌∷◌, length, insert, slice_get, All, Contains, IfErr, IfOk, IfSome, OnOk};
-ghost use Rattle.sg_model.specs.Limits.{most_open_views, most_views};
+ghost use Rattle.sg_model.specs.Limits.{most_views};
 ghost use Rattle.sg_model.specs.Shape.{source, receiver};
 ghost use Rattle.sg_protocol.specs.Evidence.{IsViewTable};
 ghost use Rattle.sg_protocol.specs.Graph.{Graph, shape};
 ghost use Rattle.sg_vis.specs.Limits.{Explains, FewOpen, IsFull, MatchViews};
 ghost use Rattle.sg_vis.specs.Order.{HoldsTable, BelongsAt};
-ghost use Rattle.sg_vis.specs.Search.{AreRows, FollowedBelow, Keeps, LeadBack, Searched, ShowsNext, ShownBelow, open_states};
+ghost use Rattle.sg_vis.specs.Search.{AllFound, AreRows, Keeps, LeadBack, Searched, ShowsNext, ShownBelow};
 ghost use Rattle.sg_vis.specs.Steps.{next_view};
 ghost use Rattle.sg_vis.specs.Table.{Shows, views_of};
 
@@ -42,9 +42,7 @@ fn all_rows(
     role: Role,
     states: &States,
 ) -> Result<Vec<Row>, ViewFault>
-    requires searched { Searched graph.now role states.now }
-    requires followed { FollowedBelow graph.now role states.now (length states.now) }
-    requires few { length (open_states states.now) ≤ most_open_views }
+    requires found { AllFound graph.now role states.now }
     ensures rows { IfOk result (λ rows. AreRows graph.now role rows.items) }
     ensures shown { IfOk result (λ rows. ShownBelow graph.now role (views_of rows.items) states.now (length states.now)) }
     ensures refused { IfErr result (Explains graph.now role) }
@@ -65,9 +63,7 @@ fn add_rows(
     at: usize,
     rows: &mut Vec<Row>,
 ) -> Result<(), ViewFault>
-    requires searched { Searched graph.now role states.now }
-    requires followed { FollowedBelow graph.now role states.now (length states.now) }
-    requires few { length (open_states states.now) ≤ most_open_views }
+    requires found { AllFound graph.now role states.now }
     requires there { at < length states.now }
     requires rows { AreRows graph.now role rows.old.items }
     ensures rows { OnOk result (AreRows graph.now role rows.new.items) }
@@ -94,9 +90,7 @@ fn add_row(
     label: Label,
     rows: &mut Vec<Row>,
 ) -> Result<(), ViewFault>
-    requires searched { Searched graph.now role states.now }
-    requires followed { FollowedBelow graph.now role states.now (length states.now) }
-    requires few { length (open_states states.now) ≤ most_open_views }
+    requires found { AllFound graph.now role states.now }
     requires there { at < length states.now }
     requires label { label < length graph.now.edges }
     requires source { IfSome (slice_get states.now at) (λ p. source (shape graph.now) label ≡ p.node) }

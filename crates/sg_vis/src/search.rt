@@ -4,7 +4,7 @@ ghost use Rattle.sg_model.specs.Limits.{most_open_views};
 ghost use Rattle.sg_model.specs.Shape.{source};
 ghost use Rattle.sg_protocol.specs.Graph.{Graph, shape};
 ghost use Rattle.sg_vis.specs.Limits.{Explains};
-ghost use Rattle.sg_vis.specs.Search.{Arrives, Extends, Followed, FollowedBelow, LeadBack, LeadsInto, Searched, next_state, nothing, open_states};
+ghost use Rattle.sg_vis.specs.Search.{AllFound, Arrives, Extends, Followed, LeadBack, LeadsInto, Searched, next_state, nothing, open_states};
 ghost use Rattle.sg_vis.specs.Steps.{HasLabels};
 
 use crate::states::{State, States};
@@ -18,9 +18,7 @@ const MOST_OPEN: usize = 65_536;
 
 /// All states that walks from the start lead to. Among them are all open views.
 pub(crate) fn all_states(alloc: Global, graph: &Graph, role: Role) -> Result<States, ViewFault>
-    ensures searched { IfOk result (Searched graph.now role) }
-    ensures followed { IfOk result (λ states. FollowedBelow graph.now role states (length states)) }
-    ensures few { IfOk result (λ states. length (open_states states) ≤ most_open_views) }
+    ensures found { IfOk result (AllFound graph.now role) }
     ensures refused { IfErr result (Explains graph.now role) }
 {
     let mut states = first_state(alloc, graph)?;

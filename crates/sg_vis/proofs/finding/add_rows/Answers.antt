@@ -2,7 +2,7 @@ use Rattle.std.proofs.Common.{◌≡◌, ℕ, List, ◌==◌, ◌<◌, Vec, Glob
 use Rattle.std.proofs.lemmas.Bool.{eq-eqb}
 use Rattle.sg_model.specs.Shape.{receiver}
 use Rattle.sg_protocol.specs.Evidence.{View}
-use Rattle.sg_protocol.specs.Graph.{shape}
+use Rattle.sg_protocol.specs.Graph.{Graph, shape}
 use Rattle.sg_vis.specs.declared.states.State.{State}
 use Rattle.sg_vis.specs.Search.{AreRows, Keeps}
 use Rattle.sg_vis.specs.Steps.{next_view}
@@ -10,6 +10,14 @@ use Rattle.sg_vis.specs.Table.{ShownView, views_of}
 use Rattle.sg_vis.proofs.Tables.{shown-all, shown-more}
 use Rattle.sg_vis.proofs.finding.add_rows.Goals as goal
 use Rattle.sg_vis.proofs.finding.add_rows.Goals.{then-eq+in_ok-add_row, else-eq}
+
+-- a table has what the labels below an index lead to, and keeps the first one
+abbrev ShowUpTo : Graph → ℕ → List State → ℕ → ℕ → List ℕ → List ShownView → List ShownView → Type 0
+ShowUpTo g r states at index labels first table = record {
+  rows : AreRows g r table;
+  keeps : Keeps (views_of first) (views_of table);
+  shown : (k : ℕ) (d : State) → k < index → receiver (shape g) (get_or labels k 0) ≡ r → Contains (views_of table) (next_view g r (get_or states at d).view (get_or labels k 0));
+}
 
 pub loop-label-preserved : goal.loop-label-preserved
 loop-label-preserved c =
@@ -23,11 +31,7 @@ loop-label-preserved c =
           (let after = w.add_row.new.rows.items in
           let done = w.in_ok-add_row.ensures in
           let is = ap (λ (v : Vec ShownView Global). v.items) w.rows-is in
-          subst (λ (table : List ShownView). record {
-            rows : AreRows g r table;
-            keeps : Keeps (views_of c.args.rows.now.items) (views_of table);
-            shown : (k : ℕ) (d : State) → k < c.loop-label.label-index + 1 → receiver (shape g) (get_or labels k 0) ≡ r → Contains (views_of table) (next_view g r (get_or states c.args.at d).view (get_or labels k 0));
-          }) (sym is)
+          subst (ShowUpTo g r states c.args.at (c.loop-label.label-index + 1) labels c.args.rows.now.items) (sym is)
           (record {
             rows = done.rows;
             keeps = λ v h. done.keeps v (c.loop-label.invariant.keeps v h);
@@ -37,11 +41,7 @@ loop-label-preserved c =
       | else-eq w ↦
           (let is = ap (λ (v : Vec ShownView Global). v.items) w.rows-is in
           let other : (receiver (shape g) c.label-item.result == r) ≡ false = ap (λ n. n == r) (sym c.receiver.ensures.role) ∙ sym c.eq.ensures ∙ w.if-eq.false in
-          subst (λ (table : List ShownView). record {
-            rows : AreRows g r table;
-            keeps : Keeps (views_of c.args.rows.now.items) (views_of table);
-            shown : (k : ℕ) (d : State) → k < c.loop-label.label-index + 1 → receiver (shape g) (get_or labels k 0) ≡ r → Contains (views_of table) (next_view g r (get_or states c.args.at d).view (get_or labels k 0));
-          }) (sym is)
+          subst (ShowUpTo g r states c.args.at (c.loop-label.label-index + 1) labels c.args.rows.now.items) (sym is)
           (record {
             rows = c.loop-label.invariant.rows;
             keeps = c.loop-label.invariant.keeps;

@@ -19,3 +19,10 @@ loop-at-init c = record {
   followed = λ i d l m e n s. absurd (omega arith);
   few = c.in_ok-states.ensures.few;
 }
+
+pub returns-clause-found : goal.returns-clause-found
+returns-clause-found c = record {
+  searched = c.loop-at.invariant.searched;
+  followed = λ i d l m. c.loop-at.invariant.followed i d (omega (arith, m, c.loop-at-test.false, c.len.ensures.len)) m;
+  few = c.loop-at.invariant.few;
+}
