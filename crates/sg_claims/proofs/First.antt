@@ -23,7 +23,7 @@ module _ (g : Shape) (c : Claim) (at : ℕ) (entries : List Entry) (seen : List 
   Found v n bit = ((i : ℕ) × (i < length entries) × ((entry_at entries i).node ≡ n) × ((entry_at entries i).bit ≡ bit) × IsUpTo (walks i) v) ⊎ ((at < length entries) × IsBefore (walks at) v)
 
   begins : Found [] 0 false
-  begins = inl (0, x.begun, x.start.0, x.start.1, inl w.first)
+  begins = inl (0, x.found.begun, x.found.start.0, x.found.start.1, inl w.first)
 
   -- where an edge leads was found by a walk up to the one along it
   in_time : (i e : ℕ) → (t : IsEntered g c entries i e) → i < length entries → IsUpTo (walks t.index) (walks i ++ e ∷ [])

@@ -59,15 +59,17 @@ entry_new entries x i e = get_or_push entries x (record { node = 0; bit = false;
 -- a search begins at the start, without the bit
 pub search_begins : (g : Shape) (c : Claim) (first : Entry) → first.node ≡ 0 → first.bit ≡ false → IsSearch g c 0 Any (first ∷ []) (set (replicate 512 false) 0 true)
 search_begins g c first node bit = record {
-  size = length-set (replicate 512 false) 0 true ∙ length-replicate 512 false;
-  counted = sym (count-set (replicate 512 false) 0 room (listed_none 512 0) ∙ ap (λ n. n + 1) (count-false 512));
-  begun = omega arith;
-  start = (node, bit);
-  table = λ n b h. (let e = at_start n b h in (0, omega arith, node ∙ e.0, bit ∙ e.1));
-  noted = λ i l. (let zero' : i ≡ 0 = omega arith in subst (λ j. get_or (set (replicate 512 false) 0 true) (index_of (entry_at (first ∷ []) j).node (entry_at (first ∷ []) j).bit) false ≡ true) (sym zero')
-      (ap (λ n. get_or (set (replicate 512 false) 0 true) (index_of n first.bit) false) node ∙ ap (λ b. get_or (set (replicate 512 false) 0 true) (index_of 0 b) false) bit ∙ get_or-set_same (replicate 512 false) 0 true false room));
-  led = λ i p l. absurd (omega arith);
-  rises = λ i j p b l. absurd (omega arith);
+  found = record {
+    size = length-set (replicate 512 false) 0 true ∙ length-replicate 512 false;
+    counted = sym (count-set (replicate 512 false) 0 room (listed_none 512 0) ∙ ap (λ n. n + 1) (count-false 512));
+    begun = omega arith;
+    start = (node, bit);
+    table = λ n b h. (let e = at_start n b h in (0, omega arith, node ∙ e.0, bit ∙ e.1));
+    noted = λ i l. (let zero' : i ≡ 0 = omega arith in subst (λ j. get_or (set (replicate 512 false) 0 true) (index_of (entry_at (first ∷ []) j).node (entry_at (first ∷ []) j).bit) false ≡ true) (sym zero')
+        (ap (λ n. get_or (set (replicate 512 false) 0 true) (index_of n first.bit) false) node ∙ ap (λ b. get_or (set (replicate 512 false) 0 true) (index_of 0 b) false) bit ∙ get_or-set_same (replicate 512 false) 0 true false room));
+    led = λ i p l. absurd (omega arith);
+    rises = λ i j p b l. absurd (omega arith);
+  };
   behind = λ i p l. absurd (omega arith);
   closed = λ i e m l d s. inr (omega arith, tt);
   sound = λ i b l. absurd (omega arith);
@@ -87,14 +89,7 @@ search_begins g c first node bit = record {
 pub search_with : (g : Shape) (c : Claim) (at : ℕ) (left left' : ℕ → Type 0) (entries : List Entry) (seen : List Bool) → IsSearch g c at left entries seen
     → ((e : ℕ) → e < length g.edges → source g e ≡ (entry_at entries at).node → left e → IsEntered g c entries at e ⊎ left' e) → ((e : ℕ) → left' e → left e) → IsSearch g c at left' entries seen
 search_with g c at left left' entries seen x h back = record {
-  size = x.size;
-  counted = x.counted;
-  begun = x.begun;
-  start = x.start;
-  table = x.table;
-  noted = x.noted;
-  led = x.led;
-  rises = x.rises;
+  found = x.found;
   behind = λ i p l. elim (x.behind i p l) [ inl y ↦ inl y | inr q ↦ inr (q.0, λ e k. q.1 e (back e k)) ];
   closed = λ i e m l d s. elim (x.closed i e m l d s) [
     | inl t ↦ inl t
@@ -106,14 +101,7 @@ search_with g c at left left' entries seen x h back = record {
 -- once no label of the entry at `at` is left, the search goes on to the next one
 pub goes_on : (g : Shape) (c : Claim) (at : ℕ) (entries : List Entry) (seen : List Bool) → IsSearch g c at (λ _. ⊥) entries seen → IsSound g c (entry_at entries at).node (entry_at entries at).bit → IsSearch g c (at + 1) Any entries seen
 goes_on g c at entries seen x sound = record {
-  size = x.size;
-  counted = x.counted;
-  begun = x.begun;
-  start = x.start;
-  table = x.table;
-  noted = x.noted;
-  led = x.led;
-  rises = x.rises;
+  found = x.found;
   behind = λ i p l. inl (elim (x.behind i p l) [ inl y ↦ omega arith | inr q ↦ (let e = q.0 in omega arith) ]);
   closed = λ i e m l d s. elim (same_or_not i (at + 1)) [
     | inl same ↦ inr (same, tt)
@@ -126,7 +114,7 @@ goes_on g c at entries seen x sound = record {
 pub known : (g : Shape) (c : Claim) (at : ℕ) (left : ℕ → Type 0) (entries : List Entry) (seen : List Bool) (e : ℕ) → IsSearch g c at left entries seen → left e
     → get_or seen (index_of (target g e) (bit_after c (entry_at entries at).bit e)) false ≡ true → IsEntered g c entries at e
 known g c at left entries seen e x l h =
-    let t = x.table (target g e) (bit_after c (entry_at entries at).bit e) h in
+    let t = x.found.table (target g e) (bit_after c (entry_at entries at).bit e) h in
     record {
       index = t.0;
       within = t.1;
@@ -161,11 +149,11 @@ module _ (g : Shape) (c : Claim) (at : ℕ) (left left' : ℕ → Type 0) (entri
   old_or_new i l = upto i (length entries) (omega (arith, size_more))
 
   room : index_of new.node new.bit < length seen
-  room = omega (arith, x.size, index_within new.node new.bit small)
+  room = omega (arith, x.found.size, index_within new.node new.bit small)
 
   led_still : (i : ℕ) → 0 < i → i < length entries → IsLed g c more i
   led_still i p l =
-      let d = x.led i p l in
+      let d = x.found.led i p l in
       let f = d.earlier in
       let one = still i l in
       let two = still (entry_at entries i).from (omega arith) in
@@ -219,28 +207,30 @@ module _ (g : Shape) (c : Claim) (at : ℕ) (left left' : ℕ → Type 0) (entri
 
   pub entered : IsSearch g c at left' more (set seen (index_of new.node new.bit) true)
   entered = record {
-    size = length-set seen (index_of new.node new.bit) true ∙ x.size;
-    counted = size_more ∙ ap (λ n. n + 1) x.counted ∙ sym (count-set seen (index_of new.node new.bit) room unseen);
-    begun = omega (arith, size_more);
-    start = (ap (λ (y : Entry). y.node) (still 0 x.begun) ∙ x.start.0, ap (λ (y : Entry). y.bit) (still 0 x.begun) ∙ x.start.1);
-    table = λ n bit h. elim (same_or_not (index_of n bit) (index_of new.node new.bit)) [
-      | inl same ↦ (let e = one_index new.node n new.bit bit (sym same) in let one = newest (length entries) refl in
-          (length entries, omega (arith, size_more), ap (λ (y : Entry). y.node) one ∙ e.0, ap (λ (y : Entry). y.bit) one ∙ e.1))
-      | inr other ↦ (let t = x.table n bit (sym (get_or-set_other seen (index_of new.node new.bit) (index_of n bit) true false other) ∙ h) in let one = still t.0 t.1 in
-          (t.0, (let w = t.1 in omega (arith, size_more)), ap (λ (y : Entry). y.node) one ∙ t.2, ap (λ (y : Entry). y.bit) one ∙ t.3))
-    ];
-    noted = λ i l. elim (old_or_new i l) [
-      | inl y ↦ subst (λ (z : Entry). get_or (set seen (index_of new.node new.bit) true) (index_of z.node z.bit) false ≡ true) (sym (still i y)) (elim (same_or_not (index_of (entry_at entries i).node (entry_at entries i).bit) (index_of new.node new.bit)) [
-        | inl same ↦ ap (λ k. get_or (set seen (index_of new.node new.bit) true) k false) same ∙ get_or-set_same seen (index_of new.node new.bit) true false room
-        | inr other ↦ get_or-set_other seen (index_of new.node new.bit) (index_of (entry_at entries i).node (entry_at entries i).bit) true false other ∙ x.noted i y
-      ])
-      | inr same ↦ subst (λ (z : Entry). get_or (set seen (index_of new.node new.bit) true) (index_of z.node z.bit) false ≡ true) (sym (newest i same)) (get_or-set_same seen (index_of new.node new.bit) true false room)
-    ];
-    led = λ i p l. elim (old_or_new i l) [ inl y ↦ led_still i p y | inr same ↦ led_new i same ];
-    rises = λ i j p b l. elim (old_or_new j l) [
-      | inl y ↦ rises_old i j p b y
-      | inr same ↦ rises_new i j p b same
-    ];
+    found = record {
+      size = length-set seen (index_of new.node new.bit) true ∙ x.found.size;
+      counted = size_more ∙ ap (λ n. n + 1) x.found.counted ∙ sym (count-set seen (index_of new.node new.bit) room unseen);
+      begun = omega (arith, size_more);
+      start = (ap (λ (y : Entry). y.node) (still 0 x.found.begun) ∙ x.found.start.0, ap (λ (y : Entry). y.bit) (still 0 x.found.begun) ∙ x.found.start.1);
+      table = λ n bit h. elim (same_or_not (index_of n bit) (index_of new.node new.bit)) [
+        | inl same ↦ (let e = one_index new.node n new.bit bit (sym same) in let one = newest (length entries) refl in
+            (length entries, omega (arith, size_more), ap (λ (y : Entry). y.node) one ∙ e.0, ap (λ (y : Entry). y.bit) one ∙ e.1))
+        | inr other ↦ (let t = x.found.table n bit (sym (get_or-set_other seen (index_of new.node new.bit) (index_of n bit) true false other) ∙ h) in let one = still t.0 t.1 in
+            (t.0, (let w = t.1 in omega (arith, size_more)), ap (λ (y : Entry). y.node) one ∙ t.2, ap (λ (y : Entry). y.bit) one ∙ t.3))
+      ];
+      noted = λ i l. elim (old_or_new i l) [
+        | inl y ↦ subst (λ (z : Entry). get_or (set seen (index_of new.node new.bit) true) (index_of z.node z.bit) false ≡ true) (sym (still i y)) (elim (same_or_not (index_of (entry_at entries i).node (entry_at entries i).bit) (index_of new.node new.bit)) [
+          | inl same ↦ ap (λ k. get_or (set seen (index_of new.node new.bit) true) k false) same ∙ get_or-set_same seen (index_of new.node new.bit) true false room
+          | inr other ↦ get_or-set_other seen (index_of new.node new.bit) (index_of (entry_at entries i).node (entry_at entries i).bit) true false other ∙ x.found.noted i y
+        ])
+        | inr same ↦ subst (λ (z : Entry). get_or (set seen (index_of new.node new.bit) true) (index_of z.node z.bit) false ≡ true) (sym (newest i same)) (get_or-set_same seen (index_of new.node new.bit) true false room)
+      ];
+      led = λ i p l. elim (old_or_new i l) [ inl y ↦ led_still i p y | inr same ↦ led_new i same ];
+      rises = λ i j p b l. elim (old_or_new j l) [
+        | inl y ↦ rises_old i j p b y
+        | inr same ↦ rises_new i j p b same
+      ];
+    };
     behind = λ i p l. elim (old_or_new i l) [
       | inl y ↦ subst (λ (z : Entry). (z.from < at) ⊎ ((z.from ≡ at) × ((e : ℕ) → left' e → z.last < e))) (sym (still i y)) (elim (x.behind i p y) [ inl less ↦ inl less | inr q ↦ inr (q.0, λ e k. q.1 e (back e k)) ])
       | inr same ↦ subst (λ (z : Entry). (z.from < at) ⊎ ((z.from ≡ at) × ((e : ℕ) → left' e → z.last < e))) (sym (newest i same)) (inr (from, greater))
@@ -259,7 +249,7 @@ module _ (g : Shape) (c : Claim) (at : ℕ) (left left' : ℕ → Type 0) (entri
       rises_old : (i j : ℕ) → 0 < i → i < j → j < length entries → ((entry_at more i).from < (entry_at more j).from) ⊎ (((entry_at more i).from ≡ (entry_at more j).from) × ((entry_at more i).last < (entry_at more j).last))
       rises_old i j p b l =
           subst (λ (z : Entry). (z.from < (entry_at more j).from) ⊎ ((z.from ≡ (entry_at more j).from) × (z.last < (entry_at more j).last))) (sym (still i (omega arith)))
-          (subst (λ (z : Entry). ((entry_at entries i).from < z.from) ⊎ (((entry_at entries i).from ≡ z.from) × ((entry_at entries i).last < z.last))) (sym (still j l)) (x.rises i j p b l))
+          (subst (λ (z : Entry). ((entry_at entries i).from < z.from) ⊎ (((entry_at entries i).from ≡ z.from) × ((entry_at entries i).last < z.last))) (sym (still j l)) (x.found.rises i j p b l))
 
       rises_new : (i j : ℕ) → 0 < i → i < j → j ≡ length entries → ((entry_at more i).from < (entry_at more j).from) ⊎ (((entry_at more i).from ≡ (entry_at more j).from) × ((entry_at more i).last < (entry_at more j).last))
       rises_new i j p b same =

@@ -61,11 +61,11 @@ module _ (g : Shape) (c : Claim) (at : ℕ) (left : ℕ → Type 0) (entries : L
   comes_within zero i a l = absurd (omega arith)
   comes_within (suc k) zero a l = record {
     follows = subst (Walk g 0) (sym w.first) tt;
-    ends = ap (end_of g 0) w.first ∙ sym x.start.0;
-    has_bit = ap (bit_after_all c false) w.first ∙ sym x.start.1;
+    ends = ap (end_of g 0) w.first ∙ sym x.found.start.0;
+    has_bit = ap (bit_after_all c false) w.first ∙ sym x.found.start.1;
   }
   comes_within (suc k) (suc i) a l =
-      let e = x.led (suc i) (omega arith) l in
+      let e = x.found.led (suc i) (omega arith) l in
       let f = e.earlier in
       let before = comes_within k (entry_at entries (suc i)).from (omega arith) (omega arith) in
       let on = comes_on g c (walks (entry_at entries (suc i)).from) (entry_at entries (entry_at entries (suc i)).from).node (entry_at entries (entry_at entries (suc i)).from).bit (entry_at entries (suc i)).last before e.is_edge e.leaves in
@@ -85,11 +85,11 @@ module _ (g : Shape) (c : Claim) (at : ℕ) (left : ℕ → Type 0) (entries : L
       let z : length (walks zero) ≡ 0 = ap length w.first in
       inl (omega (arith, e, z))
   rise_within (suc k) (suc i) j a b l =
-      let f = (x.led j (omega arith) l).earlier in
+      let f = (x.found.led j (omega arith) l).earlier in
       let ei = w.others (suc i) (omega arith) (omega arith) in
       let ej = w.others j (omega arith) l in
       let of : IsBefore (walks (entry_at entries (suc i)).from ++ (entry_at entries (suc i)).last ∷ []) (walks (entry_at entries j).from ++ (entry_at entries j).last ∷ []) =
-      elim (x.rises (suc i) j (omega arith) b l) [
+      elim (x.found.rises (suc i) j (omega arith) b l) [
         | inl less ↦ before_more (walks (entry_at entries (suc i)).from) (walks (entry_at entries j).from) (entry_at entries (suc i)).last (entry_at entries j).last
             (rise_within k (entry_at entries (suc i)).from (entry_at entries j).from (omega arith) less (omega arith))
         | inr same ↦ subst (λ n. IsBefore (walks (entry_at entries (suc i)).from ++ (entry_at entries (suc i)).last ∷ []) (walks n ++ (entry_at entries j).last ∷ [])) same.0

@@ -47,8 +47,9 @@ pub record IsEntered (g : Shape) (c : Claim) (entries : List Entry) (i e : ℕ) 
 abbrev pub Any : ℕ → Type 0
 Any e = Unit {0}
 
--- The entries up to the one at `at` were followed along their edges, in order, except for labels of that one that are left. Those before it break no claim
-pub record IsSearch (g : Shape) (c : Claim) (at : ℕ) (left : ℕ → Type 0) (entries : List Entry) (seen : List Bool) : Type 0 where
+-- the first entry is the start without the bit, and a label leads to each other one from an earlier one, in the order of finding; the table has each once,
+-- and no other
+pub record AreFound (g : Shape) (c : Claim) (entries : List Entry) (seen : List Bool) : Type 0 where
   pub size : length seen ≡ 512
   pub counted : length entries ≡ count_by (λ b. b) seen
   pub begun : 0 < length entries
@@ -57,6 +58,10 @@ pub record IsSearch (g : Shape) (c : Claim) (at : ℕ) (left : ℕ → Type 0) (
   pub noted : (i : ℕ) → i < length entries → get_or seen (index_of (entry_at entries i).node (entry_at entries i).bit) false ≡ true
   pub led : (i : ℕ) → 0 < i → i < length entries → IsLed g c entries i
   pub rises : (i j : ℕ) → 0 < i → i < j → j < length entries → ((entry_at entries i).from < (entry_at entries j).from) ⊎ (((entry_at entries i).from ≡ (entry_at entries j).from) × ((entry_at entries i).last < (entry_at entries j).last))
+
+-- The entries up to the one at `at` were followed along their edges, in order, except for labels of that one that are left. Those before it break no claim
+pub record IsSearch (g : Shape) (c : Claim) (at : ℕ) (left : ℕ → Type 0) (entries : List Entry) (seen : List Bool) : Type 0 where
+  pub found : AreFound g c entries seen
   pub behind : (i : ℕ) → 0 < i → i < length entries → ((entry_at entries i).from < at) ⊎ (((entry_at entries i).from ≡ at) × ((e : ℕ) → left e → (entry_at entries i).last < e))
   pub closed : (i e : ℕ) → i ≤ at → i < length entries → e < length g.edges → source g e ≡ (entry_at entries i).node → IsEntered g c entries i e ⊎ ((i ≡ at) × left e)
   pub sound : (i : ℕ) → i < at → i < length entries → IsSound g c (entry_at entries i).node (entry_at entries i).bit

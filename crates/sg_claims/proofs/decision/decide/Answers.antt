@@ -16,7 +16,7 @@ returns-in-Some c =
     let entries = c.loop-at.search.entries.items in
     let x = c.loop-at.invariant in
     let within : at < length entries = omega (arith, c.loop-at-test.true, c.len.ensures) in
-    let walks = have_walks entries (λ i p l. (x.led i p l).earlier) in
+    let walks = have_walks entries (λ i p l. (x.found.led i p l).earlier) in
     let here : entry_at entries at ≡ c.index-entry.result.now = sym (get_or_read entries at c.index-entry.result.now within c.index-entry.ensures (record { node = 0; bit = false; from = 0; last = 0 })) in
     let least : IsLeastWrong g claim (entry_at entries at).node (entry_at entries at).bit c.in-Some.label = subst (λ (y : Entry). IsLeastWrong g claim y.node y.bit c.in-Some.label) (sym here) c.in-Some.ensures.some in
     let first : IsFirstBreak g claim (walk_of entries at ++ c.in-Some.label ∷ []) = first_break g claim at entries c.loop-at.search.seen x (walk_of entries) walks c.in-Some.label within least in
@@ -28,4 +28,4 @@ returns c =
     let entries = c.loop-at.search.entries.items in
     let x = c.loop-at.invariant in
     let over : length entries ≤ c.loop-at.at = omega (arith, c.loop-at-test.false, c.len.ensures) in
-    holds_at_end (shape c.args.graph.now) c.args.claim.now c.loop-at.at entries c.loop-at.search.seen x (walk_of entries) (have_walks entries (λ i p l. (x.led i p l).earlier)) over
+    holds_at_end (shape c.args.graph.now) c.args.claim.now c.loop-at.at entries c.loop-at.search.seen x (walk_of entries) (have_walks entries (λ i p l. (x.found.led i p l).earlier)) over
