@@ -32,7 +32,7 @@ pub is_reached : (g : Shape) (left : ℕ → Type 0) (s : Search) (n : ℕ) → 
 is_reached g left s n x f = of (found_at s.found n) refl f
   where
     of : (o : Option WalkEnd) → found_at s.found n ≡ o → is_some o ≡ true → Reaches g s.from s.past n
-    of (Some w) is h = leads_from g s.from s.past s.found n w.edges n w.last [] x.walks (x.walks n w is) (leads_nowhere g n s.past)
+    of (Some w) is h = leads_from g s.from s.past s.found n w.edges n w.last [] x.found.walks (x.found.walks n w is) (leads_nowhere g n s.past)
     of None is h = absurd (cc)
 
 -- once no node waits, a walk from a node that was found ends at one

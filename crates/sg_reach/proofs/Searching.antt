@@ -88,13 +88,7 @@ walk_still g m past found n w k (suc i) last none x =
 pub search_with : (g : Shape) (left left' : ℕ → Type 0) (s : Search) → IsSearch g left s
     → ((e : ℕ) → e < length g.edges → is_in (sender g e) s.past ≡ false → left e → IsFound s.found (target g e) ⊎ left' e) → IsSearch g left' s
 search_with g left left' s x h = record {
-  sizes = x.sizes;
-  begun = x.begun;
-  walks = x.walks;
-  short = x.short;
-  queued = x.queued;
-  there = x.there;
-  counted = x.counted;
+  found = x.found;
   passed = x.passed;
   closed = λ e l f p. elim (x.closed e l f p) [ inl t ↦ inl t | inr r ↦ elim r [ inl w ↦ inr (inl w) | inr y ↦ elim (h e l p y) [ inl t ↦ inl t | inr z ↦ inr (inr z) ] ] ];
 }
@@ -102,13 +96,15 @@ search_with g left left' s x h = record {
 -- the node whose turn it is waits no longer, and its edges are left
 pub taken : (g : Shape) (s : Search) (at : ℕ) → IsSearch g (λ _. ⊥) s → s.at < s.count → at ≡ s.at + 1 → IsSearch g (λ e. source g e ≡ get_or s.queue s.at 0) (record s { at = at })
 taken g s at x h next = record {
-  sizes = x.sizes;
-  begun = x.begun;
-  walks = x.walks;
-  short = x.short;
-  queued = x.queued;
-  there = x.there;
-  counted = x.counted;
+  found = record {
+    sizes = x.found.sizes;
+    begun = x.found.begun;
+    walks = x.found.walks;
+    short = x.found.short;
+    queued = x.found.queued;
+    there = x.found.there;
+    counted = x.found.counted;
+  };
   passed = omega (arith, next);
   closed = λ e l f p. elim (x.closed e l f p) [ inl t ↦ inl t | inr r ↦ inr (elim r [ inl w ↦ waits e w | inr y ↦ absurd y ]) ];
 }
@@ -126,26 +122,28 @@ pub entered : (g : Shape) (left left' : ℕ → Type 0) (s : Search) (n k : ℕ)
     → ((e : ℕ) → e < length g.edges → left e → (e ≡ w.last) ⊎ left' e)
     → IsSearch g left' (record s { found = set s.found n (Some w); queue = set s.queue s.count n; count = count })
 entered g left left' s n k w count x none role small edges there to free before more rest = record {
-  sizes = (length-set s.found n (Some w) ∙ x.sizes.0, length-set s.queue s.count n ∙ x.sizes.1);
-  begun = found_still s.found n s.from w fits x.begun;
-  walks = λ i f h. elim (same_or_not i n) [
-    | inl same ↦ new i f same h
-    | inr d ↦ walk_still g s.from s.past s.found n w i f.edges f.last none (x.walks i f (sym (found_other s.found n i w d) ∙ h))
-  ];
-  short = λ i f h. elim (same_or_not i n) [
-    | inl same ↦ (let e : Some w ≡ Some f = sym (found_here s.found n w fits) ∙ subst (λ j. found_at (set s.found n (Some w)) j ≡ Some f) same h in
-        let e' : w ≡ f = cc in let e'' : w.edges ≡ f.edges = ap (λ (v : WalkEnd). v.edges) e' in omega (arith, shorter (found_at s.found (source g w.last)) refl before))
-    | inr d ↦ omega (arith, x.short i f (sym (found_other s.found n i w d) ∙ h))
-  ];
-  queued = λ i h. elim (same_or_not i s.count) [
-    | inl same ↦ rw (same, get_or-set_same s.queue s.count n 0 room, found_here s.found n w fits) refl
-    | inr d ↦ rw (get_or-set_other s.queue s.count i n 0 d) (found_still s.found n (get_or s.queue i 0) w fits (x.queued i (omega arith)))
-  ];
-  there = λ i h. elim (same_or_not i s.count) [
-    | inl same ↦ rw (same, get_or-set_same s.queue s.count n 0 room) role
-    | inr d ↦ rw (get_or-set_other s.queue s.count i n 0 d) (x.there i (omega arith))
-  ];
-  counted = rw (count-set s.found n w fits none) (omega (arith, x.counted));
+  found = record {
+    sizes = (length-set s.found n (Some w) ∙ x.found.sizes.0, length-set s.queue s.count n ∙ x.found.sizes.1);
+    begun = found_still s.found n s.from w fits x.found.begun;
+    walks = λ i f h. elim (same_or_not i n) [
+      | inl same ↦ new i f same h
+      | inr d ↦ walk_still g s.from s.past s.found n w i f.edges f.last none (x.found.walks i f (sym (found_other s.found n i w d) ∙ h))
+    ];
+    short = λ i f h. elim (same_or_not i n) [
+      | inl same ↦ (let e : Some w ≡ Some f = sym (found_here s.found n w fits) ∙ subst (λ j. found_at (set s.found n (Some w)) j ≡ Some f) same h in
+          let e' : w ≡ f = cc in let e'' : w.edges ≡ f.edges = ap (λ (v : WalkEnd). v.edges) e' in omega (arith, shorter (found_at s.found (source g w.last)) refl before))
+      | inr d ↦ omega (arith, x.found.short i f (sym (found_other s.found n i w d) ∙ h))
+    ];
+    queued = λ i h. elim (same_or_not i s.count) [
+      | inl same ↦ rw (same, get_or-set_same s.queue s.count n 0 room, found_here s.found n w fits) refl
+      | inr d ↦ rw (get_or-set_other s.queue s.count i n 0 d) (found_still s.found n (get_or s.queue i 0) w fits (x.found.queued i (omega arith)))
+    ];
+    there = λ i h. elim (same_or_not i s.count) [
+      | inl same ↦ rw (same, get_or-set_same s.queue s.count n 0 room) role
+      | inr d ↦ rw (get_or-set_other s.queue s.count i n 0 d) (x.found.there i (omega arith))
+    ];
+    counted = rw (count-set s.found n w fits none) (omega (arith, x.found.counted));
+  };
   passed = omega (arith, x.passed);
   closed = λ e l f p. elim (same_or_not (source g e) n) [
     | inl same ↦ inr (inl (s.count, x.passed, omega arith, get_or-set_same s.queue s.count n 0 room ∙ sym same))
@@ -163,19 +161,19 @@ entered g left left' s n k w count x none role small edges there to free before 
 }
   where
     fits : n < length s.found
-    fits = omega (arith, x.sizes.0)
+    fits = omega (arith, x.found.sizes.0)
 
     free_indices : count_by is_some s.found < length s.found
     free_indices = count_free s.found n w fits none
 
     room : s.count < length s.queue
-    room = omega (arith, x.sizes.0, x.sizes.1, x.counted, free_indices)
+    room = omega (arith, x.found.sizes.0, x.found.sizes.1, x.found.counted, free_indices)
 
     apart : (i : ℕ) → i < s.count → i ≢ s.count
     apart i l = omega arith
 
     shorter : (o : Option WalkEnd) → found_at s.found (source g w.last) ≡ o → option_map (λ (f : WalkEnd). f.edges) o ≡ Some k → k < s.count
-    shorter (Some f) is h = (let e : f.edges ≡ k = cc in omega (arith, x.short (source g w.last) f is, e))
+    shorter (Some f) is h = (let e : f.edges ≡ k = cc in omega (arith, x.found.short (source g w.last) f is, e))
     shorter None is h = absurd (cc)
 
     new : (i : ℕ) (f : WalkEnd) → i ≡ n → found_at (set s.found n (Some w)) i ≡ Some f → IsFoundBy g s.from s.past (set s.found n (Some w)) i f.edges f.last
@@ -192,14 +190,16 @@ entered g left left' s n k w count x none role small edges there to free before 
 pub begins : (g : Shape) (s : Search) (at : ℕ) (blank : List (Option WalkEnd)) (first : WalkEnd) → at ≡ s.from → length blank ≡ 256 → ((i : ℕ) → get_or blank i None ≡ None) → first.edges ≡ 0
     → s.found ≡ set blank at (Some first) → s.queue ≡ replicate 256 s.from → s.count ≡ 1 → s.at ≡ 0 → s.from < 256 → s.from < length g.roles → IsSearch g (λ _. ⊥) s
 begins g s at blank first begun size empty short found' queue count at' small role = record {
-  sizes = (ap length found ∙ length-set blank s.from (Some first) ∙ size, ap length queue ∙ length-replicate 256 s.from);
-  begun = rw (here s.from refl) refl;
-  walks = λ n f h. (let alone = only n f h in subst (λ (v : WalkEnd). IsFoundBy g s.from s.past s.found n v.edges v.last) alone.1
-      (subst (λ k. IsFoundBy g s.from s.past s.found n k first.last) (sym short) alone.0));
-  short = λ n f h. (let alone = only n f h in let none : f.edges ≡ 0 = sym (ap (λ (v : WalkEnd). v.edges) alone.1) ∙ short in omega (arith, count, none));
-  queued = λ i h. rw (waiting i h) (rw (here s.from refl) refl);
-  there = λ i h. rw (waiting i h) role;
-  counted = rw found (omega (arith, count, count-set blank s.from first room (empty s.from), count-none blank empty));
+  found = record {
+    sizes = (ap length found ∙ length-set blank s.from (Some first) ∙ size, ap length queue ∙ length-replicate 256 s.from);
+    begun = rw (here s.from refl) refl;
+    walks = λ n f h. (let alone = only n f h in subst (λ (v : WalkEnd). IsFoundBy g s.from s.past s.found n v.edges v.last) alone.1
+        (subst (λ k. IsFoundBy g s.from s.past s.found n k first.last) (sym short) alone.0));
+    short = λ n f h. (let alone = only n f h in let none : f.edges ≡ 0 = sym (ap (λ (v : WalkEnd). v.edges) alone.1) ∙ short in omega (arith, count, none));
+    queued = λ i h. rw (waiting i h) (rw (here s.from refl) refl);
+    there = λ i h. rw (waiting i h) role;
+    counted = rw found (omega (arith, count, count-set blank s.from first room (empty s.from), count-none blank empty));
+  };
   passed = omega (arith, at');
   closed = λ e l f p. inr (inl (0, omega (arith, at'), omega (arith, count), waiting 0 (omega (arith, count)) ∙ sym (from e (found_at s.found (source g e)) refl f)));
 }

@@ -36,8 +36,8 @@ IsClosedBut g past found but = (e : ℕ) → e < length g.edges → IsFound foun
 abbrev pub Waits : Search → ℕ → Type 0
 Waits s n = (i : ℕ) × (s.at ≤ i) × (i < s.count) × (get_or s.queue i 0 ≡ n)
 
--- each node that was found has its walk and stands in the queue once; those before `at` were followed, except for the edges that are left
-pub record IsSearch (g : Shape) (left : ℕ → Type 0) (s : Search) : Type 0 where
+-- each node that was found has its walk and stands in the queue once
+pub record AreFound (g : Shape) (s : Search) : Type 0 where
   pub sizes : (length s.found ≡ most_nodes) × (length s.queue ≡ most_nodes)
   pub begun : IsFound s.found s.from
   pub walks : AreWalks g s.from s.past s.found
@@ -45,5 +45,9 @@ pub record IsSearch (g : Shape) (left : ℕ → Type 0) (s : Search) : Type 0 wh
   pub queued : (i : ℕ) → i < s.count → IsFound s.found (get_or s.queue i 0)
   pub there : (i : ℕ) → i < s.count → get_or s.queue i 0 < length g.roles
   pub counted : s.count ≡ count_by is_some s.found
+
+-- the nodes that were found before `at` were followed, except for the edges that are left
+pub record IsSearch (g : Shape) (left : ℕ → Type 0) (s : Search) : Type 0 where
+  pub found : AreFound g s
   pub passed : s.at ≤ s.count
   pub closed : IsClosedBut g s.past s.found (λ e. Waits s (source g e) ⊎ left e)

@@ -17,7 +17,7 @@ loop-label-init c =
     let n = c.args.node in
     let labels = c.edges_from-label-items.result.now in
     let small : n < 256 = omega (arith, c.requires.there, c.nodes-nodes.ensures.graph.sizes.2) in
-    let inner : c.node.inside.0 < length c.args.search.now.found = omega (arith, small, c.requires.search.sizes.0, c.node.view_is) in
+    let inner : c.node.inside.0 < length c.args.search.now.found = omega (arith, small, c.requires.search.found.sizes.0, c.node.view_is) in
     let found : found_at c.args.search.now.found n ≡ Some c.in-Some.found =
     ap (found_at c.args.search.now.found) (sym c.node.view_is) ∙ get_or_default c.args.search.now.found c.node.inside.0 None _ inner ∙ c.in-Some.is in
     record {
@@ -37,8 +37,8 @@ pub enter-requires-clause-room : goal.enter-requires-clause-room
 enter-requires-clause-room c = λ none.
     let s = c.loop-label.search in
     let x = c.loop-label.invariant.search in
-    let fits : c.edge.result.now.target < length s.found = omega (arith, c.edge.ensures.ends.1, c.nodes-nodes.ensures.graph.sizes.2, x.sizes.0) in
-    omega (arith, count_free s.found c.edge.result.now.target (record { edges = 0; last = 0 }) fits none, x.counted, x.sizes.0)
+    let fits : c.edge.result.now.target < length s.found = omega (arith, c.edge.ensures.ends.1, c.nodes-nodes.ensures.graph.sizes.2, x.found.sizes.0) in
+    omega (arith, count_free s.found c.edge.result.now.target (record { edges = 0; last = 0 }) fits none, x.found.counted, x.found.sizes.0)
 
 pub loop-label-preserved : goal.loop-label-preserved
 loop-label-preserved c =

@@ -19,19 +19,19 @@ pub follow-requires-clause-search : goal.follow-requires-clause-search
 follow-requires-clause-search c =
     let s = c.loop-search.search in
     let x : IsSearch (shape c.args.graph.now) (λ _. ⊥) s = c.loop-search.invariant.search in
-    let within : s.at < length s.queue = omega (arith, c.loop-search-test.true, x.counted, x.sizes.0, x.sizes.1, count_by-le-length is_some s.found) in
+    let within : s.at < length s.queue = omega (arith, c.loop-search-test.true, x.found.counted, x.found.sizes.0, x.found.sizes.1, count_by-le-length is_some s.found) in
     rw (get_or_default s.queue s.at c.index-search-search.result 0 within) (taken (shape c.args.graph.now) s (s.at + 1) x c.loop-search-test.true refl)
 
 pub follow-requires-clause-found : goal.follow-requires-clause-found
 follow-requires-clause-found c =
     let s = c.loop-search.search in
     let x : IsSearch (shape c.args.graph.now) (λ _. ⊥) s = c.loop-search.invariant.search in
-    let within : s.at < length s.queue = omega (arith, c.loop-search-test.true, x.counted, x.sizes.0, x.sizes.1, count_by-le-length is_some s.found) in
-    rw (get_or_default s.queue s.at c.index-search-search.result 0 within) (x.queued s.at c.loop-search-test.true)
+    let within : s.at < length s.queue = omega (arith, c.loop-search-test.true, x.found.counted, x.found.sizes.0, x.found.sizes.1, count_by-le-length is_some s.found) in
+    rw (get_or_default s.queue s.at c.index-search-search.result 0 within) (x.found.queued s.at c.loop-search-test.true)
 
 pub follow-requires-clause-there : goal.follow-requires-clause-there
 follow-requires-clause-there c =
     let s = c.loop-search.search in
     let x : IsSearch (shape c.args.graph.now) (λ _. ⊥) s = c.loop-search.invariant.search in
-    let within : s.at < length s.queue = omega (arith, c.loop-search-test.true, x.counted, x.sizes.0, x.sizes.1, count_by-le-length is_some s.found) in
-    rw (get_or_default s.queue s.at c.index-search-search.result 0 within) (rw length-map at (x.there s.at c.loop-search-test.true))
+    let within : s.at < length s.queue = omega (arith, c.loop-search-test.true, x.found.counted, x.found.sizes.0, x.found.sizes.1, count_by-le-length is_some s.found) in
+    rw (get_or_default s.queue s.at c.index-search-search.result 0 within) (rw length-map at (x.found.there s.at c.loop-search-test.true))

@@ -21,7 +21,7 @@ loop-at-init c =
     let w : IsWithin (record { graph = c.self.inside.graph.now; from = s.from; past = s.past }) c.args.node = subst (λ (k : Closure). IsWithin k c.args.node) (sym c.self.view_is) c.requires.within in
     record {
       there = rw length-map c.requires.there;
-      found = found_at_end (shape c.self.inside.graph.now) s s.from c.args.node w.0 c.self.invariant.search c.self.invariant.followed c.self.invariant.search.begun w.1;
+      found = found_at_end (shape c.self.inside.graph.now) s s.from c.args.node w.0 c.self.invariant.search c.self.invariant.followed c.self.invariant.search.found.begun w.1;
       walk = rw c.new-walk.ensures.items (leads_nowhere g c.args.node c.args.self.now.past);
     }
 
@@ -47,7 +47,7 @@ edge-requires c =
     let same : c.self.inside.graph.now ≡ c.args.self.now.graph = ap (λ (k : Closure). k.graph) c.self.view_is in
     let within = inner c.self.inside.graph.now c.args.self.now s.found c.loop-at.at c.at.inside.0 c.self.invariant.graph same c.loop-at.invariant.there c.at.view_is c.type_inv.found in
     let is : found_at s.found c.loop-at.at ≡ Some c.in-Some.way = entry s.found c.loop-at.at c.at.inside.0 _ c.in-Some.way within c.at.view_is c.in-Some.is in
-    let last = last_edge (shape c.self.inside.graph.now) s.from s.past s.found c.loop-at.at c.in-Some.way c.self.invariant.search.walks is c.if-way-gt0.true in
+    let last = last_edge (shape c.self.inside.graph.now) s.from s.past s.found c.loop-at.at c.in-Some.way c.self.invariant.search.found.walks is c.if-way-gt0.true in
     rw length-map at last.2.0
 
 pub loop-at-smaller : goal.loop-at-smaller
@@ -56,7 +56,7 @@ loop-at-smaller c =
     let same : c.self.inside.graph.now ≡ c.args.self.now.graph = ap (λ (k : Closure). k.graph) c.self.view_is in
     let within = inner c.self.inside.graph.now c.args.self.now s.found c.loop-at.at c.at.inside.0 c.self.invariant.graph same c.loop-at.invariant.there c.at.view_is c.type_inv.found in
     let is : found_at s.found c.loop-at.at ≡ Some c.in-Some.way = entry s.found c.loop-at.at c.at.inside.0 _ c.in-Some.way within c.at.view_is c.in-Some.is in
-    let last = last_edge (shape c.self.inside.graph.now) s.from s.past s.found c.loop-at.at c.in-Some.way c.self.invariant.search.walks is c.if-way-gt0.true in
+    let last = last_edge (shape c.self.inside.graph.now) s.from s.past s.found c.loop-at.at c.in-Some.way c.self.invariant.search.found.walks is c.if-way-gt0.true in
     let from : c.edge.result.now.source ≡ source (shape c.self.inside.graph.now) c.in-Some.way.last = ap (λ (e : Edge). e.source) c.edge.ensures.edge in
     shorter s.found c.loop-at.at c.edge.result.now.source last.0 c.in-Some.way is last.1 (rw from last.2.3)
 
@@ -67,7 +67,7 @@ loop-at-preserved c =
     let same : c.self.inside.graph.now ≡ c.args.self.now.graph = ap (λ (k : Closure). k.graph) c.self.view_is in
     let within = inner c.self.inside.graph.now c.args.self.now s.found c.loop-at.at c.at.inside.0 c.self.invariant.graph same c.loop-at.invariant.there c.at.view_is c.type_inv.found in
     let is : found_at s.found c.loop-at.at ≡ Some c.in-Some.way = entry s.found c.loop-at.at c.at.inside.0 _ c.in-Some.way within c.at.view_is c.in-Some.is in
-    let last = last_edge g s.from s.past s.found c.loop-at.at c.in-Some.way c.self.invariant.search.walks is c.if-way-gt0.true in
+    let last = last_edge g s.from s.past s.found c.loop-at.at c.in-Some.way c.self.invariant.search.found.walks is c.if-way-gt0.true in
     let from : c.edge.result.now.source ≡ source g c.in-Some.way.last = ap (λ (e : Edge). e.source) c.edge.ensures.edge in
     let items : c.push.new.self.items ≡ c.loop-at.walk.items ++ c.in-Some.way.last ∷ [] = c.in_ok-push.ensures.items in
     let turned : reverse c.push.new.self.items ≡ c.in-Some.way.last ∷ reverse c.loop-at.walk.items = ap reverse items ∙ reverse-append c.loop-at.walk.items (c.in-Some.way.last ∷ []) in
@@ -86,7 +86,7 @@ pub returns : goal.returns
 returns c =
     let s = c.self.inside.search in
     let same : c.self.inside.graph.now ≡ c.args.self.now.graph = ap (λ (k : Closure). k.graph) c.self.view_is in
-    let within = inner c.self.inside.graph.now c.args.self.now s.found c.loop-at.at c.at.inside.0 c.self.invariant.graph same c.loop-at.invariant.there c.at.view_is c.self.invariant.search.sizes.0 in
+    let within = inner c.self.inside.graph.now c.args.self.now s.found c.loop-at.at c.at.inside.0 c.self.invariant.graph same c.loop-at.invariant.there c.at.view_is c.self.invariant.search.found.sizes.0 in
     let stands : c.loop-at.at ≡ s.from → LeadsPast (shape c.args.self.now.graph) c.args.self.now.from c.args.self.now.past c.args.node c.reverse.new.self.items =
     λ e. rw (c.reverse.ensures.items, ← ap (λ (k : Closure). k.from) c.self.view_is, ← e) c.loop-at.invariant.walk in
     elim c.match-found-at.branch [
@@ -96,5 +96,5 @@ returns c =
           absurd (grind (arith, read, there)))
       | in-Some+else-way-gt0 w ↦
           (let is : found_at s.found c.loop-at.at ≡ Some w.in-Some.way = entry s.found c.loop-at.at c.at.inside.0 _ w.in-Some.way within c.at.view_is w.in-Some.is in
-          stands (no_edge (shape c.self.inside.graph.now) s.from s.past s.found c.loop-at.at w.in-Some.way c.self.invariant.search.walks is w.if-way-gt0.false))
+          stands (no_edge (shape c.self.inside.graph.now) s.from s.past s.found c.loop-at.at w.in-Some.way c.self.invariant.search.found.walks is w.if-way-gt0.false))
     ]
