@@ -10,10 +10,6 @@ use Rattle.sg_claims.specs.Search.{entry_at, IsEntered, IsSearch}
 use Rattle.sg_claims.specs.declared.search.Entry.{Entry}
 use Rattle.sg_claims.proofs.Searching.{search_with, known, entered}
 
--- what holds of each label holds of the one at an index
-pub at_index : (P : ℕ → Type 0) (labels : List ℕ) (at label : ℕ) → All P labels → at < length labels → label ≡ get_or labels at label → P label × (label ≡ get_or labels at 0)
-at_index P labels at label all l is = (subst P (sym is) (all at label l), is ∙ get_or_default labels at label 0 l)
-
 -- where a label leads that is left was found or is entered, and it is left no more
 pub followed : (g : Shape) (c : Claim) (at : ℕ) (left left' : ℕ → Type 0) (entries entries' : List Entry) (seen seen' : List Bool) (new : Entry) → IsSearch g c at left entries seen → at < length entries
     → new.node ≡ target g new.last → new.bit ≡ bit_after c (entry_at entries at).bit new.last → new.from ≡ at → left new.last → new.last < length g.edges → source g new.last ≡ (entry_at entries at).node → new.node < 256

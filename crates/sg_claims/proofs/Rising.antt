@@ -1,11 +1,10 @@
 -- The labels that leave a node rise.
-use Rattle.std.proofs.Common.{◌≡◌, ℕ, zero, suc, ◌+◌, ◌<◌, ◌≤◌, ◌==◌, Bool, true, false, ◌⊎◌, List, filter, length, get_or, Contains, refl, sym, ◌∙◌, ap, subst, inl, inr, arith}
-use Rattle.std.proofs.lemmas.List.{get_or_default}
+use Rattle.std.proofs.Common.{◌≡◌, ℕ, zero, suc, ◌+◌, ◌<◌, ◌≤◌, ◌==◌, Bool, true, false, List, filter, length, get_or, refl, subst, inl, inr, arith}
 use Rattle.sg_model.specs.Lists.{range_from}
 use Rattle.sg_model.specs.Shape.{source}
-use Rattle.sg_model.proofs.Small.{same_or_not}
 use Rattle.sg_protocol.specs.Graph.{Graph, shape}
 use Rattle.sg_graph.specs.Edges.{leaving_from}
+use Rattle.sg_graph.proofs.Left.{IsLeft, left_on}
 
 -- each number that passes is at least the first of the range
 from_first : (p : ℕ → Bool) (a k i : ℕ) → i < length (filter p (range_from a k)) → a ≤ get_or (filter p (range_from a k)) i 0
@@ -33,29 +32,9 @@ rise p a (suc k) i j b l = of (p a) refl (λ i j b l. rise p (suc a) k i j b l) 
 pub leaving_rise : (g : Graph) (n i j : ℕ) → i < j → j < length (leaving_from g n) → get_or (leaving_from g n) i 0 < get_or (leaving_from g n) j 0
 leaving_rise g n i j b l = rise (λ e. source (shape g) e == n) 0 (length g.edges) i j b l
 
--- the label stands in the list, at this index or later
-abbrev pub IsLeft : List ℕ → ℕ → ℕ → Type 0
-IsLeft labels at e = (i : ℕ) × (at ≤ i) × (i < length labels) × (get_or labels i 0 ≡ e)
-
--- each label of the list is left at its first index
-pub left_at_first : (labels : List ℕ) (e : ℕ) → Contains labels e → IsLeft labels 0 e
-left_at_first labels e h = (h.0, omega arith, h.1, get_or_default labels h.0 0 e h.1 ∙ h.2)
-
--- a label that is left is the one at this index, or is left after it
-pub left_on : (labels : List ℕ) (at e : ℕ) → IsLeft labels at e → (e ≡ get_or labels at 0) ⊎ IsLeft labels (at + 1) e
-left_on labels at e left =
-    elim (same_or_not left.0 at) [
-      | inl same ↦ inl (sym left.3 ∙ ap (λ i. get_or labels i 0) same)
-      | inr other ↦ inr (left.0, omega (arith, left.1), left.2, left.3)
-    ]
-
 -- a label that is left after an index is left at it
 pub left_before : (labels : List ℕ) (at e : ℕ) → IsLeft labels (at + 1) e → IsLeft labels at e
 left_before labels at e left = (left.0, omega (arith, left.1), left.2, left.3)
-
--- past the last index none is left
-pub none_left : (labels : List ℕ) (at e : ℕ) → length labels ≤ at → IsLeft labels at e → ⊥
-none_left labels at e past left = omega (arith, left.1, left.2)
 
 -- of labels that rise, those that are left after an index are greater than the one there
 pub left_greater : (labels : List ℕ) → ((i j : ℕ) → i < j → j < length labels → get_or labels i 0 < get_or labels j 0) → (at e : ℕ) → IsLeft labels (at + 1) e → get_or labels at 0 < e

@@ -1,5 +1,5 @@
 -- What the first index of a name says of the names.
-use Rattle.std.proofs.Common.{◌≡◌, ℕ, ◌+◌, ◌<◌, nat_lt, Bool, true, false, List, [], ◌∷◌, map, length, get_or, refl, sym, ◌∙◌, inl, inr, arith}
+use Rattle.std.proofs.Common.{◌≡◌, ℕ, ◌+◌, ◌<◌, nat_lt, Bool, true, false, List, [], ◌∷◌, map, length, get_or, refl, sym, ap, ◌∙◌, inl, inr, arith}
 use Rattle.std.specs.Prelude.{Option, Some, None, position, bytes_eq, IsSome, IsTrue, is_some, ◌↔◌}
 use Rattle.std.specs.List.{list_any, position_or_len, position_from}
 use Rattle.std.proofs.lemmas.Bool.Decides.{nat_tests}
@@ -9,6 +9,7 @@ use Rattle.std.proofs.lemmas.Slice.Eq.{bytes_eq-Decides}
 use Rattle.std.proofs.lemmas.Bool.{cases_Bool}
 use Rattle.sg_model.specs.Lists.{has_text}
 use Rattle.sg_model.specs.Names.{Name}
+use Rattle.sg_protocol.specs.Graph.{Graph}
 
 -- the first index of one that passes is an index of one that passes
 pub passes_there : {X : Type 0} (p : X → Bool) (xs : List X) (i : ℕ) (d : X) → position p xs ≡ Some i → (i < length xs) × (p (get_or xs i d) ≡ true)
@@ -56,19 +57,29 @@ pub position-map : {X Y : Type 0} (p : Y → Bool) (f : X → Y) (xs : List X) �
 position-map p f xs = position_from-zero p (map f xs) ∙ position_from-map p f xs 0 ∙ sym (position_from-zero (λ x. p (f x)) xs)
 
 -- the first index of a name has it
-pub name_there : {Y : Type 0} (name_of : Y → Name) (name : Name) (ys : List Y) (i : ℕ) (d : Y) → Some i ≡ position (λ y. bytes_eq name (name_of y)) ys
+pub name_at : {Y : Type 0} (name_of : Y → Name) (name : Name) (ys : List Y) (i : ℕ) (d : Y) → Some i ≡ position (λ y. bytes_eq name (name_of y)) ys
     → (i < length ys) × (name_of (get_or ys i d) ≡ name)
-name_there name_of name ys i d h =
+name_at name_of name ys i d h =
     let there = passes_there (λ y. bytes_eq name (name_of y)) ys i d (sym h) in
     (there.0, sym ((bytes_eq-Decides name (name_of (get_or ys i d))).0 there.1))
 
--- if there is a first index of a name, it is among the names
-pub name_found : {Y : Type 0} (name_of : Y → Name) (name : Name) (ys : List Y) (i : ℕ) → Some i ≡ position (λ y. bytes_eq name (name_of y)) ys → has_text name (map name_of ys) ≡ true
-name_found name_of name ys i h = list_any-map (bytes_eq name) name_of ys ∙ some_passes (λ y. bytes_eq name (name_of y)) ys i (sym h)
+-- the first index of a name among parts that are kept as other ones
+module _ {X Y : Type 0} (part_of : X → Y) (name_of : Y → Name) (name : Name) (kept : List X) (parts : List Y) (seen : map part_of kept ≡ parts) where
+  -- it is the first among the parts
+  index_seen : (o : Option ℕ) → o ≡ position (λ x. bytes_eq name (name_of (part_of x))) kept → o ≡ position (λ y. bytes_eq name (name_of y)) parts
+  index_seen o at = at ∙ sym (position-map (λ y. bytes_eq name (name_of y)) part_of kept) ∙ ap (position (λ y. bytes_eq name (name_of y))) seen
 
--- if there is none, it isn't
-pub name_missed : {Y : Type 0} (name_of : Y → Name) (name : Name) (ys : List Y) → None ≡ position (λ y. bytes_eq name (name_of y)) ys → has_text name (map name_of ys) ≡ false
-name_missed name_of name ys h = list_any-map (bytes_eq name) name_of ys ∙ none_passes (λ y. bytes_eq name (name_of y)) ys (sym h)
+  -- the part there has the name
+  pub name_there : (i : ℕ) (d : Y) → Some i ≡ position (λ x. bytes_eq name (name_of (part_of x))) kept → (i < length parts) × (name_of (get_or parts i d) ≡ name)
+  name_there i d at = name_at name_of name parts i d (index_seen (Some i) at)
+
+  -- so the name is among the names
+  pub name_found : (i : ℕ) → Some i ≡ position (λ x. bytes_eq name (name_of (part_of x))) kept → has_text name (map name_of parts) ≡ true
+  name_found i at = list_any-map (bytes_eq name) name_of parts ∙ some_passes (λ y. bytes_eq name (name_of y)) parts i (sym (index_seen (Some i) at))
+
+  -- if there is none, it isn't
+  pub name_missed : None ≡ position (λ x. bytes_eq name (name_of (part_of x))) kept → has_text name (map name_of parts) ≡ false
+  name_missed at = list_any-map (bytes_eq name) name_of parts ∙ none_passes (λ y. bytes_eq name (name_of y)) parts (sym (index_seen None at))
 
 -- neither the index nor the name is there
 pub neither : {A : Type 0} (o : Option A) (b : Bool) → o ≡ None → b ≡ false → (IsSome o → IsTrue b) × (IsTrue b → IsSome o)
@@ -83,3 +94,7 @@ unfound o r true h s f = absurd (clash (is_some o) (h.1 refl) (sym s ∙ f))
     clash : (b : Bool) → b ≡ true → b ≡ false → ⊥
     clash b t f = absurd (cc)
 unfound o r false h s f = refl
+
+-- a name that isn't found in a graph is none of its names
+pub unfound_name : {A : Type 0} (o : Option A) (r : Bool) (names : Graph → List Name) (name : Name) (g now : Graph) → g ≡ now → (IsSome o ↔ IsTrue (has_text name (names now))) → r ≡ is_some o → r ≡ false → has_text name (names g) ≡ false
+unfound_name o r names name g now view found some none = ap (λ (g : Graph). has_text name (names g)) view ∙ unfound o r _ found some none

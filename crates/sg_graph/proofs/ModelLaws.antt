@@ -1,9 +1,9 @@
 -- What is kept, and the graph that it is.
 use Rattle.std.proofs.Common.{◌≡◌, ℕ, ◌+◌, ◌<◌, List, [], ◌∷◌, ◌++◌, map, length, get_or, sym, ◌∙◌, ap, subst, length-append}
 use Rattle.std.proofs.lemmas.List.{map-append, length-map, get_or-map}
-use Rattle.std.specs.Prelude.{All, Option, position, bytes_eq}
+use Rattle.std.specs.Prelude.{All}
 use Rattle.sg_model.specs.Shape.{Arrow, edge_at, role_at}
-use Rattle.sg_protocol.specs.Graph.{Graph, Name, Variable, Node, Edge, shape}
+use Rattle.sg_protocol.specs.Graph.{Graph, Variable, Node, Edge, shape}
 use Rattle.sg_graph.specs.Edges.{edge_of_label}
 use Rattle.sg_graph.specs.Model.{graph_of, variable_of, node_of, edge_of}
 use Rattle.sg_graph.specs.Invariant.{HoldsGraph}
@@ -12,39 +12,11 @@ use Rattle.sg_graph.specs.declared.graph.Node.{Node as KeptNode}
 use Rattle.sg_graph.specs.declared.graph.NamedEdge.{NamedEdge}
 use Rattle.sg_graph.specs.declared.graph.Graph.TheInside.{Inside}
 use Rattle.sg_model.specs.Lists.{below}
-use Rattle.sg_graph.proofs.FirstIndex.{position-map}
 use Rattle.sg_model.proofs.Numbers.{below-suc, below-at}
 
--- an index among the roles
-pub role_index : (g : Inside) (now : Graph) (seen : List Name) (name : Name) (o : Option ℕ) → graph_of g ≡ now → seen ≡ g.roles.items
-    → o ≡ position (bytes_eq name) seen → o ≡ position (bytes_eq name) now.roles
-role_index g now seen name o view same at =
-    let e : seen ≡ now.roles = same ∙ ap (λ (g : Graph). g.roles) view in
-    at ∙ ap (λ (ns : List Name). position (bytes_eq name) ns) e
-
--- an index among the variables
-pub variable_index : (g : Inside) (now : Graph) (seen : List KeptVariable) (name : Name) (o : Option ℕ) → graph_of g ≡ now → seen ≡ g.vars.items
-    → o ≡ position (λ v. bytes_eq name v.name) seen → o ≡ position (λ v. bytes_eq name v.name) now.variables
-variable_index g now seen name o view same at =
-    let e : map variable_of seen ≡ now.variables = ap (map variable_of) same ∙ ap (λ (g : Graph). g.variables) view in
-    at ∙ sym (position-map (λ (v : Variable). bytes_eq name v.name) variable_of seen)
-    ∙ ap (λ (vs : List Variable). position (λ v. bytes_eq name v.name) vs) e
-
--- an index among the nodes
-pub node_index : (g : Inside) (now : Graph) (seen : List KeptNode) (name : Name) (o : Option ℕ) → graph_of g ≡ now → seen ≡ g.nodes.items
-    → o ≡ position (λ n. bytes_eq name n.name) seen → o ≡ position (λ n. bytes_eq name n.name) now.nodes
-node_index g now seen name o view same at =
-    let e : map node_of seen ≡ now.nodes = ap (map node_of) same ∙ ap (λ (g : Graph). g.nodes) view in
-    at ∙ sym (position-map (λ (n : Node). bytes_eq name n.name) node_of seen)
-    ∙ ap (λ (ns : List Node). position (λ n. bytes_eq name n.name) ns) e
-
--- an index among the edges
-pub edge_index : (g : Inside) (now : Graph) (seen : List NamedEdge) (name : Name) (o : Option ℕ) → graph_of g ≡ now → seen ≡ g.edges.items
-    → o ≡ position (λ e. bytes_eq name e.name) seen → o ≡ position (λ e. bytes_eq name e.name) now.edges
-edge_index g now seen name o view same at =
-    let e : map edge_of seen ≡ now.edges = ap (map edge_of) same ∙ ap (λ (g : Graph). g.edges) view in
-    at ∙ sym (position-map (λ (e : Edge). bytes_eq name e.name) edge_of seen)
-    ∙ ap (λ (es : List Edge). position (λ e. bytes_eq name e.name) es) e
+-- one more part is kept
+pub one_more : {X Y : Type 0} (part_of : X → Y) (kept kept' : List X) (x : X) → kept ++ x ∷ [] ≡ kept' → map part_of kept ++ part_of x ∷ [] ≡ map part_of kept'
+one_more part_of kept kept' x more = sym (map-append part_of kept (x ∷ [])) ∙ ap (map part_of) more
 
 -- the labels with one edge more
 pub labels-append : (es : List NamedEdge) (e : NamedEdge) (fs : List NamedEdge) → map (λ e. e.edge.label) es ≡ below (length es) → e.edge.label ≡ length es

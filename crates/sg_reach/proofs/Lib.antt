@@ -1,6 +1,5 @@
 pub mod Cases
 pub mod Leads
-pub mod Leaving
 pub mod Pair
 pub mod Reached
 pub mod Searching

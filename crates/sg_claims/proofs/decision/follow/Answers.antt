@@ -6,8 +6,9 @@ use Rattle.sg_model.specs.Claims.{bit_after}
 use Rattle.sg_protocol.specs.Graph.{shape}
 use Rattle.sg_claims.specs.Search.{Any, IsSound, entry_at}
 use Rattle.sg_claims.specs.declared.search.Entry.{Entry}
-use Rattle.sg_claims.proofs.Following.{at_index, followed}
-use Rattle.sg_claims.proofs.Rising.{IsLeft, leaving_rise, left_at_first, left_on, left_before, left_greater, none_left}
+use Rattle.sg_claims.proofs.Following.{followed}
+use Rattle.sg_graph.proofs.Left.{IsLeft, at_index, left_at_first, left_on, none_left}
+use Rattle.sg_claims.proofs.Rising.{leaving_rise, left_before, left_greater}
 use Rattle.sg_claims.proofs.Searching.{search_with, goes_on}
 use Rattle.sg_claims.proofs.decision.follow.Goals as goal
 

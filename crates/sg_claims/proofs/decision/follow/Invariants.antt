@@ -1,7 +1,7 @@
 use Rattle.std.proofs.Common.{◌≡◌, ◌<◌, length}
 use Rattle.sg_protocol.specs.Graph.{shape}
 use Rattle.sg_claims.specs.Search.{IsSearch, entry_at}
-use Rattle.sg_claims.proofs.Rising.{IsLeft}
+use Rattle.sg_graph.proofs.Left.{IsLeft}
 use Rattle.sg_claims.proofs.decision.follow.Given as goal
 
 abbrev pub invariant-loop-label : goal.invariant-loop-label

@@ -6,8 +6,8 @@ use Rattle.sg_model.specs.Claims.{Claim, right_bit}
 use Rattle.sg_model.proofs.Small.{clash}
 use Rattle.sg_protocol.specs.Graph.{shape}
 use Rattle.sg_claims.proofs.Cases.{less_or, separated}
-use Rattle.sg_claims.proofs.Following.{at_index}
-use Rattle.sg_claims.proofs.Rising.{leaving_rise, left_at_first, left_at_least}
+use Rattle.sg_graph.proofs.Left.{at_index, left_at_first}
+use Rattle.sg_claims.proofs.Rising.{leaving_rise, left_at_least}
 use Rattle.sg_claims.proofs.decision.least_wrong.Goals as goal
 
 pub returns-then-is_later-clause-some : goal.returns-then-is_later-clause-some

@@ -7,7 +7,7 @@ use Rattle.sg_model.specs.Shape.{source, target, role_at}
 use Rattle.sg_protocol.specs.Graph.{shape}
 use Rattle.sg_reach.specs.WalkEnd.{found_at}
 use Rattle.sg_reach.specs.declared.search.WalkEnd.{WalkEnd}
-use Rattle.sg_reach.proofs.Leaving.{IsLeft, left_at_first, left_on, none_left, at_index}
+use Rattle.sg_graph.proofs.Left.{IsLeft, left_at_first, left_on, none_left, at_index}
 use Rattle.sg_reach.proofs.Searching.{search_with, followed, count_free}
 use Rattle.sg_reach.proofs.reach.follow.Goals as goal
 

@@ -2,7 +2,7 @@ use Rattle.std.proofs.Common.{◌≡◌, ℕ, suc}
 use Rattle.std.specs.Prelude.{Some}
 use Rattle.sg_protocol.specs.Graph.{shape}
 use Rattle.sg_reach.specs.WalkEnd.{IsSearch, edges_to}
-use Rattle.sg_reach.proofs.Leaving.{IsLeft}
+use Rattle.sg_graph.proofs.Left.{IsLeft}
 use Rattle.sg_reach.proofs.reach.follow.Given as goal
 
 abbrev pub invariant-loop-label : goal.invariant-loop-label

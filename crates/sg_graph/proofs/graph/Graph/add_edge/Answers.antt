@@ -1,15 +1,14 @@
-use Rattle.std.proofs.Common.{◌≡◌, ℕ, get_or, set, ◌<◌, false, List, [], ◌∷◌, ◌++◌, map, length, sym, ◌∙◌, ap, subst, arith, rules}
-use Rattle.std.proofs.lemmas.List.{map-append, length-map}
-use Rattle.sg_model.specs.Lists.{has_text}
+use Rattle.std.proofs.Common.{◌≡◌, ℕ, get_or, set, ◌<◌, List, [], ◌∷◌, ◌++◌, length, sym, ◌∙◌, ap, subst, arith, rules}
+use Rattle.std.proofs.lemmas.List.{length-map}
 use Rattle.sg_protocol.specs.Graph.{Graph, IsGraph, Edge, AreNumbers}
 use Rattle.sg_graph.specs.Adding.{with_edge}
 use Rattle.sg_graph.specs.Edges.{leaving_of}
 use Rattle.sg_graph.specs.Parts.{edge_names}
 use Rattle.sg_graph.specs.Model.{graph_of, edge_of}
 use Rattle.sg_graph.specs.declared.graph.NamedEdge.{NamedEdge}
-use Rattle.sg_graph.proofs.FirstIndex.{unfound}
+use Rattle.sg_graph.proofs.FirstIndex.{unfound_name}
 use Rattle.sg_graph.proofs.Growth.{IsGraph-with_edge}
-use Rattle.sg_graph.proofs.ModelLaws.{labels-append}
+use Rattle.sg_graph.proofs.ModelLaws.{labels-append, one_more}
 use Rattle.sg_graph.proofs.Leaving.{leaving_of-edge, length-leaving_of}
 use Rattle.sg_graph.proofs.graph.Graph.add_edge.Goals as goal
 
@@ -25,11 +24,8 @@ invariant_of-self-2 c =
       edge = record { label = c.len-number.result; source = c.args.source; target = c.args.target; writes = c.args.writes; reads = c.args.reads };
     } in
     let pushed : c.self.inside.edges.items ++ part ∷ [] ≡ c.put.new.items.items = search rules in
-    let items : map edge_of c.self.inside.edges.items ++ edge_of part ∷ [] ≡ map edge_of c.put.new.items.items =
-    sym (map-append edge_of c.self.inside.edges.items (part ∷ [])) ∙ ap (map edge_of) pushed in
-    let new : has_text c.args.name (edge_names (graph_of c.self.inside)) ≡ false =
-    ap (λ (g : Graph). has_text c.args.name (edge_names g)) c.self.view_is
-    ∙ unfound c.find_edge.result c.is_some.result _ c.find_edge.ensures.found c.is_some.ensures c.if-is_some.false in
+    let items = one_more edge_of c.self.inside.edges.items c.put.new.items.items part pushed in
+    let new = unfound_name c.find_edge.result c.is_some.result edge_names c.args.name (graph_of c.self.inside) _ c.self.view_is c.find_edge.ensures.found c.is_some.ensures c.if-is_some.false in
     let from = subst (λ (g : Graph). c.args.source < length g.nodes) (sym c.self.view_is) c.requires.source in
     let to = subst (λ (g : Graph). c.args.target < length g.nodes) (sym c.self.view_is) c.requires.target in
     let written = subst (λ (g : Graph). AreNumbers (length g.variables) c.args.writes) (sym c.self.view_is) c.requires.writes in

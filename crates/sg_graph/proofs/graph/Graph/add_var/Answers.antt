@@ -1,23 +1,20 @@
-use Rattle.std.proofs.Common.{◌≡◌, ◌<◌, false, List, [], ◌∷◌, ◌++◌, map, length, sym, ◌∙◌, ap, subst, arith, rules}
-use Rattle.std.proofs.lemmas.List.{map-append, length-map}
-use Rattle.sg_model.specs.Lists.{has_text}
+use Rattle.std.proofs.Common.{◌≡◌, ◌<◌, List, [], ◌∷◌, ◌++◌, length, sym, subst, arith, rules}
+use Rattle.std.proofs.lemmas.List.{length-map}
 use Rattle.sg_protocol.specs.Graph.{Graph, IsGraph, Variable, AreNumbers}
 use Rattle.sg_graph.specs.Parts.{variable_names}
 use Rattle.sg_graph.specs.Model.{graph_of, variable_of}
 use Rattle.sg_graph.specs.declared.graph.Variable.{Variable as Kept}
-use Rattle.sg_graph.proofs.FirstIndex.{unfound}
+use Rattle.sg_graph.proofs.FirstIndex.{unfound_name}
 use Rattle.sg_graph.proofs.Growth.{IsGraph-with_variable}
+use Rattle.sg_graph.proofs.ModelLaws.{one_more}
 use Rattle.sg_graph.proofs.graph.Graph.add_var.Goals as goal
 
 pub invariant_of-self-2 : goal.invariant_of-self-2
 invariant_of-self-2 c =
     let part : Kept = record { name = c.args.name; kind = c.args.kind; writers = c.args.writers } in
     let pushed : c.self.inside.vars.items ++ part ∷ [] ≡ c.push.new.self.items = search rules in
-    let items : map variable_of c.self.inside.vars.items ++ variable_of part ∷ [] ≡ map variable_of c.push.new.self.items =
-    sym (map-append variable_of c.self.inside.vars.items (part ∷ [])) ∙ ap (map variable_of) pushed in
-    let new : has_text c.args.name (variable_names (graph_of c.self.inside)) ≡ false =
-    ap (λ (g : Graph). has_text c.args.name (variable_names g)) c.self.view_is
-    ∙ unfound c.find_var.result c.is_some.result _ c.find_var.ensures.found c.is_some.ensures c.if-is_some.false in
+    let items = one_more variable_of c.self.inside.vars.items c.push.new.self.items part pushed in
+    let new = unfound_name c.find_var.result c.is_some.result variable_names c.args.name (graph_of c.self.inside) _ c.self.view_is c.find_var.ensures.found c.is_some.ensures c.if-is_some.false in
     let there = subst (λ (g : Graph). AreNumbers (length g.roles) c.args.writers) (sym c.self.view_is) c.requires.writers in
     let kept : length c.self.inside.vars.items < 32 = omega arith in
     let room : length (graph_of c.self.inside).variables < 32 = rw length-map kept in

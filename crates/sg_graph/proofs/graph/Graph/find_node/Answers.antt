@@ -1,25 +1,19 @@
-use Rattle.std.proofs.Common.{◌≡◌, [], refl}
-use Rattle.std.specs.Prelude.{bytes_eq, Some, None, position}
-use Rattle.sg_protocol.specs.Graph.{Node}
+use Rattle.std.proofs.Common.{[], map, refl, ap, ◌∙◌}
+use Rattle.sg_protocol.specs.Graph.{Graph, Node}
+use Rattle.sg_graph.specs.Model.{node_of}
 use Rattle.sg_graph.proofs.FirstIndex.{name_found, name_missed, name_there, neither}
-use Rattle.sg_graph.proofs.ModelLaws.{node_index}
 use Rattle.sg_graph.proofs.graph.Graph.find_node.Goals as goal
 
 pub returns-in_err-index-clause-found : goal.returns-in_err-index-clause-found
 returns-in_err-index-clause-found c =
-    let at : None ≡ position (λ (n : Node). bytes_eq c.args.name.now n.name) c.args.self.now.nodes =
-    node_index c.self.inside c.args.self.now c.deref.result.now c.args.name.now None c.self.view_is c.deref.ensures.value c.in_err-index.ensures in
-    let missed = name_missed (λ (n : Node). n.name) c.args.name.now c.args.self.now.nodes at in
-    neither c.from_residual.result _ c.from_residual.ensures missed
+    let seen = ap (map node_of) c.deref.ensures.value ∙ ap (λ (g : Graph). g.nodes) c.self.view_is in
+    neither c.from_residual.result _ c.from_residual.ensures (name_missed node_of (λ (n : Node). n.name) c.args.name.now c.deref.result.now c.args.self.now.nodes seen c.in_err-index.ensures)
 
-pub returns-clause-found : goal.returns-clause-found
-returns-clause-found c =
-    let at : Some c.in_ok-index.index ≡ position (λ (n : Node). bytes_eq c.args.name.now n.name) c.args.self.now.nodes =
-    node_index c.self.inside c.args.self.now c.deref.result.now c.args.name.now (Some c.in_ok-index.index) c.self.view_is c.deref.ensures.value c.in_ok-index.ensures in
-    (λ y. name_found (λ (n : Node). n.name) c.args.name.now c.args.self.now.nodes c.in_ok-index.index at, λ y. refl)
-
-pub returns-clause-index : goal.returns-clause-index
-returns-clause-index c =
-    let at : Some c.in_ok-index.index ≡ position (λ (n : Node). bytes_eq c.args.name.now n.name) c.args.self.now.nodes =
-    node_index c.self.inside c.args.self.now c.deref.result.now c.args.name.now (Some c.in_ok-index.index) c.self.view_is c.deref.ensures.value c.in_ok-index.ensures in
-    name_there (λ (n : Node). n.name) c.args.name.now c.args.self.now.nodes c.in_ok-index.index (record { name = []; role = 0 }) at
+pub returns : goal.returns
+returns c =
+    let seen = ap (map node_of) c.deref.ensures.value ∙ ap (λ (g : Graph). g.nodes) c.self.view_is in
+    let i = c.in_ok-index.index in
+    record {
+      found = (λ y. name_found node_of (λ (n : Node). n.name) c.args.name.now c.deref.result.now c.args.self.now.nodes seen i c.in_ok-index.ensures, λ y. refl);
+      index = name_there node_of (λ (n : Node). n.name) c.args.name.now c.deref.result.now c.args.self.now.nodes seen i (record { name = []; role = 0 }) c.in_ok-index.ensures;
+    }

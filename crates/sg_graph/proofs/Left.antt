@@ -1,4 +1,4 @@
--- The labels that leave a node, one after another.
+-- The labels of a list, one after another: which are left from an index on.
 use Rattle.std.proofs.Common.{◌≡◌, ℕ, ◌+◌, ◌<◌, ◌≤◌, ◌⊎◌, List, All, Contains, length, get_or, sym, ◌∙◌, ap, subst, inl, inr, arith}
 use Rattle.std.proofs.lemmas.List.{get_or_default}
 use Rattle.sg_model.proofs.Small.{same_or_not}
