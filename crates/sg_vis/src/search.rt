@@ -105,7 +105,10 @@ fn follow_edge(
     ensures leads { OnOk result (IfSome (slice_get states.old at) (λ p. LeadsInto graph.now role states.new p label)) }
     ensures refused { IfErr result (Explains graph.now role) }
 {
-    let Ok(()) = add_next(alloc, graph, role, states, at, label) else {
+    let Ok(next) = next_state(alloc, graph, role, states.get(at), at, label) else {
+        return Err(ViewFault::OutOfMemory);
+    };
+    let Ok(()) = states.add(next) else {
         return Err(ViewFault::OutOfMemory);
     };
     check_open(states)
@@ -123,29 +126,6 @@ fn check_open(states: &States) -> Result<(), ViewFault>
         Ok(list) => Err(ViewFault::TooManyOpen { list }),
         Err(_) => Err(ViewFault::OutOfMemory),
     }
-}
-
-// Adds the state that an edge leads to, if it is new. The open views may be one more.
-fn add_next(
-    alloc: Global,
-    graph: &Graph,
-    role: Role,
-    states: &mut States,
-    at: usize,
-    label: Label,
-) -> Result<(), OutOfMemory>
-    requires there { at < length states.old }
-    requires label { label < length graph.now.edges }
-    requires source { IfSome (slice_get states.old at) (λ p. source (shape graph.now) label ≡ p.node) }
-    requires searched { Searched graph.now role states.old }
-    requires few { length (open_states states.old) ≤ most_open_views }
-    ensures searched { OnOk result (Searched graph.now role states.new) }
-    ensures one_more { OnOk result (length (open_states states.new) ≤ length (open_states states.old) + 1) }
-    ensures extends { OnOk result (Extends states.old states.new) }
-    ensures leads { OnOk result (IfSome (slice_get states.old at) (λ p. LeadsInto graph.now role states.new p label)) }
-{
-    let next = next_state(alloc, graph, role, states.get(at), at, label)?;
-    states.add(next)
 }
 
 // The state that an edge leads to.
