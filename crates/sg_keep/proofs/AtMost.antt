@@ -18,7 +18,7 @@ use Rattle.sg_play.proofs.Looping.{taken_part}
 use Rattle.sg_keep.specs.Joins.{join_in, joins_made}
 use Rattle.sg_keep.specs.KeptRuns.{AllRepresent, KeptThroughout, LeavesAtMost, RepresentsAtMost, RepresentsEither}
 use Rattle.sg_keep.specs.Representation.{KeptFrom}
-use Rattle.sg_keep.proofs.Going.{Goes, after_call, by_deliveries, by_starts, joined, nothing, with_call}
+use Rattle.sg_keep.proofs.Going.{Goes, after_call, by_deliveries, by_starts, deliveries_on, joined, nothing, with_call}
 use Rattle.sg_keep.proofs.Owning.{made_by}
 
 -- ---- how many joins calls made
@@ -151,6 +151,11 @@ module _ {D : Type 0} (moment : D → ℕ) (left_since : D → ℕ → List ℕ 
       → KeptFrom moment left_since old new start now p r
   kept_at old new start now p q r f g in_step whole images =
       kept_by old new start now now p q r f g in_step whole ([], appends_none now) (leaves_on old new q r g (length q.past.calls) (length q.past.calls) (omega arith) (omega arith) images)
+
+  -- the first of some deliveries were taken
+  pub kept_taking : (old new : D) (start now : Option (List ℕ)) (p : Play) (ds : List (List ℕ)) (k m : ℕ) → k ≤ m → length (all_deliveries p (take k ds)).steps ≡ length (all_deliveries p (take k ds)).past.calls → Appends start now (lines_of (all_deliveries p (take k ds)).steps)
+      → LeavesAtMost moment left_since old new (all_deliveries p (take k ds)) (length (all_deliveries p (take k ds)).past.calls) → KeptFrom moment left_since old new start now p (all_deliveries p (take m ds))
+  kept_taking old new start now p ds k m l in_step whole images = kept_at old new start now p (all_deliveries p (take k ds)) (all_deliveries p (take m ds)) (by_deliveries p (take k ds)) (deliveries_on p k m ds l) in_step whole images
 
   -- it goes on after an early end
   pub throughout_on : (old new : D) (start now : Option (List ℕ)) (p q : Play) → Goes p q → length p.steps ≡ length p.past.calls → KeptThroughout moment left_since old new start now p → KeptThroughout moment left_since old new start now q

@@ -25,7 +25,7 @@ pub(crate) struct Keeper<'p> {
 }
 
 impl<'p> Keeper<'p> {
-    ghost use Rattle.sg_keep.specs.Faults.{CountsFaults};
+    ghost use Rattle.sg_keep.specs.Around.{KeepsBound};
     ghost use Rattle.sg_keep.specs.Representation.{Progressed, HasAskedNode, HoldsJoins, IsAsked};
 
     /// Keeps the join of the outcome of a call, if it is one; gives the outside the outcome when the join is kept; and plays the turn that
@@ -39,11 +39,7 @@ impl<'p> Keeper<'p> {
         disk: &mut D,
     ) -> Result<(), KeepFault>
         requires asked { HasAskedNode self.old (D.may_leave disk.old) outcome.now }
-        ensures link_bound { L.bound link.new ≡ L.bound link.old }
-        ensures disk_bound { D.bound disk.new ≡ D.bound disk.old }
-        ensures faults { CountsFaults (record { link = L.faults link.old; out = O.faults out.old; disk = D.faults disk.old })
-            (record { link = L.faults link.new; out = O.faults out.new; disk = D.faults disk.new }) result }
-        ensures deliveries { L.deliveries link.new ≡ L.deliveries link.old }
+        ensures kept { KeepsBound L.Link O.Sink D.Disk link.old link.new out.old out.new disk.old disk.new result }
         ensures holds { OnOk result (HoldsJoins self.new (D.may_leave disk.new)) }
         ensures joins { OnOk result (self.new.ledger.joins ≡ self.old.player.node.joins) }
         ensures any_moment { LeavesOnly D.moment D.left_since disk.old disk.new (RepresentsEither self.old.ledger.joins self.old.player.node.joins) }

@@ -4,6 +4,7 @@ ghost use Rattle.sg_ledger.specs.Disk.{LeavesOnly};
 ghost use Rattle.sg_play.specs.Ends.{Outside, Whole};
 ghost use Rattle.sg_play.specs.Played.{Play, all_deliveries, all_starts, played, starts, with_turn};
 ghost use Rattle.sg_protocol.specs.Calls.{Deliver};
+ghost use Rattle.sg_keep.specs.Around.{KeepsBound};
 ghost use Rattle.sg_keep.specs.Faults.{CountsFaults};
 ghost use Rattle.sg_keep.specs.KeptRuns.{AllRepresent, HasKept, KeptThroughout, LeavesAtMost, RepresentsMore};
 ghost use Rattle.sg_keep.specs.Representation.{Progressed, HasMore, HoldsJoins, KeptFrom, RepresentsKept};
@@ -30,11 +31,7 @@ impl<'p> Keeper<'p> {
         disk: &mut D,
     ) -> Result<(), KeepFault>
         requires holds { HoldsJoins self.old (D.may_leave disk.old) }
-        ensures link_bound { L.bound link.new ≡ L.bound link.old }
-        ensures disk_bound { D.bound disk.new ≡ D.bound disk.old }
-        ensures faults { CountsFaults (record { link = L.faults link.old; out = O.faults out.old; disk = D.faults disk.old })
-            (record { link = L.faults link.new; out = O.faults out.new; disk = D.faults disk.new }) result }
-        ensures deliveries { L.deliveries link.new ≡ L.deliveries link.old }
+        ensures kept { KeepsBound L.Link O.Sink D.Disk link.old link.new out.old out.new disk.old disk.new result }
         ensures holds { OnOk result (HoldsJoins self.new (D.may_leave disk.new)) }
         ensures more { OnOk result (HasMore self.old.ledger.joins self.new.ledger.joins) }
         ensures any_moment { LeavesOnly D.moment D.left_since disk.old disk.new (RepresentsMore self.old.ledger.joins) }
@@ -64,11 +61,7 @@ impl<'p> Keeper<'p> {
         disk: &mut D,
     ) -> Result<(), KeepFault>
         requires holds { HoldsJoins self.old (D.may_leave disk.old) }
-        ensures link_bound { L.bound link.new ≡ L.bound link.old }
-        ensures disk_bound { D.bound disk.new ≡ D.bound disk.old }
-        ensures faults { CountsFaults (record { link = L.faults link.old; out = O.faults out.old; disk = D.faults disk.old })
-            (record { link = L.faults link.new; out = O.faults out.new; disk = D.faults disk.new }) result }
-        ensures deliveries { L.deliveries link.new ≡ L.deliveries link.old }
+        ensures kept { KeepsBound L.Link O.Sink D.Disk link.old link.new out.old out.new disk.old disk.new result }
         ensures holds { OnOk result (HoldsJoins self.new (D.may_leave disk.new)) }
         ensures more { OnOk result (HasMore self.old.ledger.joins self.new.ledger.joins) }
         ensures any_moment { LeavesOnly D.moment D.left_since disk.old disk.new (RepresentsMore self.old.ledger.joins) }
@@ -138,11 +131,7 @@ impl<'p> Keeper<'p> {
         disk: &mut D,
     ) -> Result<(), KeepFault>
         requires holds { HoldsJoins self.old (D.may_leave disk.old) }
-        ensures link_bound { L.bound link.new ≡ L.bound link.old }
-        ensures disk_bound { D.bound disk.new ≡ D.bound disk.old }
-        ensures faults { CountsFaults (record { link = L.faults link.old; out = O.faults out.old; disk = D.faults disk.old })
-            (record { link = L.faults link.new; out = O.faults out.new; disk = D.faults disk.new }) result }
-        ensures deliveries { L.deliveries link.new ≡ L.deliveries link.old }
+        ensures kept { KeepsBound L.Link O.Sink D.Disk link.old link.new out.old out.new disk.old disk.new result }
         ensures holds { OnOk result (HoldsJoins self.new (D.may_leave disk.new)) }
         ensures more { OnOk result (HasMore self.old.ledger.joins self.new.ledger.joins) }
         ensures any_moment { LeavesOnly D.moment D.left_since disk.old disk.new (RepresentsMore self.old.ledger.joins) }

@@ -52,13 +52,13 @@ returns-in-Err-start_all-clause-kept g c = λ deliveries random reported drawn.
     (c.in-Err-start_all.ensures.progress begun start (represents_first keeper c.args.keys.now c.args.programs.now first script.choices random (c.in-Ok-new.ensures.represents first random new)) drawn (whole_none start)))
 
 pub returns-in-Err-start_all-clause-at_most : goal.returns-in-Err-start_all-clause-at_most
-returns-in-Err-start_all-clause-at_most g c = λ deliveries reported. (0, omega arith, c.start_all.ensures.deliveries ∙ reported)
+returns-in-Err-start_all-clause-at_most g c = λ deliveries reported. (0, omega arith, c.start_all.ensures.kept.deliveries ∙ reported)
 
 pub returns-clause-left : goal.returns-clause-left
-returns-clause-left g c = on_ok_weaker c.take_all.result (λ h deliveries reported. h deliveries (c.start_all.ensures.deliveries ∙ reported)) c.take_all.ensures.left
+returns-clause-left g c = on_ok_weaker c.take_all.result (λ h deliveries reported. h deliveries (c.start_all.ensures.kept.deliveries ∙ reported)) c.take_all.ensures.left
 
 pub returns-clause-faults : goal.returns-clause-faults
-returns-clause-faults g c = counted_then c.in-Ok-start_all.ensures.faults c.take_all.ensures.faults
+returns-clause-faults g c = counted_then c.in-Ok-start_all.ensures.kept.faults c.take_all.ensures.faults
 
 pub returns-clause-kept : goal.returns-clause-kept
 returns-clause-kept g c = λ deliveries random reported drawn.
@@ -74,7 +74,7 @@ returns-clause-kept g c = λ deliveries random reported drawn.
     let started = c.in-Ok-start_all.ensures.progress begun start (represents_first keeper c.args.keys.now c.args.programs.now first script.choices random (c.in-Ok-new.ensures.represents first random new)) drawn (whole_none start) in
     subst (λ (z : Script). HasKept start now leaves (played c.args.keys.now c.args.programs.now first z (take c.args.most deliveries) random) c.take_all.result) is
     (came_kept start now leaves c.take_all.new.self (g.R.Fresh.random c.take_all.new.fresh) (played c.args.keys.now c.args.programs.now first script (take c.args.most deliveries) random) c.take_all.result c.take_all.ensures.holds
-    (c.take_all.ensures.progress (all_starts begun script.starts) start deliveries (c.in-Ok-start_all.ensures.deliveries ∙ reported) started.0 started.2 started.1))
+    (c.take_all.ensures.progress (all_starts begun script.starts) start deliveries (c.in-Ok-start_all.ensures.kept.deliveries ∙ reported) started.0 started.2 started.1))
 
 pub returns-in_default-clause-any_moment : goal.returns-in_default-clause-any_moment
 returns-in_default-clause-any_moment g c = not_asked g.D.Disk.moment g.D.Disk.left_since c.args.disk.now (g.D.Disk.may_leave c.args.disk.now) (g.met.D.Disk.only_now c.args.disk.now) c.args.ledger.joins c.requires.represents
@@ -133,6 +133,6 @@ returns-clause-throughout g c = λ deliveries random reported drawn.
     let now = g.O.Sink.written c.take_all.new.out in
     let kept = c.start_all.ensures.throughout begun start held drawn (whole_none start) in
     let came = c.in-Ok-start_all.ensures.progress begun start held drawn (whole_none start) in
-    let later = c.take_all.ensures.throughout started start deliveries (c.in-Ok-start_all.ensures.deliveries ∙ reported) came.0 came.2 came.1 in
+    let later = c.take_all.ensures.throughout started start deliveries (c.in-Ok-start_all.ensures.kept.deliveries ∙ reported) came.0 came.2 came.1 in
     subst (λ (z : Script). KeptThroughout g.D.Disk.moment g.D.Disk.left_since c.args.disk.now c.take_all.new.disk start.written now (played c.args.keys.now c.args.programs.now first z (take c.args.most deliveries) random)) is
     (throughout_then g.D.Disk.moment g.D.Disk.left_since c.args.disk.now c.start_all.new.disk c.take_all.new.disk start.written (g.O.Sink.written c.start_all.new.out) now started all goes in_step kept.0 later)

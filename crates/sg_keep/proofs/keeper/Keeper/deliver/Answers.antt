@@ -4,7 +4,7 @@ use Rattle.sg_play.specs.Ends.{Outside}
 use Rattle.sg_play.specs.Played.{with_turn}
 use Rattle.sg_keep.specs.declared.keeper.Keeper.{Keeper}
 use Rattle.sg_keep.proofs.Asking.{asked_node, holds_all, is_asked, ledger_has, memory_end, node_has}
-use Rattle.sg_keep.proofs.Counting.{memory_counted}
+use Rattle.sg_keep.proofs.Counting.{memory_kept}
 use Rattle.sg_keep.proofs.Going.{with_call}
 use Rattle.sg_keep.proofs.AtMost.{call_at_most, not_asked_at_most}
 use Rattle.sg_keep.proofs.Moments.{all_held, asked_more, either_more, more_on_ok, not_asked}
@@ -21,8 +21,8 @@ returns-in-Ok-clause-progress g c = λ p start s w h.
     (is_asked c.args.self.now c.ask_deliver.new.self (g.D.Disk.may_leave c.args.disk.now) p (Deliver c.args.bytes.now) c.in-Ok.outcome c.requires.holds s c.in-Ok.ensures.rest (λ number. c.in-Ok.ensures.is_asked number p.past s.player.node) refl)
     w h
 
-pub returns-in-Err-clause-faults : goal.returns-in-Err-clause-faults
-returns-in-Err-clause-faults g c = memory_counted c.in-Err.ensures.memory
+pub returns-in-Err-clause-kept : goal.returns-in-Err-clause-kept
+returns-in-Err-clause-kept g c = memory_kept c.in-Err.ensures.memory
 
 pub returns-in-Err-clause-progress : goal.returns-in-Err-clause-progress
 returns-in-Err-clause-progress g c = λ p start s w h.

@@ -6,8 +6,8 @@ use Rattle.sg_keep.proofs.Asking.{asked_then, holds_on, represents_kept, unkept,
 use Rattle.sg_keep.proofs.Counting.{counted_then, kept_counted, played_counted, unkept_counted, unplayed_counted}
 use Rattle.sg_keep.proofs.keeper.Keeper.report.Goals as goal
 
-pub returns-in-Err-clause-faults : goal.returns-in-Err-clause-faults
-returns-in-Err-clause-faults g c = unkept_counted c.in-Err.ensures.causes c.in-Err.ensures.faults
+pub returns-in-Err-clause-kept : goal.returns-in-Err-clause-kept
+returns-in-Err-clause-kept g c = record { link_bound = refl; disk_bound = c.keep_join.ensures.disk_bound; deliveries = refl; faults = unkept_counted c.in-Err.ensures.causes c.in-Err.ensures.faults }
 
 pub returns-in-Err-clause-progress : goal.returns-in-Err-clause-progress
 returns-in-Err-clause-progress g c = λ p k start a w h.
@@ -22,10 +22,7 @@ returns-in-Ok-go_on g c =
     let leaves = g.D.Disk.may_leave c.keep_join.new.disk in
     let now = outside_of g.L.Link g.O.Sink c.go_on.new.link c.go_on.new.out in
     record {
-      link_bound = played.kept.bound;
-      disk_bound = c.keep_join.ensures.disk_bound;
-      faults = counted_then (kept_counted kept.faults) (played_counted played.kept.faults);
-      deliveries = played.kept.deliveries;
+      kept = record { link_bound = played.kept.bound; disk_bound = c.keep_join.ensures.disk_bound; deliveries = played.kept.deliveries; faults = counted_then (kept_counted kept.faults) (played_counted played.kept.faults) };
       holds = holds_on m (record m { player = c.go_on.new.self }) leaves kept.holds refl played.joins;
       joins = ap (λ (l : OpenLedger). l.joins) kept.holds.ledger ∙ ap (λ (pl : Player). pl.node.joins) c.keep_join.ensures.player;
       any_moment = c.keep_join.ensures.any_moment;
@@ -37,14 +34,10 @@ returns-in-Ok-go_on g c =
           (represents_kept start now leaves old p k outcome a m same kept.holds (record m { player = c.go_on.new.self }) turn.0.0, turn.0.1, turn.1);
     }
 
-pub returns-in-Err-go_on-clause-link_bound : goal.returns-in-Err-go_on-clause-link_bound
-returns-in-Err-go_on-clause-link_bound g c = c.in-Err-go_on.ensures.kept.bound
-
-pub returns-in-Err-go_on-clause-deliveries : goal.returns-in-Err-go_on-clause-deliveries
-returns-in-Err-go_on-clause-deliveries g c = c.in-Err-go_on.ensures.kept.deliveries
-
-pub returns-in-Err-go_on-clause-faults : goal.returns-in-Err-go_on-clause-faults
-returns-in-Err-go_on-clause-faults g c = counted_then (kept_counted c.in-Ok.ensures.faults) (unplayed_counted c.in-Err-go_on.ensures.kept.faults)
+pub returns-in-Err-go_on-clause-kept : goal.returns-in-Err-go_on-clause-kept
+returns-in-Err-go_on-clause-kept g c =
+    let played = c.in-Err-go_on.ensures.kept in
+    record { link_bound = played.bound; disk_bound = c.keep_join.ensures.disk_bound; deliveries = played.deliveries; faults = counted_then (kept_counted c.in-Ok.ensures.faults) (unplayed_counted played.faults) }
 
 pub returns-in-Err-go_on-clause-progress : goal.returns-in-Err-go_on-clause-progress
 returns-in-Err-go_on-clause-progress g c = λ p k start a w h.

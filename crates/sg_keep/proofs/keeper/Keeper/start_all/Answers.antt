@@ -4,12 +4,11 @@ use Rattle.sg_script.specs.Script.{Start as ScriptStart}
 use Rattle.sg_play.specs.Ends.{Outside}
 use Rattle.sg_play.specs.Played.{Play, all_starts, starts}
 use Rattle.sg_play.proofs.Looping.{start_next}
-use Rattle.sg_keep.specs.Faults.{Counts}
 use Rattle.sg_keep.specs.KeptRuns.{HasKept, LeavesAtMost}
 use Rattle.sg_keep.specs.Representation.{Progressed}
 use Rattle.sg_keep.proofs.Asking.{holds_all}
 use Rattle.sg_keep.proofs.AtMost.{kept_at, kept_by, leaves_on, leaves_then, no_fewer_calls, not_asked_at_most}
-use Rattle.sg_keep.proofs.Counting.{counted_then, none_counted}
+use Rattle.sg_keep.proofs.Counting.{kept_then, none_kept}
 use Rattle.sg_keep.proofs.Ending.{end_on, to_same}
 use Rattle.sg_keep.proofs.Going.{Goes, by_start, by_starts, nothing, starts_on}
 use Rattle.sg_keep.proofs.Moments.{all_held, more_none, more_on, more_then, not_asked}
@@ -17,19 +16,14 @@ use Rattle.sg_keep.proofs.Silent.{represents_silent, silent, whole_silent, writt
 use Rattle.sg_keep.proofs.keeper.Keeper.start_all.Goals as goal
 
 pub loop-start-init : goal.loop-start-init
-loop-start-init g c = record { link_bound = refl; disk_bound = refl; faults = none_counted tt; deliveries = refl; holds = c.requires.holds; more = more_none c.args.self.now.ledger.joins; any_moment = not_asked g.D.Disk.moment g.D.Disk.left_since c.args.disk.now (g.D.Disk.may_leave c.args.disk.now) (g.met.D.Disk.only_now c.args.disk.now) c.args.self.now.ledger.joins (all_held c.args.self.now (g.D.Disk.may_leave c.args.disk.now) c.requires.holds); leaves_at_most = λ p start s w h. not_asked_at_most g.D.Disk.moment g.D.Disk.left_since c.args.disk.now (g.D.Disk.may_leave c.args.disk.now) (g.met.D.Disk.only_now c.args.disk.now) p p (nothing p) (holds_all c.args.self.now (g.D.Disk.may_leave c.args.disk.now) p c.requires.holds s); progress = λ p start s w h. (s, h, w) }
+loop-start-init g c = record { kept = none_kept tt; holds = c.requires.holds; more = more_none c.args.self.now.ledger.joins; any_moment = not_asked g.D.Disk.moment g.D.Disk.left_since c.args.disk.now (g.D.Disk.may_leave c.args.disk.now) (g.met.D.Disk.only_now c.args.disk.now) c.args.self.now.ledger.joins (all_held c.args.self.now (g.D.Disk.may_leave c.args.disk.now) c.requires.holds); leaves_at_most = λ p start s w h. not_asked_at_most g.D.Disk.moment g.D.Disk.left_since c.args.disk.now (g.D.Disk.may_leave c.args.disk.now) (g.met.D.Disk.only_now c.args.disk.now) p p (nothing p) (holds_all c.args.self.now (g.D.Disk.may_leave c.args.disk.now) p c.requires.holds s); progress = λ p start s w h. (s, h, w) }
 
 pub loop-start-preserved : goal.loop-start-preserved
 loop-start-preserved g c =
     let inv = c.loop-start.invariant in
     let one = c.in-Ok.ensures in
-    let old : Counts = record { link = g.L.Link.faults c.args.link.now; out = g.O.Sink.faults c.args.out.now; disk = g.D.Disk.faults c.args.disk.now } in
-    let new : Counts = record { link = g.L.Link.faults c.start_one.new.link; out = g.O.Sink.faults c.start_one.new.out; disk = g.D.Disk.faults c.start_one.new.disk } in
     record {
-      link_bound = one.link_bound ∙ inv.link_bound;
-      disk_bound = one.disk_bound ∙ inv.disk_bound;
-      faults = counted_then {old = old} {new = new} inv.faults one.faults;
-      deliveries = one.deliveries ∙ inv.deliveries;
+      kept = kept_then inv.kept one.kept;
       holds = one.holds;
       more = more_then c.args.self.now.ledger.joins c.loop-start.self.ledger.joins c.start_one.new.self.ledger.joins inv.more one.more;
       any_moment = more_on g.D.Disk.moment g.D.Disk.left_since c.args.disk.now c.loop-start.disk c.start_one.new.disk c.args.self.now.ledger.joins c.loop-start.self.ledger.joins inv.more inv.any_moment c.start_one.ensures.any_moment;
@@ -52,8 +46,8 @@ loop-start-preserved g c =
           (start_next p at c.args.starts.now c.start-item.result c.loop-start-test.true c.start-item.is) (one.progress so_far start before.0 before.2 before.1);
     }
 
-pub returns-in-Err-clause-faults : goal.returns-in-Err-clause-faults
-returns-in-Err-clause-faults g c = counted_then c.loop-start.invariant.faults c.in-Err.ensures.faults
+pub returns-in-Err-clause-kept : goal.returns-in-Err-clause-kept
+returns-in-Err-clause-kept g c = kept_then c.loop-start.invariant.kept c.in-Err.ensures.kept
 
 pub returns-in-Err-clause-progress : goal.returns-in-Err-clause-progress
 returns-in-Err-clause-progress g c = λ p start s w h.

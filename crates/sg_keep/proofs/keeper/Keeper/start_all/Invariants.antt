@@ -2,18 +2,14 @@ use Rattle.std.proofs.Common.{◌≡◌, Some, Ok, length, take}
 use Rattle.sg_ledger.specs.Disk.{LeavesOnly}
 use Rattle.sg_play.specs.Ends.{Outside, Whole}
 use Rattle.sg_play.specs.Played.{Play, all_starts}
-use Rattle.sg_keep.specs.Faults.{CountsFaults}
+use Rattle.sg_keep.specs.Around.{KeepsBound}
 use Rattle.sg_keep.specs.KeptRuns.{LeavesAtMost, RepresentsMore}
 use Rattle.sg_keep.specs.Representation.{Progressed, HasMore, HoldsJoins, RepresentsKept}
 use Rattle.sg_keep.proofs.keeper.Keeper.start_all.Given as goal
 
 abbrev pub invariant-loop-start : goal.invariant-loop-start
 invariant-loop-start g l = record {
-  link_bound : g.L.Link.bound l.link ≡ g.L.Link.bound l.initial.link;
-  disk_bound : g.D.Disk.bound l.disk ≡ g.D.Disk.bound l.initial.disk;
-  faults : CountsFaults {A = Unit {0}} (record { link = g.L.Link.faults l.initial.link; out = g.O.Sink.faults l.initial.out; disk = g.D.Disk.faults l.initial.disk })
-      (record { link = g.L.Link.faults l.link; out = g.O.Sink.faults l.out; disk = g.D.Disk.faults l.disk }) (Ok tt);
-  deliveries : g.L.Link.deliveries l.link ≡ g.L.Link.deliveries l.initial.link;
+  kept : KeepsBound {A = Unit {0}} g.L.Link g.O.Sink g.D.Disk l.initial.link l.link l.initial.out l.out l.initial.disk l.disk (Ok tt);
   holds : HoldsJoins l.self (g.D.Disk.may_leave l.disk);
   more : HasMore l.initial.self.ledger.joins l.self.ledger.joins;
   any_moment : LeavesOnly g.D.Disk.moment g.D.Disk.left_since l.initial.disk l.disk (RepresentsMore l.initial.self.ledger.joins);

@@ -6,7 +6,7 @@ use Rattle.sg_play.proofs.Running.{start_is, without_some}
 use Rattle.sg_keep.specs.declared.keeper.Keeper.{Keeper}
 use Rattle.sg_keep.specs.KeptRuns.{LeavesAtMost}
 use Rattle.sg_keep.proofs.Asking.{asked_node, holds_all, is_asked, kept_without, ledger_has, memory_end, node_has}
-use Rattle.sg_keep.proofs.Counting.{memory_counted}
+use Rattle.sg_keep.proofs.Counting.{memory_kept}
 use Rattle.sg_keep.proofs.Ending.{to_same}
 use Rattle.sg_keep.proofs.Going.{by_start}
 use Rattle.sg_keep.proofs.AtMost.{call_at_most, not_asked_at_most}
@@ -31,8 +31,8 @@ returns-in-Ok-clause-progress g c = λ p start s w h.
     (is_asked c.args.self.now c.ask_start.new.self leaves q (Start cast) c.in-Ok.outcome c.requires.holds t c.in-Ok.ensures.rest (λ number. c.in-Ok.ensures.is_asked number q.past t.player.node) refl)
     (c.next-nonce.ensures.taken p.random w) h)
 
-pub returns-in-Err-clause-faults : goal.returns-in-Err-clause-faults
-returns-in-Err-clause-faults g c = memory_counted c.in-Err.ensures.memory
+pub returns-in-Err-clause-kept : goal.returns-in-Err-clause-kept
+returns-in-Err-clause-kept g c = memory_kept c.in-Err.ensures.memory
 
 pub returns-in-Err-clause-progress : goal.returns-in-Err-clause-progress
 returns-in-Err-clause-progress g c = λ p start s w h.

@@ -8,7 +8,7 @@ use Rattle.sg_keep.specs.Faults.{Counts}
 use Rattle.sg_keep.specs.KeptRuns.{HasKept, LeavesAtMost}
 use Rattle.sg_keep.specs.Representation.{Progressed}
 use Rattle.sg_keep.proofs.Asking.{holds_all, link_end, memory_end}
-use Rattle.sg_keep.proofs.AtMost.{kept_at, kept_by, leaves_on, leaves_then, no_fewer_calls, not_asked_at_most}
+use Rattle.sg_keep.proofs.AtMost.{kept_by, kept_taking, leaves_on, leaves_then, no_fewer_calls, not_asked_at_most}
 use Rattle.sg_keep.proofs.Counting.{asked_then, counted_then, link_counted, memory_counted, none_counted}
 use Rattle.sg_keep.proofs.Ending.{end_on, to_same}
 use Rattle.sg_keep.proofs.Going.{Goes, by_deliveries, deliveries_on, nothing, with_call}
@@ -40,13 +40,13 @@ loop-taken-preserved g c =
     let old : Counts = record { link = g.L.Link.faults c.args.link.now; out = g.O.Sink.faults c.args.out.now; disk = g.D.Disk.faults c.args.disk.now } in
     let new : Counts = record { link = g.L.Link.faults c.deliver.new.link; out = g.O.Sink.faults c.deliver.new.out; disk = g.D.Disk.faults c.deliver.new.disk } in
     record {
-      link_bound = one.link_bound ∙ c.recv.ensures.kept_bound ∙ inv.link_bound;
-      disk_bound = one.disk_bound ∙ inv.disk_bound;
-      faults = counted_then {old = old} {new = new} inv.faults (asked_then {new = new} c.recv.ensures.never_falls one.faults);
+      link_bound = one.kept.link_bound ∙ c.recv.ensures.kept_bound ∙ inv.link_bound;
+      disk_bound = one.kept.disk_bound ∙ inv.disk_bound;
+      faults = counted_then {old = old} {new = new} inv.faults (asked_then {new = new} c.recv.ensures.never_falls one.kept.faults);
       holds = one.holds;
       more = more_then c.args.self.now.ledger.joins c.loop-taken.self.ledger.joins c.deliver.new.self.ledger.joins inv.more one.more;
       any_moment = more_on g.D.Disk.moment g.D.Disk.left_since c.args.disk.now c.loop-taken.disk c.deliver.new.disk c.args.self.now.ledger.joins c.loop-taken.self.ledger.joins inv.more inv.any_moment c.deliver.ensures.any_moment;
-      left = λ deliveries reported. one.deliveries ∙ (first (drop k deliveries) (inv.left deliveries reported)).1 ∙ ap (λ l. Some l) (left_next k deliveries);
+      left = λ deliveries reported. one.kept.deliveries ∙ (first (drop k deliveries) (inv.left deliveries reported)).1 ∙ ap (λ l. Some l) (left_next k deliveries);
       leaves_at_most = λ p start deliveries reported s w h.
           let so_far : Play = all_deliveries p (take k deliveries) in
           let call = Deliver c.as_slice.result.now in
@@ -68,7 +68,7 @@ loop-taken-preserved g c =
     }
 
 pub returns-in-Err-clause-faults : goal.returns-in-Err-clause-faults
-returns-in-Err-clause-faults g c = counted_then c.loop-taken.invariant.faults (asked_then c.recv.ensures.never_falls c.in-Err.ensures.faults)
+returns-in-Err-clause-faults g c = counted_then c.loop-taken.invariant.faults (asked_then c.recv.ensures.never_falls c.in-Err.ensures.kept.faults)
 
 pub returns-in-Err-clause-progress : goal.returns-in-Err-clause-progress
 returns-in-Err-clause-progress g c = let within : c.loop-taken._taken + 1 ≤ c.args.most = omega arith in λ p start deliveries reported s w h.
@@ -88,7 +88,7 @@ pub returns-in-Err-clause-at_most : goal.returns-in-Err-clause-at_most
 returns-in-Err-clause-at_most g c = let within : c.loop-taken._taken + 1 ≤ c.args.most = omega arith in λ deliveries reported.
     let k = c.loop-taken._taken in
     let first = rw c.in-Ok-Some.field-0-is at c.in-Ok-Some.ensures.first in
-    (k + 1, within, c.in-Err.ensures.deliveries ∙ (first (drop k deliveries) (c.loop-taken.invariant.left deliveries reported)).1 ∙ ap (λ l. Some l) (left_next k deliveries))
+    (k + 1, within, c.in-Err.ensures.kept.deliveries ∙ (first (drop k deliveries) (c.loop-taken.invariant.left deliveries reported)).1 ∙ ap (λ l. Some l) (left_next k deliveries))
 
 pub returns-in-Ok-None-clause-faults : goal.returns-in-Ok-None-clause-faults
 returns-in-Ok-None-clause-faults g c = counted_then c.loop-taken.invariant.faults (asked_then c.recv.ensures.never_falls (none_counted tt))
@@ -195,35 +195,23 @@ returns-in-Err-clause-throughout g c = let within : c.loop-taken._taken + 1 ≤ 
 pub returns-in-Ok-None-clause-throughout : goal.returns-in-Ok-None-clause-throughout
 returns-in-Ok-None-clause-throughout g c = let within : c.loop-taken._taken ≤ c.args.most = omega arith in λ p start deliveries reported s w h.
     let inv = c.loop-taken.invariant in
-    let k = c.loop-taken._taken in
-    let so_far : Play = all_deliveries p (take k deliveries) in
     let before = inv.progress p start deliveries reported s w h in
-    kept_at g.D.Disk.moment g.D.Disk.left_since c.args.disk.now c.loop-taken.disk start.written (g.O.Sink.written c.loop-taken.out) p so_far (all_deliveries p (take c.args.most deliveries)) (by_deliveries p (take k deliveries)) (deliveries_on p k c.args.most deliveries within)
-    before.0.in_step before.1.lines (inv.leaves_at_most p start deliveries reported s w h)
+    kept_taking g.D.Disk.moment g.D.Disk.left_since c.args.disk.now c.loop-taken.disk start.written (g.O.Sink.written c.loop-taken.out) p deliveries c.loop-taken._taken c.args.most within before.0.in_step before.1.lines (inv.leaves_at_most p start deliveries reported s w h)
 
 pub returns-in-Err-Failed-clause-throughout : goal.returns-in-Err-Failed-clause-throughout
 returns-in-Err-Failed-clause-throughout g c = let within : c.loop-taken._taken ≤ c.args.most = omega arith in λ p start deliveries reported s w h.
     let inv = c.loop-taken.invariant in
-    let k = c.loop-taken._taken in
-    let so_far : Play = all_deliveries p (take k deliveries) in
     let before = inv.progress p start deliveries reported s w h in
-    kept_at g.D.Disk.moment g.D.Disk.left_since c.args.disk.now c.loop-taken.disk start.written (g.O.Sink.written c.loop-taken.out) p so_far (all_deliveries p (take c.args.most deliveries)) (by_deliveries p (take k deliveries)) (deliveries_on p k c.args.most deliveries within)
-    before.0.in_step before.1.lines (inv.leaves_at_most p start deliveries reported s w h)
+    kept_taking g.D.Disk.moment g.D.Disk.left_since c.args.disk.now c.loop-taken.disk start.written (g.O.Sink.written c.loop-taken.out) p deliveries c.loop-taken._taken c.args.most within before.0.in_step before.1.lines (inv.leaves_at_most p start deliveries reported s w h)
 
 pub returns-in-Err-OutOfMemory-clause-throughout : goal.returns-in-Err-OutOfMemory-clause-throughout
 returns-in-Err-OutOfMemory-clause-throughout g c = let within : c.loop-taken._taken ≤ c.args.most = omega arith in λ p start deliveries reported s w h.
     let inv = c.loop-taken.invariant in
-    let k = c.loop-taken._taken in
-    let so_far : Play = all_deliveries p (take k deliveries) in
     let before = inv.progress p start deliveries reported s w h in
-    kept_at g.D.Disk.moment g.D.Disk.left_since c.args.disk.now c.loop-taken.disk start.written (g.O.Sink.written c.loop-taken.out) p so_far (all_deliveries p (take c.args.most deliveries)) (by_deliveries p (take k deliveries)) (deliveries_on p k c.args.most deliveries within)
-    before.0.in_step before.1.lines (inv.leaves_at_most p start deliveries reported s w h)
+    kept_taking g.D.Disk.moment g.D.Disk.left_since c.args.disk.now c.loop-taken.disk start.written (g.O.Sink.written c.loop-taken.out) p deliveries c.loop-taken._taken c.args.most within before.0.in_step before.1.lines (inv.leaves_at_most p start deliveries reported s w h)
 
 pub returns-clause-throughout : goal.returns-clause-throughout
 returns-clause-throughout g c = let within : c.loop-taken._taken ≤ c.args.most = omega arith in λ p start deliveries reported s w h.
     let inv = c.loop-taken.invariant in
-    let k = c.loop-taken._taken in
-    let so_far : Play = all_deliveries p (take k deliveries) in
     let before = inv.progress p start deliveries reported s w h in
-    kept_at g.D.Disk.moment g.D.Disk.left_since c.args.disk.now c.loop-taken.disk start.written (g.O.Sink.written c.loop-taken.out) p so_far (all_deliveries p (take c.args.most deliveries)) (by_deliveries p (take k deliveries)) (deliveries_on p k c.args.most deliveries within)
-    before.0.in_step before.1.lines (inv.leaves_at_most p start deliveries reported s w h)
+    kept_taking g.D.Disk.moment g.D.Disk.left_since c.args.disk.now c.loop-taken.disk start.written (g.O.Sink.written c.loop-taken.out) p deliveries c.loop-taken._taken c.args.most within before.0.in_step before.1.lines (inv.leaves_at_most p start deliveries reported s w h)
