@@ -9,8 +9,11 @@ use Rattle.sg_model.specs.Last.{Map}
 use Rattle.sg_model.specs.Names.{Name}
 use Rattle.sg_model.specs.Values.{Value}
 use Rattle.sg_protocol.specs.Calls.{Call, Act}
+use Rattle.sg_protocol.specs.Keyring.{Program}
+use Rattle.sg_protocol.specs.Named.{live_with}
 use Rattle.sg_protocol.specs.NodeStates.{NodeState}
 use Rattle.sg_protocol.specs.Past.{node_of}
+use Rattle.sg_protocol.specs.Session.{Session}
 use Rattle.sg_protocol.specs.Turn.{turn_of}
 use Rattle.sg_report.specs.declared.outcome.Outcome.{Outcome}
 use Rattle.sg_script.specs.Script.{Choice}
@@ -47,13 +50,14 @@ act_is sid c label values count drawn random l v n w = let d = w ∙ ap (λ k. n
 
 -- the player has acted
 pub has_acted : (old : Player) (n : NodeState) (table : List (Spot × List Choice)) (counted : ℕ) (p : Play) (sid : List ℕ) (graph : Name) (node : ℕ) (c : Choice) (call : Call) (o : Outcome) (frame : Option (Addr × (Name × List ℕ)))
-    (left : Option (List (List ℕ))) → RepresentsPlay old p → find (is_ready graph node) p.choices ≡ Some c → call ≡ act_by sid c p.random → IsAskedWithFrames old.keys.now old.frames counted old.node n p.past call o frame
-    → HoldsChoices table (used graph node p.choices) → left ≡ Some (drop (length c.values) p.random) → HasActed (record old { node = n; choices = table; frames = counted }) left sid graph node p o (frames_made frame)
-has_acted old n table counted p sid graph node c call o frame left s first is_call is_asked holds random =
+    (left : Option (List (List ℕ))) → RepresentsPlay old p → acted sid node p ≡ acted_in sid graph node p → find (is_ready graph node) p.choices ≡ Some c → call ≡ act_by sid c p.random → IsAskedWithFrames old.keys.now old.frames counted old.node n p.past call o frame
+    → HoldsChoices table (used graph node p.choices) → left ≡ Some (drop (length c.values) p.random) → HasActed (record old { node = n; choices = table; frames = counted }) left sid node p o (frames_made frame)
+has_acted old n table counted p sid graph node c call o frame left s in_graph first is_call is_asked holds random =
     let came = subst (λ (k : Call). IsAskedWithFrames old.keys.now old.frames counted old.node n p.past k o frame) is_call is_asked in
     record {
+      graph = graph;
       choice = c;
-      is_first = first;
+      is_act = in_graph ∙ acted_first sid node p graph c first;
       asked = asked_made (record old { choices = table }) n counted (chosen graph node c p) (act_by sid c p.random) o frame (by_choice old table p graph node c holds s) came;
       random_left = random;
     }
@@ -61,12 +65,16 @@ has_acted old n table counted p sid graph node c call o frame left s first is_ca
 -- ---- the act
 
 -- it only adds steps
-pub acting_adds : (sid : List ℕ) (graph : Name) (node : ℕ) (p : Play) → Extends p (acted_in sid graph node p).0
-acting_adds sid graph node p = by (find (is_ready graph node) p.choices)
+pub acting_adds : (sid : List ℕ) (node : ℕ) (p : Play) → Extends p (acted sid node p).0
+acting_adds sid node p = by_session (live_with (node_of p.past) sid)
   where
-    by : (o : Option Choice) → Extends p (option_map_or (acted_by sid graph node p) o (p, false)).0
-    by None = nothing p
-    by (Some c) = (step_in (chosen graph node c p) (act_by sid c p.random) ∷ [], refl)
+    by_first : (graph : Name) (o : Option Choice) → Extends p (option_map_or (acted_by sid graph node p) o (p, false)).0
+    by_first graph None = nothing p
+    by_first graph (Some c) = (step_in (chosen graph node c p) (act_by sid c p.random) ∷ [], refl)
+
+    by_session : (o : Option (Program × Session)) → Extends p (option_map_or (λ (x : Program × Session). acted_in sid x.0.graph.name node p) o (p, false)).0
+    by_session None = nothing p
+    by_session (Some x) = by_first x.0.graph.name (find (is_ready x.0.graph.name node) p.choices)
 
 module _ (start now : Outside) (pl : Player) (random : Option (List (List ℕ))) where
   -- an early end
@@ -82,12 +90,12 @@ module _ (start now : Outside) (pl : Player) (random : Option (List (List ℕ)))
   act_none old before x p e same kept s w h = act_same (p, false) x (Ok false) e (((subst (λ (z : Player). RepresentsPlay z p) (sym same) s, h), kept ∙ w), refl)
 
 -- by the first choice
-module _ (start now : Outside) (old pl : Player) (random : Option (List (List ℕ))) (sid : List ℕ) (graph : Name) (node : ℕ) (p : Play) (o : Outcome) (made : List (Addr × List ℕ)) (h : HasActed old random sid graph node p o made) where
-  pub act_given : (sent : Bool) → ProgressedOnItsWay start now pl (called (chosen graph node h.choice p) (act_by sid h.choice p.random)) (Ok tt) → sent ≡ is_sent (answer_in p (act_by sid h.choice p.random)) → ProgressedActing start now pl random (acted_in sid graph node p) (Ok sent)
-  act_given sent came is = act_same start now pl random (acted_by sid graph node p h.choice) (acted_in sid graph node p) (Ok sent) (acted_first sid node p graph h.choice h.is_first) ((came, h.random_left), is)
+module _ (start now : Outside) (old pl : Player) (random : Option (List (List ℕ))) (sid : List ℕ) (node : ℕ) (p : Play) (o : Outcome) (made : List (Addr × List ℕ)) (h : HasActed old random sid node p o made) where
+  pub act_given : (sent : Bool) → ProgressedOnItsWay start now pl (called (chosen h.graph node h.choice p) (act_by sid h.choice p.random)) (Ok tt) → sent ≡ is_sent (answer_in p (act_by sid h.choice p.random)) → ProgressedActing start now pl random (acted sid node p) (Ok sent)
+  act_given sent came is = act_same start now pl random (acted_by sid h.graph node p h.choice) (acted sid node p) (Ok sent) h.is_act ((came, h.random_left), is)
 
-  pub act_stopped : (r : Result Bool PlayFault) (f : PlayFault) → r ≡ Err f → ProgressedOnItsWay start now pl (called (chosen graph node h.choice p) (act_by sid h.choice p.random)) (Err f) → ProgressedActing start now pl random (acted_in sid graph node p) r
-  act_stopped r f e came = act_failed start now pl random (acted_in sid graph node p) r f e (subst (λ (x : Play × Bool). Ended start now x.0.steps (Err f)) (sym (acted_first sid node p graph h.choice h.is_first)) came)
+  pub act_stopped : (r : Result Bool PlayFault) (f : PlayFault) → r ≡ Err f → ProgressedOnItsWay start now pl (called (chosen h.graph node h.choice p) (act_by sid h.choice p.random)) (Err f) → ProgressedActing start now pl random (acted sid node p) r
+  act_stopped r f e came = act_failed start now pl random (acted sid node p) r f e (subst (λ (x : Play × Bool). Ended start now x.0.steps (Err f)) (sym h.is_act) came)
 
 -- ---- the turn
 

@@ -7,6 +7,6 @@ pub mod Ends
 pub mod Around
 pub mod Posting
 pub mod Asking
-pub mod Representation
 pub mod Turns
+pub mod Representation
 pub mod Meeting

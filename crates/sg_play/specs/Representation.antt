@@ -1,5 +1,5 @@
 -- What a player represents: a play.
-use Rattle.std.specs.Prelude.{◌≡◌, ℕ, ◌+◌, List, length, drop, find, Bool, Option, Some, Result, Ok, Err}
+use Rattle.std.specs.Prelude.{◌≡◌, ℕ, ◌+◌, List, length, drop, Bool, Option, Some, Result, Ok, Err}
 use Rattle.sg_base.specs.declared.address.Addr.{Addr}
 use Rattle.sg_text.specs.Sessions.{naming}
 use Rattle.sg_model.specs.Names.{Name}
@@ -13,13 +13,13 @@ use Rattle.sg_report.specs.Outcome.{graph_in, outcome_of}
 use Rattle.sg_report.specs.Reported.{reported_answer}
 use Rattle.sg_report.specs.declared.outcome.Outcome.{Outcome}
 use Rattle.sg_script.specs.Script.{Choice}
-use Rattle.sg_play.specs.Choosing.{is_ready}
 use Rattle.sg_play.specs.declared.fault.PlayFault.{PlayFault}
 use Rattle.sg_play.specs.declared.player.Player.{Player}
 use Rattle.sg_play.specs.Ends.{Outside, Whole, Ended}
 use Rattle.sg_play.specs.Played.{Play, answer_in, act_by, chosen}
 use Rattle.sg_play.specs.Queues.{HoldsChoices}
 use Rattle.sg_play.specs.Steps.{known_in, frames_in, frames_of}
+use Rattle.sg_play.specs.Turns.{acted, acted_by}
 
 -- the player has the play's node, keys and programs, its choices, and what its lines are written by
 pub record RepresentsPlay (pl : Player) (p : Play) : Type 0 where
@@ -65,10 +65,11 @@ abbrev pub ProgressedActing : (start now : Outside) → Player → (random : Opt
 ProgressedActing start now pl random x (Ok sent) = Progressed start now pl random x.0 (Ok tt) × (sent ≡ x.1)
 ProgressedActing start now pl random x (Err fault) = Progressed start now pl random x.0 (Err fault)
 
--- the player has asked for the act by the first choice that can be taken, and this is the outcome
-pub record HasActed (pl : Player) (random : Option (List (List ℕ))) (sid : List ℕ) (graph : Name) (node : ℕ) (p : Play) (outcome : Outcome) (made : List (Addr × List ℕ)) : Type 0 where
+-- the player has asked for the act of a session at a node, by a choice for this node of a graph, and this is the outcome
+pub record HasActed (pl : Player) (random : Option (List (List ℕ))) (sid : List ℕ) (node : ℕ) (p : Play) (outcome : Outcome) (made : List (Addr × List ℕ)) : Type 0 where
+  pub graph : Name
   pub choice : Choice
-  pub is_first : find (is_ready graph node) p.choices ≡ Some choice
+  pub is_act : acted sid node p ≡ acted_by sid graph node p choice
   pub asked : HasAsked pl (chosen graph node choice p) (act_by sid choice p.random) outcome made
   pub random_left : random ≡ Some (drop (length choice.values) p.random)
 

@@ -1,20 +1,19 @@
 //! A turn of a session: the act by a choice of the script, or the leaving.
-ghost use Rattle.std.specs.Prelude.{◌≡◌, ℕ, Some, None, IfOk, IfErr, OnOk, MatchOption, find};
+ghost use Rattle.std.specs.Prelude.{◌≡◌, ℕ, false, Some, IfOk, IfErr, OnOk, MatchOption};
 ghost use Rattle.sg_play.specs.Around.{KeepsLink, outside_of};
 ghost use Rattle.sg_protocol.specs.Calls.{Answer};
 ghost use Rattle.sg_report.specs.Outcome.{outcome_of};
 ghost use Rattle.sg_report.specs.Reported.{reported_answer};
-ghost use Rattle.sg_play.specs.Choosing.{is_ready};
 ghost use Rattle.sg_play.specs.Ends.{Outside, Whole};
 ghost use Rattle.sg_play.specs.Played.{Play, plays_on};
 ghost use Rattle.sg_play.specs.Posting.{frames_made};
 ghost use Rattle.sg_play.specs.Representation.{ProgressedActing, Progresses, HasActed, KeepsJoins, RepresentsPlay};
-ghost use Rattle.sg_play.specs.Turns.{acted, acted_in, is_sent};
+ghost use Rattle.sg_play.specs.Turns.{acted, is_sent};
 
 use crate::ask::ask_act;
 use crate::confounders::draw;
 use crate::{PlayFault, Player};
-use sg_base::{Addr, Fresh, Link, Name, NodeId, Sealed, Sid, Sink};
+use sg_base::{Addr, Fresh, Link, NodeId, Sealed, Sid, Sink};
 use sg_report::Outcome;
 
 impl<'p> Player<'p> {
@@ -57,29 +56,7 @@ impl<'p> Player<'p> {
             → ProgressedActing start (outside_of L.Link O.Sink link.new out.new) self.new (R.random fresh.new) (acted sid node p) result }
         ensures joins { OnOk result (KeepsJoins self.old.node self.new.node) }
     {
-        let Some(graph) = self.node.graph_of(&sid) else {
-            return Ok(false);
-        };
-        let name = graph.name();
-        self.act_in(sid, &name, node, link, fresh, out)
-    }
-
-    // Acts so by the choices for a node of a graph.
-    fn act_in<L: Link, R: Fresh, O: Sink>(
-        &mut self,
-        sid: Sid,
-        graph: &Name,
-        node: NodeId,
-        link: &mut L,
-        fresh: &mut R,
-        out: &mut O,
-    ) -> Result<bool, PlayFault>
-        ensures kept { KeepsLink L.Link O.Sink link.old link.new out.old out.new result }
-        ensures progress { (p : Play) (start : Outside) → RepresentsPlay self.old p → R.random fresh.old ≡ Some p.random → Whole start (outside_of L.Link O.Sink link.old out.old) p.steps
-            → ProgressedActing start (outside_of L.Link O.Sink link.new out.new) self.new (R.random fresh.new) (acted_in sid graph.now node p) result }
-        ensures joins { OnOk result (KeepsJoins self.old.node self.new.node) }
-    {
-        match self.try_act(sid, graph, node, fresh)? {
+        match self.try_act(sid, node, fresh)? {
             Some((outcome, frame)) => {
                 self.give(None, &outcome, frame, link, out)?;
                 Ok(was_sent(&outcome))
@@ -88,22 +65,25 @@ impl<'p> Player<'p> {
         }
     }
 
-    // Asks for the act by the first choice for a node of a graph that has uses left, if there is one: the outcome, and the frame that was
+    // Asks for the act by the first choice for a node of a session's graph that has uses left, if there is one: the outcome, and the frame that was
     // made, with the address of its receiver. The act takes one use off the choice, whether it is refused or not.
     fn try_act<R: Fresh>(
         &mut self,
         sid: Sid,
-        graph: &Name,
         node: NodeId,
         fresh: &mut R,
     ) -> Result<Option<(Outcome<'p>, Option<(Addr, Sealed)>)>, PlayFault>
         ensures acted { IfOk result (λ r. (p : Play) → RepresentsPlay self.old p → R.random fresh.old ≡ Some p.random → MatchOption r
-            ((find (is_ready graph.now node) p.choices ≡ None) × (self.new ≡ self.old) × (R.random fresh.new ≡ R.random fresh.old))
-            (λ a. HasActed self.new (R.random fresh.new) sid graph.now node p a.0 (frames_made a.1))) }
+            ((acted sid node p ≡ (p, false)) × (self.new ≡ self.old) × (R.random fresh.new ≡ R.random fresh.old))
+            (λ a. HasActed self.new (R.random fresh.new) sid node p a.0 (frames_made a.1))) }
         ensures joins { OnOk result (KeepsJoins self.old.node self.new.node) }
         ensures memory { IfErr result (λ e. e ≡ PlayFault.OutOfMemory) }
     {
-        let Some(choice) = self.choices.first(graph, node) else {
+        let Some(graph) = self.node.graph_of(&sid) else {
+            return Ok(None);
+        };
+        let name = graph.name();
+        let Some(choice) = self.choices.first(&name, node) else {
             return Ok(None);
         };
         let confounders = match draw(self.alloc, fresh, choice.values.len()) {
@@ -120,7 +100,7 @@ impl<'p> Player<'p> {
             choice.values.as_slice(),
             confounders.as_slice(),
         )?;
-        self.choices.use_first(graph, node);
+        self.choices.use_first(&name, node);
         Ok(Some(asked))
     }
 }
