@@ -7,6 +7,8 @@ use Rattle.sg_keep.specs.declared.fault.KeepFault.{KeepFault}
 use Rattle.sg_keep.specs.declared.fault.KeepFault.TheVariants as KeepFaults
 use Rattle.sg_ledger.specs.Disk.{Keeps, IfSeen, LeavesOnly}
 use Rattle.sg_ledger.specs.Format.{Join, IsLedger, IsFirstBadSlot, Represents}
+use Rattle.sg_ledger.specs.declared.ledger.OpenFault.{OpenFault}
+use Rattle.sg_ledger.specs.declared.ledger.OpenFault.TheVariants as OpenFaults
 use Rattle.sg_play.specs.Played.{Play, played}
 use Rattle.sg_play.specs.declared.fault.PlayFault.TheVariants as PlayFaults
 use Rattle.sg_ending.specs.Ending.{Ending, Written, NoLedger, BadSlot, LedgerNotEmpty, WriteFailed, LinkFailed, DiskFailed, NoMemory}
@@ -72,6 +74,13 @@ LacksLedger disk disk' (BadSlot slot) = IfSeen disk.seen (λ file. IsLedger file
 LacksLedger disk disk' DiskFailed = HasRisen disk.faults disk'.faults
 LacksLedger disk disk' NoMemory = disk'.faults ≡ disk.faults
 LacksLedger disk disk' ending = ⊥
+
+-- how the program ends if none is opened
+abbrev pub ending_of_open : OpenFault → Ending
+ending_of_open OpenFaults.NotALedger = NoLedger
+ending_of_open (OpenFaults.BadSlot slot) = BadSlot slot
+ending_of_open OpenFaults.Failed = DiskFailed
+ending_of_open OpenFaults.OutOfMemory = NoMemory
 
 -- ---- a run over a ledger
 

@@ -4,7 +4,7 @@ ghost use Rattle.sg_keep.specs.KeptRuns.{AllRepresent};
 ghost use Rattle.sg_ledger.specs.Disk.{IfSeen};
 ghost use Rattle.sg_ledger.specs.Format.{Represents};
 ghost use Rattle.sg_ending.specs.Model.{ending_held};
-ghost use Rattle.sg_principal.specs.Ledgers.{IsBound, IsLeft, LacksLedger, LeavesMeanwhile};
+ghost use Rattle.sg_principal.specs.Ledgers.{IsBound, IsLeft, LacksLedger, LeavesMeanwhile, ending_of_open};
 ghost use Rattle.sg_principal.specs.Outside.{disk_of};
 
 use sg_ending::Ending;
@@ -33,9 +33,18 @@ pub fn open_ledger<D: Disk>(
     }
     match Ledger::open(alloc, disk) {
         Ok(ledger) => Ok(ledger),
-        Err(OpenFault::NotALedger) => Err(Ending::NoLedger),
-        Err(OpenFault::BadSlot { slot }) => Err(Ending::BadSlot { slot }),
-        Err(OpenFault::Failed) => Err(Ending::DiskFailed),
-        Err(OpenFault::OutOfMemory) => Err(Ending::NoMemory),
+        Err(fault) => Err(ended(fault)),
+    }
+}
+
+// How the program ends if no ledger is opened.
+fn ended(fault: OpenFault) -> Ending<'static>
+    ensures { ending_held result ≡ ending_of_open fault }
+{
+    match fault {
+        OpenFault::NotALedger => Ending::NoLedger,
+        OpenFault::BadSlot { slot } => Ending::BadSlot { slot },
+        OpenFault::Failed => Ending::DiskFailed,
+        OpenFault::OutOfMemory => Ending::NoMemory,
     }
 }

@@ -66,27 +66,16 @@ fn refused(fault: LineFault) -> Ending<'static>
 fn wrong_line(line: u32, kind: Kind) -> Ending<'static>
     ensures { ending_held result ≡ ending_of_line line (kind_of kind) }
 {
-    match kind {
-        Kind::Form => Ending::WrongLine {
-            line,
-            wrong: Wrong::Form,
-        },
-        Kind::Unknown => Ending::WrongLine {
-            line,
-            wrong: Wrong::Unknown,
-        },
-        Kind::Twice => Ending::WrongLine {
-            line,
-            wrong: Wrong::Twice,
-        },
-        Kind::NotHonest => Ending::WrongLine {
-            line,
-            wrong: Wrong::NotHonest,
-        },
-        Kind::Graph(fault) => Ending::NoGraph { fault },
-        Kind::TooManySteps => Ending::TooLarge { what: "steps" },
-        Kind::TooManySessions => Ending::TooLarge { what: "sessions" },
-    }
+    let wrong = match kind {
+        Kind::Form => Wrong::Form,
+        Kind::Unknown => Wrong::Unknown,
+        Kind::Twice => Wrong::Twice,
+        Kind::NotHonest => Wrong::NotHonest,
+        Kind::Graph(fault) => return Ending::NoGraph { fault },
+        Kind::TooManySteps => return Ending::TooLarge { what: "steps" },
+        Kind::TooManySessions => return Ending::TooLarge { what: "sessions" },
+    };
+    Ending::WrongLine { line, wrong }
 }
 
 // Compiles the graphs of the schedule that the bytes spell, and replays it.
