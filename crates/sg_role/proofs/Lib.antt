@@ -5,6 +5,7 @@ pub mod Keeping
 pub mod Listed
 pub mod Lists
 pub mod Looked
+pub mod MadeSteps
 pub mod NextLaws
 pub mod NextState
 pub mod Noted
@@ -18,6 +19,8 @@ pub mod Showing
 pub mod Shown
 pub mod Spelled
 pub mod StepLaws
+pub mod Stopped
 pub mod Translated
+pub mod TurnSteps
 pub mod ValueLaws
 pub mod Walked

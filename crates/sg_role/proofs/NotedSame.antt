@@ -1,5 +1,5 @@
 -- What is noted by what is kept is what the definition notes, in each session that the state represents.
-use Rattle.std.proofs.Common.{◌≡◌, ℕ, ◌<◌, ◌⊎◌, nat_lt, if◌then◌else◌, Bool, true, false, not, List, [], ◌∷◌, ◌++◌, map, length, take_while, refl, sym, ap, ◌∙◌, Option, Some, None, inl, inr}
+use Rattle.std.proofs.Common.{◌≡◌, ℕ, ◌<◌, ◌⊎◌, nat_lt, if◌then◌else◌, Bool, true, false, not, List, [], ◌∷◌, ◌++◌, map, length, take_while, refl, sym, ap, subst, ◌∙◌, Option, Some, None, inl, inr}
 use Rattle.std.specs.List.{AllByRecursion}
 use Rattle.std.proofs.lemmas.Bool.{cases_Bool}
 use Rattle.sg_model.specs.Lists.{first_some}
@@ -16,6 +16,7 @@ use Rattle.sg_protocol.specs.Representation.{Held, held, RepresentsBefore}
 use Rattle.sg_protocol.specs.Texts.{real, commitment_text_of}
 use Rattle.sg_protocol.specs.Verdict.{row, has_frame_tag, has_item_tag, has_kind, is_right, rows_of_session}
 use Rattle.sg_role.specs.Looking.{is_seen, overwritten_by, hashed_from, rows_from, notes_from}
+use Rattle.sg_role.specs.Model.{RoleState}
 use Rattle.sg_role.proofs.Shown.{seen_frame}
 use Rattle.sg_role.proofs.Translated.{texts_now, opens_same, rows_same}
 
@@ -77,3 +78,15 @@ module _ (keys : Keyring) (p : Program) (ip : IsProgram real p) (h : Held) (mine
 
   pub notes_held : notes_from keys p h f (row_number (first_some (rows_from keys p h f))) ≡ notes_in_session real keys p s f (row_number (first_some (rows_of_session real keys p s f)))
   notes_held = ap (λ (z : Held). notes_from keys p z f (row_number (first_some (rows_from keys p z f)))) b.holds ∙ notes_same keys p ip s f its_role b.ends sp
+
+-- ---- by a state that is the one before
+
+module _ (keys : Keyring) (z before : RoleState) (e : z ≡ before) (ip : IsProgram real z.program) (mine : z.held.role ≡ z.program.role) (s : Session) (b : RepresentsBefore before.program.graph before.held s) (f : Frame) (sp : HasSpelling f) where
+  represents : RepresentsBefore z.program.graph z.held s
+  represents = subst (λ (y : RoleState). RepresentsBefore y.program.graph y.held s) (sym e) b
+
+  pub rows_before : first_some (rows_from keys z.program z.held f) ≡ first_some (rows_of_session real keys before.program s f)
+  rows_before = rows_held keys z.program ip z.held mine s represents f sp ∙ ap (λ (y : RoleState). first_some (rows_of_session real keys y.program s f)) e
+
+  pub notes_before : notes_from keys z.program z.held f (row_number (first_some (rows_from keys z.program z.held f))) ≡ notes_in_session real keys before.program s f (row_number (first_some (rows_of_session real keys before.program s f)))
+  notes_before = notes_held keys z.program ip z.held mine s represents f sp ∙ ap (λ (y : RoleState). notes_in_session real keys y.program s f (row_number (first_some (rows_of_session real keys y.program s f)))) e

@@ -1,50 +1,30 @@
 use Rattle.std.proofs.Common.{◌≡◌, false, nat_lt, length, None, Option, IfOk, IfErr, refl, sym, ap, subst, ◌∙◌}
-use Rattle.sg_model.specs.Lists.{first_some}
 use Rattle.sg_protocol.specs.Calls.{Refusal}
-use Rattle.sg_protocol.specs.Notes.{notes_in_session, row_number}
 use Rattle.sg_protocol.specs.Session.{Took}
-use Rattle.sg_protocol.specs.Representation.{RepresentsBefore, held_after}
-use Rattle.sg_protocol.specs.Texts.{real}
-use Rattle.sg_protocol.specs.Verdict.{rows_of_session}
+use Rattle.sg_protocol.specs.Representation.{held_after}
 use Rattle.sg_role.specs.Faults.{Refuses}
-use Rattle.sg_role.specs.Looking.{rows_from}
 use Rattle.sg_role.specs.Sending.{with_notes}
 use Rattle.sg_role.specs.Model.{RoleState, state_of}
-use Rattle.sg_role.proofs.NotedSame.{rows_held, notes_held}
+use Rattle.sg_role.proofs.NotedSame.{rows_before, notes_before}
 use Rattle.sg_role.proofs.verdict.examine.Goals as goal
 
 pub returns-else-is_memory-clause-refused : goal.returns-else-is_memory-clause-refused
 returns-else-is_memory-clause-refused c = λ s b.
-    let keys = c.args.keys.now in
-    let f = c.args.frame.now in
-    let st : RoleState = state_of c.as_ref.result.now in
-    let e : st ≡ c.args.before.now = ap state_of c.as_ref.ensures ∙ c.before-2.view_is in
-    let represents : RepresentsBefore st.program.graph st.held s = subst (λ (z : RoleState). RepresentsBefore z.program.graph z.held s) (sym e) b in
-    let rows : first_some (rows_from keys st.program st.held f) ≡ first_some (rows_of_session real keys c.args.before.now.program s f) =
-    rows_held keys st.program c.look-result.ensures.is_program st.held refl s represents f c.requires.spelled.is_frame ∙ ap (λ (z : RoleState). first_some (rows_of_session real keys z.program s f)) e in
-    subst (λ (o : Option Refusal). IfErr c.look-result.result (Refuses o)) rows c.look-result.ensures.refused
+    subst (λ (o : Option Refusal). IfErr c.look-result.result (Refuses o))
+    (rows_before c.args.keys.now (state_of c.as_ref.result.now) c.args.before.now (ap state_of c.as_ref.ensures ∙ c.before-2.view_is) c.look-result.ensures.is_program refl s b c.args.frame.now c.requires.spelled.is_frame)
+    c.look-result.ensures.refused
 
 pub returns-else-is_memory-clause-accepted : goal.returns-else-is_memory-clause-accepted
 returns-else-is_memory-clause-accepted c = λ s b.
-    let keys = c.args.keys.now in
-    let f = c.args.frame.now in
-    let st : RoleState = state_of c.as_ref.result.now in
-    let e : st ≡ c.args.before.now = ap state_of c.as_ref.ensures ∙ c.before-2.view_is in
-    let represents : RepresentsBefore st.program.graph st.held s = subst (λ (z : RoleState). RepresentsBefore z.program.graph z.held s) (sym e) b in
-    let rows : first_some (rows_from keys st.program st.held f) ≡ first_some (rows_of_session real keys c.args.before.now.program s f) =
-    rows_held keys st.program c.look-result.ensures.is_program st.held refl s represents f c.requires.spelled.is_frame ∙ ap (λ (z : RoleState). first_some (rows_of_session real keys z.program s f)) e in
-    subst (λ (o : Option Refusal). IfOk c.look-result.result (λ a. o ≡ None)) rows c.look-result.ensures.accepted
+    subst (λ (o : Option Refusal). IfOk c.look-result.result (λ a. o ≡ None))
+    (rows_before c.args.keys.now (state_of c.as_ref.result.now) c.args.before.now (ap state_of c.as_ref.ensures ∙ c.before-2.view_is) c.look-result.ensures.is_program refl s b c.args.frame.now c.requires.spelled.is_frame)
+    c.look-result.ensures.accepted
 
 pub returns-else-is_memory-clause-notes : goal.returns-else-is_memory-clause-notes
 returns-else-is_memory-clause-notes c = λ s b n.
-    let keys = c.args.keys.now in
-    let f = c.args.frame.now in
-    let st : RoleState = state_of c.as_ref.result.now in
-    let e : st ≡ c.args.before.now = ap state_of c.as_ref.ensures ∙ c.before-2.view_is in
-    let represents : RepresentsBefore st.program.graph st.held s = subst (λ (z : RoleState). RepresentsBefore z.program.graph z.held s) (sym e) b in
     c.look-result.ensures.noted n
-    ∙ ap (with_notes c.args.notes.now) (notes_held keys st.program c.look-result.ensures.is_program st.held refl s represents f c.requires.spelled.is_frame
-    ∙ ap (λ (z : RoleState). notes_in_session real keys z.program s f (row_number (first_some (rows_of_session real keys z.program s f)))) e)
+    ∙ ap (with_notes c.args.notes.now)
+    (notes_before c.args.keys.now (state_of c.as_ref.result.now) c.args.before.now (ap state_of c.as_ref.ensures ∙ c.before-2.view_is) c.look-result.ensures.is_program refl s b c.args.frame.now c.requires.spelled.is_frame)
 
 pub returns-else-is_memory-clause-after : goal.returns-else-is_memory-clause-after
 returns-else-is_memory-clause-after c =

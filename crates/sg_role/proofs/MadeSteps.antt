@@ -1,0 +1,77 @@
+-- A step that is made part by part: the own item, the kept items, the frame and what is noted are those of the step.
+use Rattle.std.proofs.Common.{◌≡◌, ◌++◌, List, [], ◌∷◌, ℕ, Option, None, map, replicate, sym, ap, ◌∙◌, subst, append_assoc, append-nil}
+use Rattle.sg_model.specs.Last.{Map}
+use Rattle.sg_model.specs.Lists.{first_some}
+use Rattle.sg_model.specs.Shape.{receiver}
+use Rattle.sg_model.specs.Values.{Value, Opening}
+use Rattle.sg_protocol.specs.Acting.{openings_for}
+use Rattle.sg_protocol.specs.Bounds.{IsShortFrame}
+use Rattle.sg_protocol.specs.Frame.{Item, Frame}
+use Rattle.sg_protocol.specs.Graph.{shape}
+use Rattle.sg_protocol.specs.IsSchedule.{IsProgram}
+use Rattle.sg_protocol.specs.Kept.{kept_items}
+use Rattle.sg_protocol.specs.Keyring.{Keyring, Program, targets_of}
+use Rattle.sg_protocol.specs.Notes.{Note, Notes, note_of}
+use Rattle.sg_protocol.specs.Ranges.{AreValues}
+use Rattle.sg_protocol.specs.Reachable.{IsReachableAtTurn}
+use Rattle.sg_protocol.specs.Representation.{Held}
+use Rattle.sg_protocol.specs.Sending.{text_of}
+use Rattle.sg_protocol.specs.Session.{principal}
+use Rattle.sg_protocol.specs.Texts.{real, commitment_text_of}
+use Rattle.sg_role.specs.Model.{RoleState}
+use Rattle.sg_role.specs.Sending.{with_notes}
+use Rattle.sg_role.specs.Stepping.{frame_with, held_next, items_after, own_text, send_rows, step_commitments, step_frame, step_held, step_item, step_notes}
+use Rattle.sg_role.proofs.Sealing.{untagged_short}
+use Rattle.sg_role.proofs.SendLaws.{sends_short}
+
+module _ (keys : Keyring) (p : Program) (h : Held) (label : ℕ) (values : Map Value) (confounders : List (List ℕ)) (written : List Opening) (are : written ≡ openings_for values confounders)
+    (given : List Opening) (same : given ≡ written) (own : Item) (its : own ≡ step_item keys p h label given)
+    (items before : List Item) (held : before ≡ h.kept.items) (joined : items ≡ kept_items p.graph (before ++ own ∷ [])) where
+  abbrev os : List Opening
+  os = openings_for values confounders
+
+  wrote : given ≡ os
+  wrote = same ∙ are
+
+  item_made : own ≡ step_item keys p h label os
+  item_made = its ∙ ap (step_item keys p h label) wrote
+
+  items_made : items ≡ items_after p.graph h (step_item keys p h label os)
+  items_made = joined ∙ (λ j. kept_items p.graph (held j ++ item_made j ∷ []))
+
+  -- the notes of the own item's tags
+  abbrev item_notes : List Opening → List Note
+  item_notes os = map (λ t. note_of keys.me (principal h.cast t) (own_text h label (step_commitments p h os) t)) (targets_of p label)
+
+  -- with what is noted of the own item
+  abbrev with_item : Notes → List Opening → Notes
+  with_item old os = record { made = old.made ++ item_notes os; found = old.found; hashed = old.hashed ++ map (commitment_text_of h.sid) os }
+
+  -- and with the note of a frame
+  abbrev with_note : Notes → Frame → Notes
+  with_note n f = record n { made = n.made ++ note_of keys.me (principal h.cast f.receiver) (text_of f) ∷ [] }
+
+  -- the frame, with zeros for its tag
+  abbrev untagged : Frame
+  untagged = record (step_frame keys p h label os) { tag = replicate 32 0 }
+
+  module _ (frame : Frame) (shown : List Item) (theirs : shown ≡ items) (opened : List Opening) (mine : opened ≡ written) (made : frame ≡ record (frame_with p h label shown opened) { tag = replicate 32 0 }) where
+    frame_made : frame ≡ untagged
+    frame_made = made ∙ (λ j. record (frame_with p h label ((theirs ∙ items_made) j) ((mine ∙ are) j)) { tag = replicate 32 0 })
+
+    pub short_made : IsProgram real p → IsReachableAtTurn real p h → first_some (send_rows p h label values) ≡ None → AreValues values confounders → IsShortFrame frame
+    short_made is turn none of = subst IsShortFrame (sym frame_made) (untagged_short (step_frame keys p h label os) (sends_short keys p h label values confounders is turn none of))
+
+    -- what is noted of the frame, after the own item
+    pub notes_made : (old first new : Notes) → first ≡ with_item old given → new ≡ with_note first frame → new ≡ with_notes old (step_notes keys p h label os)
+    notes_made old first new a b =
+        b ∙ (λ j. with_note ((a ∙ ap (with_item old) wrote) j) (frame_made j))
+        ∙ (λ j. record {
+          made = append_assoc old.made (item_notes os) (note_of keys.me (principal h.cast (receiver (shape p.graph) label)) (text_of (step_frame keys p h label os)) ∷ []) j;
+          found = sym (append-nil old.found) j;
+          hashed = old.hashed ++ map (commitment_text_of h.sid) os;
+        })
+
+  pub state_made : (next : RoleState) (commitments : List (Option (List ℕ))) → commitments ≡ step_commitments p h given → next ≡ record { program = p; held = held_next p h label items commitments written }
+      → next ≡ record { program = p; held = step_held keys p h label os }
+  state_made next commitments e q = q ∙ (λ j. record { program = p; held = held_next p h label (items_made j) ((e ∙ ap (step_commitments p h) wrote) j) (are j) })
