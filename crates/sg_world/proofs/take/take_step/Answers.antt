@@ -30,18 +30,11 @@ put-requires-clause-size c =
     step_fits c.args.setting.now c.args.nodes.now.entries c.perform.new.nodes.entries c.args.history.now.done c.make_room.new.self.done (step_of c.args.step.now) c.honest_in-honest.result c.perform.new.step_result c.args.index (c.count.result + 1) known
     c.requires.holds c.requires.index c.requires.room c.requires.step.range c.make_room.ensures.done (ap (λ (n : ℕ). n + 1) c.count.ensures) is_result c.requires.size
 
-pub returns-clause-taken : goal.returns-clause-taken
-returns-clause-taken c =
+pub returns : goal.returns
+returns c =
     let is_result = subst (λ (fs : List (List ℕ)). IsResultAtIndex c.args.setting.now fs (c.count.result + 1) (step_of c.args.step.now) c.args.index c.args.nodes.now.entries c.perform.new.nodes.entries c.perform.new.step_result) c.frames.ensures c.in_ok-perform.ensures.is_result in
     let known = subst (λ (ns : List (List ℕ)). IsHonestIn c.args.setting.now.sessions ns (step_of c.args.step.now) c.perform.new.step_result.cast c.honest_in-honest.result)
     (names_kept c.args.setting.now c.make_room.new.self.done.frames (c.count.result + 1) (step_of c.args.step.now) c.args.index c.args.nodes.now.entries c.perform.new.nodes.entries c.perform.new.step_result is_result) c.honest_in-honest.ensures in
-    (step_taken c.args.setting.now c.args.nodes.now.entries c.perform.new.nodes.entries c.args.history.now.done c.make_room.new.self.done c.put.new.self.done (step_of c.args.step.now) (step_of c.in_ok-kept.kept) c.honest_in-honest.result c.perform.new.step_result c.args.index (c.count.result + 1) known
-    c.requires.holds c.requires.index c.requires.room c.requires.step.range c.make_room.ensures.done (ap (λ (n : ℕ). n + 1) c.count.ensures) is_result c.in_ok-kept.ensures c.put.ensures).0
-
-pub returns-clause-schedule : goal.returns-clause-schedule
-returns-clause-schedule c =
-    let is_result = subst (λ (fs : List (List ℕ)). IsResultAtIndex c.args.setting.now fs (c.count.result + 1) (step_of c.args.step.now) c.args.index c.args.nodes.now.entries c.perform.new.nodes.entries c.perform.new.step_result) c.frames.ensures c.in_ok-perform.ensures.is_result in
-    let known = subst (λ (ns : List (List ℕ)). IsHonestIn c.args.setting.now.sessions ns (step_of c.args.step.now) c.perform.new.step_result.cast c.honest_in-honest.result)
-    (names_kept c.args.setting.now c.make_room.new.self.done.frames (c.count.result + 1) (step_of c.args.step.now) c.args.index c.args.nodes.now.entries c.perform.new.nodes.entries c.perform.new.step_result is_result) c.honest_in-honest.ensures in
-    (step_taken c.args.setting.now c.args.nodes.now.entries c.perform.new.nodes.entries c.args.history.now.done c.make_room.new.self.done c.put.new.self.done (step_of c.args.step.now) (step_of c.in_ok-kept.kept) c.honest_in-honest.result c.perform.new.step_result c.args.index (c.count.result + 1) known
-    c.requires.holds c.requires.index c.requires.room c.requires.step.range c.make_room.ensures.done (ap (λ (n : ℕ). n + 1) c.count.ensures) is_result c.in_ok-kept.ensures c.put.ensures).1
+    let goes = step_taken c.args.setting.now c.args.nodes.now.entries c.perform.new.nodes.entries c.args.history.now.done c.make_room.new.self.done c.put.new.self.done (step_of c.args.step.now) (step_of c.in_ok-kept.kept) c.honest_in-honest.result c.perform.new.step_result c.args.index (c.count.result + 1) known
+    c.requires.holds c.requires.index c.requires.room c.requires.step.range c.make_room.ensures.done (ap (λ (n : ℕ). n + 1) c.count.ensures) is_result c.in_ok-kept.ensures c.put.ensures in
+    record { taken = goes.0; schedule = goes.1; back = tt }
