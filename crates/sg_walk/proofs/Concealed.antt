@@ -87,50 +87,46 @@ tested g honest taken steps i s hears hs xs carried carried' result l xe he hse 
     re ∙ same ∙ ap (λ h. list_all (λ w. beq (is_none w.1) (not h && not (f w.0))) (writes_of s.writes)) hse in
     ap (λ r. list_all (λ w. beq (is_none w.1) (not (honest (sender (shape g) s.label)) && not (f w.0))) (writes_of s.writes) && r) k.rest ∙ and_true _ ∙ sym test
 
--- a step whose writes are not hidden as they should
-pub hide_wrong : (g : Graph) (honest : ℕ → Bool) (taken : Bool) (steps : List Step) (left i : ℕ) (s : Step) (hears hs : Bool) (xs : List ℕ) (carried carried' : List Bool) (result : Bool)
-    → left ≡ i + 1 → i < length steps → s ≡ get_or steps i s → xs ≡ reads g s.label
-    → hears ≡ (honest (receiver (shape g) s.label) && (taken || not (left == length steps)))
-    → hs ≡ honest (sender (shape g) s.label)
-    → ((x : ℕ) → x < 32 → get_or carried' x false ≡ ((hears && is_in x xs) || get_or carried x false))
-    → list_all (λ x. nat_lt x 32) (keys_of s.writes) ≡ true
-    → result ≡ list_all (λ w. beq (is_none w.1) (not hs && not (get_or carried' w.0 false))) (writes_of s.writes)
-    → Hiding g honest taken steps left carried → result ≡ false
-    → are_hidden g honest taken (map step_of steps) ≡ false
-hide_wrong g honest taken steps left i s hears hs xs carried carried' result le l is xe he hse new small re k wrong =
-    let ls : left ≡ suc i = omega arith in
-    let he' = subst (λ n. hears ≡ (honest (receiver (shape g) s.label) && (taken || not (n == length steps)))) le he in
-    let t = tested g honest taken steps i s hears hs xs carried carried' result l xe he' hse new small re (subst (λ n. Hiding g honest taken steps n carried) ls k) in
-    rest_wrong g honest taken steps i (ap (λ ss. are_hidden g honest taken (map step_of ss)) (drop_from steps i s l is) ∙ t ∙ wrong)
+-- a step from the end on
+module _ (g : Graph) (honest : ℕ → Bool) (taken : Bool) (steps : List Step) (left i : ℕ) (s : Step) (hears hs : Bool) (xs : List ℕ) (carried carried' : List Bool) (result : Bool)
+    (le : left ≡ i + 1) (l : i < length steps) (is : s ≡ get_or steps i s) (xe : xs ≡ reads g s.label)
+    (he : hears ≡ (honest (receiver (shape g) s.label) && (taken || not (left == length steps))))
+    (hse : hs ≡ honest (sender (shape g) s.label))
+    (new : (x : ℕ) → x < 32 → get_or carried' x false ≡ ((hears && is_in x xs) || get_or carried x false))
+    (small : list_all (λ x. nat_lt x 32) (keys_of s.writes) ≡ true)
+    (re : result ≡ list_all (λ w. beq (is_none w.1) (not hs && not (get_or carried' w.0 false))) (writes_of s.writes))
+    (k : Hiding g honest taken steps left carried) where
+  next : left ≡ suc i
+  next = omega arith
 
--- a step whose writes are hidden as they should
-pub hide_on : (g : Graph) (honest : ℕ → Bool) (taken : Bool) (steps : List Step) (left i : ℕ) (s : Step) (hears hs : Bool) (xs : List ℕ) (carried carried' carried'' : List Bool) (result : Bool)
-    → left ≡ i + 1 → i < length steps → s ≡ get_or steps i s → xs ≡ reads g s.label
-    → hears ≡ (honest (receiver (shape g) s.label) && (taken || not (left == length steps)))
-    → hs ≡ honest (sender (shape g) s.label)
-    → ((x : ℕ) → x < 32 → get_or carried' x false ≡ ((hears && is_in x xs) || get_or carried x false))
-    → list_all (λ x. nat_lt x 32) (keys_of s.writes) ≡ true
-    → result ≡ list_all (λ w. beq (is_none w.1) (not hs && not (get_or carried' w.0 false))) (writes_of s.writes)
-    → Hiding g honest taken steps left carried → result ≡ true
-    → IsNamed g (step_of s) → length carried'' ≡ 32
-    → ((x : ℕ) → x < 32 → get_or carried'' x false ≡ (if is_in x (keys_of s.writes) then false else get_or carried' x false))
-    → Hiding g honest taken steps i carried''
-hide_on g honest taken steps left i s hears hs xs carried carried' carried'' result le l is xe he hse new small re k right named wide new' =
-    let ls : left ≡ suc i = omega arith in
-    let he' = subst (λ n. hears ≡ (honest (receiver (shape g) s.label) && (taken || not (n == length steps)))) le he in
-    let k' = subst (λ n. Hiding g honest taken steps n carried) ls k in
-    let t = tested g honest taken steps i s hears hs xs carried carried' result l xe he' hse new small re k' in
-    let cut = drop_from steps i s l is in
-    let now = now_carried g honest taken steps i s hears xs carried carried' l xe he' new k' in
-    let keys : keys_of s.writes ≡ writes g s.label = sym (keys_writes s.writes) ∙ named.1 in
-    record {
-      wide = wide;
-      within = omega arith;
-      known = λ x b. new' x b ∙ ap (λ c. if is_in x (keys_of s.writes) then false else c) (now x b) ∙ ap (λ ys. if is_in x ys then false else is_carried g honest taken x (step_of s ∷ map step_of (drop (suc i) steps))) keys
-          ∙ as_and (is_in x (writes g s.label)) _ ∙ ap (λ ss. is_still_carried g honest taken x (map step_of ss)) (sym cut);
-      rest = ap (λ ss. are_hidden g honest taken (map step_of ss)) cut ∙ t ∙ right;
-    }
-  where
-    as_and : (a b : Bool) → (if a then false else b) ≡ (not a && b)
-    as_and true b = refl
-    as_and false b = refl
+  heard : hears ≡ (honest (receiver (shape g) s.label) && (taken || not (i + 1 == length steps)))
+  heard = subst (λ n. hears ≡ (honest (receiver (shape g) s.label) && (taken || not (n == length steps)))) le he
+
+  rest : Hiding g honest taken steps (suc i) carried
+  rest = subst (λ n. Hiding g honest taken steps n carried) next k
+
+  whole : are_hidden g honest taken (map step_of (drop i steps)) ≡ result
+  whole = ap (λ ss. are_hidden g honest taken (map step_of ss)) (drop_from steps i s l is) ∙ tested g honest taken steps i s hears hs xs carried carried' result l xe heard hse new small re rest
+
+  -- whose writes are not hidden as they should
+  pub hide_wrong : result ≡ false → are_hidden g honest taken (map step_of steps) ≡ false
+  hide_wrong wrong = rest_wrong g honest taken steps i (whole ∙ wrong)
+
+  -- whose writes are hidden as they should
+  pub hide_on : (carried'' : List Bool) → result ≡ true → IsNamed g (step_of s) → length carried'' ≡ 32
+      → ((x : ℕ) → x < 32 → get_or carried'' x false ≡ (if is_in x (keys_of s.writes) then false else get_or carried' x false))
+      → Hiding g honest taken steps i carried''
+  hide_on carried'' right named wide new' =
+      let now = now_carried g honest taken steps i s hears xs carried carried' l xe heard new rest in
+      let keys : keys_of s.writes ≡ writes g s.label = sym (keys_writes s.writes) ∙ named.1 in
+      record {
+        wide = wide;
+        within = omega arith;
+        known = λ x b. new' x b ∙ ap (λ c. if is_in x (keys_of s.writes) then false else c) (now x b) ∙ ap (λ ys. if is_in x ys then false else is_carried g honest taken x (step_of s ∷ map step_of (drop (suc i) steps))) keys
+            ∙ as_and (is_in x (writes g s.label)) _ ∙ ap (λ ss. is_still_carried g honest taken x (map step_of ss)) (sym (drop_from steps i s l is));
+        rest = whole ∙ right;
+      }
+    where
+      as_and : (a b : Bool) → (if a then false else b) ≡ (not a && b)
+      as_and true b = refl
+      as_and false b = refl

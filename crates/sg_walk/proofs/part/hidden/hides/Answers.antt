@@ -41,8 +41,8 @@ pub loop-left-preserved : goal.loop-left-preserved
 loop-left-preserved c =
     let w = c.loop-left.invariant.within in
     let t = c.loop-left-test.true in
-    hide_on c.args.graph.now (λ r. is_in r c.args.honest) c.args.taken c.as_slice-steps.result.now c.loop-left.left (c.loop-left.left - 1) c.index-steps-left.result c.counts-hears.result c.has.result c.edge_of-edge.result.reads c.loop-left.carried c.carry.new.carried c.drop_written.new.carried c.hides_all.result
+    hide_on c.args.graph.now (λ r. is_in r c.args.honest) c.args.taken c.as_slice-steps.result.now c.loop-left.left (c.loop-left.left - 1) c.index-steps-left.result c.counts-hears.result c.has.result c.edge_of-edge.result.reads c.loop-left.carried c.carry.new.carried c.hides_all.result
     (omega arith) (omega arith) c.index-steps-left.is (ap (λ e. e.reads) c.edge_of-edge.ensures.edge)
     (c.counts-hears.ensures ∙ ap (λ r. is_in r c.args.honest && (c.args.taken || not (c.loop-left.left == length c.as_slice-steps.result.now))) c.receiver.ensures.role)
     (c.has.ensures ∙ ap (λ r. is_in r c.args.honest) c.sender.ensures.role)
-    c.carry.ensures (small_keys c.args.graph.now c.index-steps-left.result c.edge_of-edge.result.writes (let w = c.loop-left.invariant.within in named_at c.args.graph.now c.as_slice-steps.result.now c.args.walk.now.steps (c.loop-left.left - 1) c.index-steps-left.result c.as_slice-steps.ensures c.requires (let t = c.loop-left-test.true in omega arith) c.index-steps-left.is) (ap (λ e. e.writes) c.edge_of-edge.ensures.edge) c.edge_of-edge.ensures.writes) c.hides_all.ensures c.loop-left.invariant c.if-not-hides_all.false (let w = c.loop-left.invariant.within in named_at c.args.graph.now c.as_slice-steps.result.now c.args.walk.now.steps (c.loop-left.left - 1) c.index-steps-left.result c.as_slice-steps.ensures c.requires (let t = c.loop-left-test.true in omega arith) c.index-steps-left.is) c.drop_written.array_long c.drop_written.ensures
+    c.carry.ensures (small_keys c.args.graph.now c.index-steps-left.result c.edge_of-edge.result.writes (let w = c.loop-left.invariant.within in named_at c.args.graph.now c.as_slice-steps.result.now c.args.walk.now.steps (c.loop-left.left - 1) c.index-steps-left.result c.as_slice-steps.ensures c.requires (let t = c.loop-left-test.true in omega arith) c.index-steps-left.is) (ap (λ e. e.writes) c.edge_of-edge.ensures.edge) c.edge_of-edge.ensures.writes) c.hides_all.ensures c.loop-left.invariant c.drop_written.new.carried c.if-not-hides_all.false (let w = c.loop-left.invariant.within in named_at c.args.graph.now c.as_slice-steps.result.now c.args.walk.now.steps (c.loop-left.left - 1) c.index-steps-left.result c.as_slice-steps.ensures c.requires (let t = c.loop-left-test.true in omega arith) c.index-steps-left.is) c.drop_written.array_long c.drop_written.ensures
