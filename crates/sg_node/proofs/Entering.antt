@@ -42,7 +42,7 @@ use Rattle.sg_node.specs.declared.join.Obstacle.{Obstacle}
 use Rattle.sg_node.specs.declared.join.Obstacle.TheVariants as Why
 use Rattle.sg_node.specs.declared.node.Node.TheInside.{Inside}
 use Rattle.sg_node.specs.Faults.{delivery_refusal, role_refusal}
-use Rattle.sg_node.specs.Joining.{obstacle_to, refusal_for}
+use Rattle.sg_node.specs.Joining.{JoinsBy, obstacle_to, refusal_for}
 use Rattle.sg_node.specs.Slots.{Slot, held_at, held_in, slot_of, left_after}
 use Rattle.sg_node.specs.Invariant.{IsSlot, HoldsNode, node_state}
 use Rattle.sg_node.proofs.InSlots.{found_all}
@@ -123,25 +123,30 @@ still_slots n {slots = slots} h js ss = subst (λ z. AllByRecursion (IsSlot n.pr
 -- its cast is right, and all keys are there
 pub record Enters (n : Inside) (f : Frame) (c : Cast) (p : Program) : Type 0 where
   pub holds : HoldsNode n
-  pub joins : f.join ≡ Some c
-  pub program : program_for n.programs.now c.graph f.receiver ≡ Some p
-  pub cast : (is_cast n.keys p.graph c f.receiver && nat_lt f.sender (length c.names)) ≡ true
-  pub covered : stranger n.keys c ≡ None
+  pub by : JoinsBy (node_state n) f c p
 
 -- as the state says
-pub entering : {n : Inside} {st : NodeState} {f : Frame} {c : Cast} {p : Program} → node_state n ≡ st → HoldsNode n → f.join ≡ Some c → program_for st.programs c.graph f.receiver ≡ Some p
-    → (is_cast st.keys p.graph c f.receiver && nat_lt f.sender (length c.names)) ≡ true → stranger st.keys c ≡ None → Enters n f c p
-entering {f = f} {c = c} {p = p} is h j q t g = record {
-  holds = h;
-  joins = j;
-  program = subst (λ (z : NodeState). program_for z.programs c.graph f.receiver ≡ Some p) (sym is) q;
-  cast = subst (λ (z : NodeState). (is_cast z.keys p.graph c f.receiver && nat_lt f.sender (length c.names)) ≡ true) (sym is) t;
-  covered = subst (λ (z : NodeState). stranger z.keys c ≡ None) (sym is) g;
+pub entering : {n : Inside} {st : NodeState} {f : Frame} {c : Cast} {p : Program} → node_state n ≡ st → HoldsNode n → JoinsBy st f c p → Enters n f c p
+entering {f = f} {c = c} {p = p} is h j = record { holds = h; by = subst (λ (z : NodeState). JoinsBy z f c p) (sym is) j }
+
+-- and its session is that of the cast, and nothing hinders it
+pub record EntersFreely (n : Inside) (f : Frame) (c : Cast) (p : Program) : Type 0 where
+  pub enters : Enters n f c p
+  pub sid : f.sid ≡ session_id real c
+  pub free : obstacle_to n.joins.pairs (length (held_in n.sessions.slots)) f.sid f.receiver ≡ None
+
+-- as was found of the frame that was read
+pub freely : {n : Inside} {f : Frame} {c : Cast} {p : Program} → Enters n f c p → (z : Frame) → z ≡ f → (sid : List ℕ) → z.sid ≡ sid → sid ≡ session_id real c
+    → (o : Option Obstacle) → o ≡ obstacle_to n.joins.pairs (length (held_in n.sessions.slots)) z.sid z.receiver → o ≡ None → EntersFreely n f c p
+freely {n = n} {c = c} k z same sid is its o e none = record {
+  enters = k;
+  sid = subst (λ (z : Frame). z.sid ≡ session_id real c) same (is ∙ its);
+  free = ap (λ (z : Frame). obstacle_to n.joins.pairs (length (held_in n.sessions.slots)) z.sid z.receiver) (sym same) ∙ sym e ∙ none;
 }
 
 module _ {n : Inside} {f : Frame} {c : Cast} {p : Program} (k : Enters n f c p) where
   its_test : (bytes_eq p.digest c.graph && (p.role == f.receiver)) ≡ true
-  its_test = find_passes (λ (p : Program). bytes_eq p.digest c.graph && (p.role == f.receiver)) n.programs.now p k.program
+  its_test = find_passes (λ (p : Program). bytes_eq p.digest c.graph && (p.role == f.receiver)) n.programs.now p k.by.program
 
   pub its_role : p.role ≡ f.receiver
   its_role = eqb-true p.role f.receiver (and_right (bytes_eq p.digest c.graph) (p.role == f.receiver) its_test)
@@ -154,16 +159,16 @@ module _ {n : Inside} {f : Frame} {c : Cast} {p : Program} (k : Enters n f c p) 
       let same : Bool = length c.names == length p.graph.roles in
       let member : Bool = nat_lt f.receiver (length c.names) in
       let mine : Bool = bytes_eq (principal c f.receiver) n.keys.me in
-      eqb-true (length c.names) (length p.graph.roles) (and_left same (all_differ c.names) (and_left (same && all_differ c.names) member (and_left (same && all_differ c.names && member) mine (and_left (is_cast n.keys p.graph c f.receiver) (nat_lt f.sender (length c.names)) k.cast))))
+      eqb-true (length c.names) (length p.graph.roles) (and_left same (all_differ c.names) (and_left (same && all_differ c.names) member (and_left (same && all_differ c.names && member) mine (and_left (is_cast n.keys p.graph c f.receiver) (nat_lt f.sender (length c.names)) k.by.cast))))
 
   pub its_program : IsProgram real p
-  its_program = found_all (IsProgram real) _ n.programs.now p k.holds.programs k.program
+  its_program = found_all (IsProgram real) _ n.programs.now p k.holds.programs k.by.program
 
   -- ---- what the ranges of a frame say
 
   module _ (sp : HasSpelling f) where
     its_cast : IsCastOf f.version c
-    its_cast = subst (λ o. IfSome o (IsCastOf f.version)) k.joins sp.fields.join
+    its_cast = subst (λ o. IfSome o (IsCastOf f.version)) k.by.joins sp.fields.join
 
     pub its_version : f.version ≡ c.version
     its_version = sym its_cast.version
@@ -175,14 +180,14 @@ module _ {n : Inside} {f : Frame} {c : Cast} {p : Program} (k : Enters n f c p) 
     its_bound = subst (λ r. r < most_roles) (sym its_role) sp.fields.roles.1
 
   both : (keys : Keyring) → n.keys ≡ keys → (is_cast keys p.graph c f.receiver && nat_lt f.sender (length c.names)) ≡ true
-  both keys e = subst (λ z. (is_cast z p.graph c f.receiver && nat_lt f.sender (length c.names)) ≡ true) e k.cast
+  both keys e = subst (λ z. (is_cast z p.graph c f.receiver && nat_lt f.sender (length c.names)) ≡ true) e k.by.cast
 
   module _ (m : Node) (st : RepresentsNode (node_state n) m) where
     q_here : program_for m.programs c.graph f.receiver ≡ Some p
-    q_here = subst (λ ps. program_for ps c.graph f.receiver ≡ Some p) st.programs k.program
+    q_here = subst (λ ps. program_for ps c.graph f.receiver ≡ Some p) st.programs k.by.program
 
     covered_here : stranger m.keys c ≡ None
-    covered_here = subst (λ keys. stranger keys c ≡ None) st.keys k.covered
+    covered_here = subst (λ keys. stranger keys c ≡ None) st.keys k.by.covered
 
     module _ (its_sid : f.sid ≡ session_id real c) where
       abbrev obstacles_by : Bool → Bool → Bool → Option Obstacle
@@ -206,14 +211,14 @@ module _ {n : Inside} {f : Frame} {c : Cast} {p : Program} (k : Enters n f c p) 
       pub hindered : (why : DeliveryRefusal) (o : Obstacle) → why ≡ refusal_for o → obstacle_to n.joins.pairs (length (held_in n.sessions.slots)) f.sid f.receiver ≡ Some o →
           (verdict_on real m (Ok f) ≡ NotDelivered (delivery_refusal why)) × (notes_of_read real m (Ok f) ≡ first_text c)
       hindered why o is e =
-          let r = go o (joining_rows m f c k.joins p q_here (both m.keys st.keys) covered_here (bytes_same f.sid (session_id real c) its_sid)
+          let r = go o (joining_rows m f c k.by.joins p q_here (both m.keys st.keys) covered_here (bytes_same f.sid (session_id real c) its_sid)
           ∙ by_obstacle (has_joined m.joins f.sid f.receiver) (nat_le 65536 (length m.joins)) (nat_le 4096 (length m.live)) o (rows_of_session real m.keys p (new_session f.sid c f.receiver) f) (sym same_obstacles ∙ e)) in
           (r.0 ∙ ap (λ w. NotDelivered (delivery_refusal w)) (sym is), r.1)
         where
           go : (o : Obstacle) → first_some (rows real m f) ≡ refused_by o → (verdict_on real m (Ok f) ≡ NotDelivered (delivery_refusal (refusal_for o))) × (notes_of_read real m (Ok f) ≡ first_text c)
-          go Why.Joined r = (ap (decided (receipt f)) r, early m f Joined r refl refl refl ∙ ap (λ h. record { made = []; found = []; hashed = h }) (text m f c k.joins 6 refl))
-          go Why.Cache r = (ap (decided (receipt f)) r, early m f CacheFull r refl refl refl ∙ ap (λ h. record { made = []; found = []; hashed = h }) (text m f c k.joins 7 refl))
-          go Why.Sessions r = (ap (decided (receipt f)) r, early m f SessionsFull r refl refl refl ∙ ap (λ h. record { made = []; found = []; hashed = h }) (text m f c k.joins 8 refl))
+          go Why.Joined r = (ap (decided (receipt f)) r, early m f Joined r refl refl refl ∙ ap (λ h. record { made = []; found = []; hashed = h }) (text m f c k.by.joins 6 refl))
+          go Why.Cache r = (ap (decided (receipt f)) r, early m f CacheFull r refl refl refl ∙ ap (λ h. record { made = []; found = []; hashed = h }) (text m f c k.by.joins 7 refl))
+          go Why.Sessions r = (ap (decided (receipt f)) r, early m f SessionsFull r refl refl refl ∙ ap (λ h. record { made = []; found = []; hashed = h }) (text m f c k.by.joins 8 refl))
 
   -- ---- the session that it joins
 
@@ -231,7 +236,7 @@ module _ {n : Inside} {f : Frame} {c : Cast} {p : Program} (k : Enters n f c p) 
       its_rows : first_some (rows real m f) ≡ first_some (rows_of_session real m.keys p (new_session f.sid c f.receiver) f)
       its_rows =
           let z = nothing_else (has_joined m.joins f.sid f.receiver) (nat_le 65536 (length m.joins)) (nat_le 4096 (length m.live)) (sym (same_obstacles m st its_sid) ∙ none) in
-          joining_rows m f c k.joins p (q_here m st) (both m.keys st.keys) (covered_here m st) (bytes_same f.sid (session_id real c) its_sid)
+          joining_rows m f c k.by.joins p (q_here m st) (both m.keys st.keys) (covered_here m st) (bytes_same f.sid (session_id real c) its_sid)
           ∙ past_three (has_joined m.joins f.sid f.receiver) (nat_le 65536 (length m.joins)) (nat_le 4096 (length m.live)) Joined CacheFull SessionsFull (rows_of_session real m.keys p (new_session f.sid c f.receiver) f) z.0 z.1 z.2
 
       here_rows : first_some (rows_of_session real m.keys p (new_session f.sid c f.receiver) f) ≡ first_some (rows_of_session real n.keys p its_session f)
@@ -242,7 +247,7 @@ module _ {n : Inside} {f : Frame} {c : Cast} {p : Program} (k : Enters n f c p) 
 
       -- its session, with its program
       session_of : session_of_frame m f ≡ Some (p, new_session f.sid c f.receiver)
-      session_of = join_session_is m f c k.joins p (q_here m st) ∙ ap (option_map (λ (p : Program). (p, new_session f.sid c f.receiver))) (q_here m st)
+      session_of = join_session_is m f c k.by.joins p (q_here m st) ∙ ap (option_map (λ (p : Program). (p, new_session f.sid c f.receiver))) (q_here m st)
 
       -- a receipt of this view is of its session, in which the role has done nothing
       shown : (r : Receipt) → r.program ≡ p → slice_get p.views r.view ≡ Some (record { origin = None; items = map seen f.items }) → IsReceiptAt m f r
@@ -264,7 +269,7 @@ module _ {n : Inside} {f : Frame} {c : Cast} {p : Program} (k : Enters n f c p) 
             ap (λ s. notes_in_session real m.keys p s f (row_number (first_some (rows_of_session real m.keys p s f)))) same_session
             ∙ ap (λ k. notes_in_session real k p its_session f (row_number (first_some (rows_of_session real k p its_session f)))) (sym st.keys) in
             let read : notes_of_read real m (Ok f) ≡ record all { hashed = session_text_of c ∷ all.hashed } =
-            join_notes m f c k.joins p (q_here m st) its_rows (ap (λ x. nat_lt 4 (row_number x)) here_rows ∙ l)
+            join_notes m f c k.by.joins p (q_here m st) its_rows (ap (λ x. nat_lt 4 (row_number x)) here_rows ∙ l)
             ∙ ap (λ (z : Notes). record z { hashed = session_text_of c ∷ z.hashed }) same in
             g its_session represents ∙ ap (λ z. with_notes z all) e
             ∙ ap (λ hs. record { made = first.made ++ all.made; found = first.found ++ all.found; hashed = hs }) (append_assoc first.hashed (session_text_of c ∷ []) all.hashed)
@@ -314,7 +319,7 @@ module _ {n : Inside} {f : Frame} {c : Cast} {p : Program} (k : Enters n f c p) 
       reachable = (states_are_reachable real real_hash).takes n.keys p (first_state p c).held its_session f its_program back represents sp (its_version sp) rows_none
 
       known : program_for n.programs.now c.graph p.role ≡ Some p
-      known = ap (program_for n.programs.now c.graph) its_role ∙ k.program
+      known = ap (program_for n.programs.now c.graph) its_role ∙ k.by.program
 
       pub join_slots : AllByRecursion (IsSlot n.programs.now (n.joins.pairs ++ (session_id real c, p.role) ∷ [])) (n.sessions.slots ++ slot_of (session_id real c, p.role) (left_after a))
       join_slots = slots_more n.programs.now n.joins.pairs (session_id real c, p.role) n.sessions.slots (left_after a) k.holds.slots
@@ -322,7 +327,7 @@ module _ {n : Inside} {f : Frame} {c : Cast} {p : Program} (k : Enters n f c p) 
 
       joined : joined_by n.programs.now f c ≡ held_at (left_after a)
       joined =
-          ap (λ (o : Option Program). option_map_or (λ p. unless_spent p (held_after p.graph (record { sid = f.sid; cast = c; role = f.receiver; kept = nothing_kept p.graph }) (Took f))) o []) k.program
+          ap (λ (o : Option Program). option_map_or (λ p. unless_spent p (held_after p.graph (record { sid = f.sid; cast = c; role = f.receiver; kept = nothing_kept p.graph }) (Took f))) o []) k.by.program
           ∙ ap (λ z. unless_spent p (held_after p.graph (record { sid = z; cast = c; role = f.receiver; kept = nothing_kept p.graph }) (Took f))) its_sid
           ∙ ap (λ z. unless_spent p (held_after p.graph (record { sid = session_id real c; cast = c; role = z; kept = nothing_kept p.graph }) (Took f))) (sym its_role)
           ∙ unless_left p (held_after p.graph (first_state p c).held (Took f)) reachable a (same_state d)
@@ -332,7 +337,7 @@ module _ {n : Inside} {f : Frame} {c : Cast} {p : Program} (k : Enters n f c p) 
           ap (λ hs. record { keys = n.keys; programs = n.programs.now; joins = n.joins.pairs ++ (session_id real c, p.role) ∷ []; live = hs })
           (held_more n.sessions.slots (session_id real c, p.role) (left_after a) ∙ ap (λ z. held_in n.sessions.slots ++ z) (sym joined))
           ∙ ap (λ z. record { keys = n.keys; programs = n.programs.now; joins = n.joins.pairs ++ z ∷ []; live = held_in n.sessions.slots ++ joined_by n.programs.now f c }) (ap (λ z. (z, p.role)) (sym its_sid) ∙ ap (λ z. (f.sid, z)) its_role)
-          ∙ ap (λ (o : Option Cast). option_map_or (λ c. with_join (node_state n) f.sid f.receiver (joined_by n.programs.now f c)) o (with_live (node_state n) (is_held_for f) (λ z. still_held n.programs.now z (Took f)))) (sym k.joins)
+          ∙ ap (λ (o : Option Cast). option_map_or (λ c. with_join (node_state n) f.sid f.receiver (joined_by n.programs.now f c)) o (with_live (node_state n) (is_held_for f) (λ z. still_held n.programs.now z (Took f)))) (sym k.by.joins)
 
       -- the node takes the frame
       pub takes : {E : Type 0} {st : NodeState} {first : Notes} → node_state n ≡ st → obstacle_to n.joins.pairs (length (held_in n.sessions.slots)) f.sid f.receiver ≡ None

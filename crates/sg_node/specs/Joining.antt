@@ -1,7 +1,10 @@
 -- Why a pair of session and role can't be joined.
-use Rattle.std.specs.Prelude.{ℕ, nat_le, if◌then◌else◌, List, length, Option, None, Some}
+use Rattle.std.specs.Prelude.{◌≡◌, ℕ, nat_le, nat_lt, ◌&&◌, true, if◌then◌else◌, List, length, Option, None, Some}
 use Rattle.sg_model.specs.Limits.{most_joins, most_live}
-use Rattle.sg_protocol.specs.Node.{has_joined}
+use Rattle.sg_protocol.specs.Frame.{Cast, Frame}
+use Rattle.sg_protocol.specs.Keyring.{Program}
+use Rattle.sg_protocol.specs.Node.{has_joined, is_cast, program_for, stranger}
+use Rattle.sg_protocol.specs.NodeStates.{NodeState}
 use Rattle.sg_node.specs.declared.join.Obstacle.{Obstacle}
 use Rattle.sg_node.specs.declared.join.Obstacle.TheVariants.{Joined, Cache, Sessions}
 use Rattle.sg_node.specs.declared.refusal.StartRefusal.{StartRefusal}
@@ -27,3 +30,10 @@ abbrev pub refusal_for : Obstacle → DeliveryRefusal
 refusal_for Joined = deliveries.Joined
 refusal_for Cache = deliveries.CacheFull
 refusal_for Sessions = deliveries.SessionsFull
+
+-- the frame joins by this cast: there is this program for its graph and its receiver, the cast is right, and the node has all its keys
+pub record JoinsBy (n : NodeState) (f : Frame) (c : Cast) (p : Program) : Type 0 where
+  pub joins : f.join ≡ Some c
+  pub program : program_for n.programs c.graph f.receiver ≡ Some p
+  pub cast : (is_cast n.keys p.graph c f.receiver && nat_lt f.sender (length c.names)) ≡ true
+  pub covered : stranger n.keys c ≡ None

@@ -6,7 +6,7 @@ ghost use Rattle.sg_model.specs.Limits.{most_frame_bytes};
 ghost use Rattle.sg_protocol.specs.Acting.{answer};
 ghost use Rattle.sg_protocol.specs.Calls.{Deliver};
 ghost use Rattle.sg_protocol.specs.Frame.{Frame};
-ghost use Rattle.sg_protocol.specs.Node.{Node as DefinedNode, program_for, is_cast, stranger};
+ghost use Rattle.sg_protocol.specs.Node.{Node as DefinedNode, program_for, is_cast};
 ghost use Rattle.sg_protocol.specs.NodeStates.{RepresentsNode, RepresentsPast};
 ghost use Rattle.sg_protocol.specs.Notes.{Notes, notes as noted_of};
 ghost use Rattle.sg_protocol.specs.Past.{Past, node_of};
@@ -18,7 +18,7 @@ ghost use Rattle.sg_role.specs.Sending.{with_notes};
 ghost use Rattle.sg_role.specs.declared.fault.Refusal.TheVariants as role;
 ghost use Rattle.sg_node.specs.Answers.{GoesOn, answer_of_delivery, graph_named, graph_of_delivery, may_take_memory};
 ghost use Rattle.sg_node.specs.Faults.{delivery_refusal, role_refusal};
-ghost use Rattle.sg_node.specs.Joining.{refusal_for};
+ghost use Rattle.sg_node.specs.Joining.{JoinsBy, refusal_for};
 ghost use Rattle.sg_node.specs.Receipts.{IsReceiptAt};
 ghost use Rattle.sg_node.specs.Slots.{left_after};
 ghost use Rattle.sg_node.specs.Taking.{TakesFrame};
@@ -167,10 +167,7 @@ impl<'p> Node<'p> {
         cast: Cast,
         notes: &mut Notes,
     ) -> Result<Result<Receipt<'p>, DeliveryRefusal<'p>>, OutOfMemory>
-        requires joins { read.now.frame.join ≡ Some cast }
-        requires program { program_for self.old.programs cast.graph read.now.frame.receiver ≡ Some program.now }
-        requires cast { (is_cast self.old.keys program.now.graph cast read.now.frame.receiver && nat_lt read.now.frame.sender (length cast.names)) ≡ true }
-        requires covered { stranger self.old.keys cast ≡ None }
+        requires by { JoinsBy self.old read.now.frame cast program.now }
         ensures takes { TakesFrame self.old self.new notes.old notes.old notes.new read.now.frame result }
     {
         let counts = notes.counts();
@@ -192,10 +189,7 @@ impl<'p> Node<'p> {
         sid: Sid,
         notes: &mut Notes,
     ) -> Result<Result<Receipt<'p>, DeliveryRefusal<'p>>, OutOfMemory>
-        requires joins { read.now.frame.join ≡ Some cast }
-        requires program { program_for self.old.programs cast.graph read.now.frame.receiver ≡ Some program.now }
-        requires cast { (is_cast self.old.keys program.now.graph cast read.now.frame.receiver && nat_lt read.now.frame.sender (length cast.names)) ≡ true }
-        requires covered { stranger self.old.keys cast ≡ None }
+        requires by { JoinsBy self.old read.now.frame cast program.now }
         requires session { sid ≡ session_id real cast }
         ensures takes { (first : Notes) → notes.old ≡ record first { hashed = first.hashed ++ session_text_of cast ∷ [] }
             → TakesFrame self.old self.new first notes.old notes.new read.now.frame result }

@@ -1,4 +1,4 @@
-use Rattle.std.proofs.Common.{◌<◌, length, None, Some, refl, sym, ◌∙◌, ap, subst}
+use Rattle.std.proofs.Common.{◌≡◌, ◌<◌, length, None, Some, refl, sym, ◌∙◌, ap, subst}
 use Rattle.std.specs.List.{AllByRecursion}
 use Rattle.indexmap.specs.IndexMap.{set_value_at}
 use Rattle.sg_protocol.specs.Acting.{answer}
@@ -128,50 +128,30 @@ returns-in-Ok-clause-notes c =
     let there = sym c.take.ensures.taken ∙ c.in-Some-AtTurn.is ∙ ap (λ z. Some z) c.in-Some-AtTurn.field-0-is in
     λ past st. let it = its_session c.self.inside c.self.invariant (node_of past) (subst (λ (z : NodeState). RepresentsPast z past) (sym c.self.view_is) st) c.args.sid c.args.label (values_of c.args.values.now) c.args.confounders.now c.in-Some.index at c.in-Some-AtTurn.turn there in c.in-Ok.ensures.notes it.session it.represents ∙ ap (with_notes c.args.notes.now) (sym (act_notes c.self.inside c.self.invariant (node_of past) (subst (λ (z : NodeState). RepresentsPast z past) (sym c.self.view_is) st) c.args.sid c.args.label (values_of c.args.values.now) c.args.confounders.now c.in-Some.index at c.in-Some-AtTurn.turn there c.facts_of_values.ensures c.in-Ok.sent (record { accepted = c.in-Ok.ensures.accepted; state = c.in-Ok.ensures.state })))
 
-pub returns-in-Err-clause-answer : goal.returns-in-Err-clause-answer
-returns-in-Err-clause-answer c =
+pub returns-in-Err : goal.returns-in-Err
+returns-in-Err c =
     let at = sym c.in-Some.ensures in
     let there = sym c.take.ensures.taken ∙ c.in-Some-AtTurn.is ∙ ap (λ z. Some z) c.in-Some-AtTurn.field-0-is in
-    λ past st. refused_act c.not_sent.result c.not_sent.ensures.refused c.in-Err.fault c.not_sent.ensures.refusal (answer real (node_of past) (Act c.args.sid c.args.label (values_of c.args.values.now) c.args.confounders.now))
-    (not_sent_by c.self.inside c.self.invariant (node_of past) (subst (λ (z : NodeState). RepresentsPast z past) (sym c.self.view_is) st) c.args.sid c.args.label (values_of c.args.values.now) c.args.confounders.now c.in-Some.index at c.in-Some-AtTurn.turn there c.in-Err.fault c.in-Err.ensures.refused)
-
-pub returns-in-Err-clause-graph : goal.returns-in-Err-clause-graph
-returns-in-Err-clause-graph c =
-    let at = sym c.in-Some.ensures in
-    let there = sym c.take.ensures.taken ∙ c.in-Some-AtTurn.is ∙ ap (λ z. Some z) c.in-Some-AtTurn.field-0-is in
-    λ past st. graph_beside c.not_sent.result c.not_sent.ensures.refused (answer real (node_of past) (Act c.args.sid c.args.label (values_of c.args.values.now) c.args.confounders.now)) _ (graph_of_call real (node_of past) (Act c.args.sid c.args.label (values_of c.args.values.now) c.args.confounders.now))
-    (refused_act c.not_sent.result c.not_sent.ensures.refused c.in-Err.fault c.not_sent.ensures.refusal (answer real (node_of past) (Act c.args.sid c.args.label (values_of c.args.values.now) c.args.confounders.now)) (not_sent_by c.self.inside c.self.invariant (node_of past) (subst (λ (z : NodeState). RepresentsPast z past) (sym c.self.view_is) st) c.args.sid c.args.label (values_of c.args.values.now) c.args.confounders.now c.in-Some.index at c.in-Some-AtTurn.turn there c.in-Err.fault c.in-Err.ensures.refused)) c.not_sent.ensures.graph
-    (ap (λ (g : Graph). Some g) (c.graph-graph.ensures.graph ∙ ap (λ (p : Program). p.graph) c.program.ensures) ∙ sym (graph_with_sid c.self.inside c.self.invariant (node_of past) (subst (λ (z : NodeState). RepresentsPast z past) (sym c.self.view_is) st) c.args.sid c.in-Some.index (AtTurn c.in-Some-AtTurn.turn) at there))
-
-pub returns-in-Err-clause-state : goal.returns-in-Err-clause-state
-returns-in-Err-clause-state c =
-    let at = sym c.in-Some.ensures in
-    let there = sym c.take.ensures.taken ∙ c.in-Some-AtTurn.is ∙ ap (λ z. Some z) c.in-Some-AtTurn.field-0-is in
-    λ past st. by_refusal c.not_sent.result c.not_sent.ensures.refused _ (answer real (node_of past) (Act c.args.sid c.args.label (values_of c.args.values.now) c.args.confounders.now))
-    (refused_act c.not_sent.result c.not_sent.ensures.refused c.in-Err.fault c.not_sent.ensures.refusal (answer real (node_of past) (Act c.args.sid c.args.label (values_of c.args.values.now) c.args.confounders.now)) (not_sent_by c.self.inside c.self.invariant (node_of past) (subst (λ (z : NodeState). RepresentsPast z past) (sym c.self.view_is) st) c.args.sid c.args.label (values_of c.args.values.now) c.args.confounders.now c.in-Some.index at c.in-Some-AtTurn.turn there c.in-Err.fault c.in-Err.ensures.refused)) (λ fault is.
-    subst (λ (z : NodeState). GoesOn z (record { keys = c.self.inside.keys; programs = c.self.inside.programs.now; joins = c.self.inside.joins.pairs; live = held_in c.put.new.self.slots }) (Act c.args.sid c.args.label (values_of c.args.values.now) c.args.confounders.now) past) c.self.view_is (stays_by c.self.inside c.self.invariant past (subst (λ (z : NodeState). RepresentsPast z past) (sym c.self.view_is) st) c.args.sid c.args.label (values_of c.args.values.now) c.args.confounders.now c.facts_of_values.ensures c.put.new.self.slots (c.put.ensures.slots ∙ ap (λ z. set_value_at z c.in-Some.index (Some (AtTurn c.in-Err.turn))) c.take.ensures.slots ∙ set_twice c.self.inside.sessions.slots c.in-Some.index None (Some (AtTurn c.in-Err.turn)) ∙ ap (λ (t : RoleState). set_value_at c.self.inside.sessions.slots c.in-Some.index (Some (AtTurn t))) c.in-Err.ensures.back.0 ∙ set_same c.self.inside.sessions.slots c.in-Some.index (Some (AtTurn c.in-Some-AtTurn.turn)) there (first_at c.self.inside c.self.invariant c.args.sid c.in-Some.index at).within) fault is))
-
-pub returns-in-Err-clause-notes : goal.returns-in-Err-clause-notes
-returns-in-Err-clause-notes c =
-    let at = sym c.in-Some.ensures in
-    let there = sym c.take.ensures.taken ∙ c.in-Some-AtTurn.is ∙ ap (λ z. Some z) c.in-Some-AtTurn.field-0-is in
-    λ past st. by_refusal c.not_sent.result c.not_sent.ensures.refused _ (answer real (node_of past) (Act c.args.sid c.args.label (values_of c.args.values.now) c.args.confounders.now))
-    (refused_act c.not_sent.result c.not_sent.ensures.refused c.in-Err.fault c.not_sent.ensures.refusal (answer real (node_of past) (Act c.args.sid c.args.label (values_of c.args.values.now) c.args.confounders.now)) (not_sent_by c.self.inside c.self.invariant (node_of past) (subst (λ (z : NodeState). RepresentsPast z past) (sym c.self.view_is) st) c.args.sid c.args.label (values_of c.args.values.now) c.args.confounders.now c.in-Some.index at c.in-Some-AtTurn.turn there c.in-Err.fault c.in-Err.ensures.refused)) (λ fault is.
-    c.in-Err.ensures.back.1 ∙ with_none c.args.notes.now ∙ ap (with_notes c.args.notes.now) (sym (quiet (node_of past) c.args.sid c.args.label (values_of c.args.values.now) c.args.confounders.now fault is)))
-
-pub returns-in-Err-clause-refused : goal.returns-in-Err-clause-refused
-returns-in-Err-clause-refused c =
-    let at = sym c.in-Some.ensures in
-    let there = sym c.take.ensures.taken ∙ c.in-Some-AtTurn.is ∙ ap (λ z. Some z) c.in-Some-AtTurn.field-0-is in
-    all_refused _ c.not_sent.result
-    (ap (λ z. record { keys = c.self.inside.keys; programs = c.self.inside.programs.now; joins = c.self.inside.joins.pairs; live = held_in z }) (c.put.ensures.slots ∙ ap (λ z. set_value_at z c.in-Some.index (Some (AtTurn c.in-Err.turn))) c.take.ensures.slots ∙ set_twice c.self.inside.sessions.slots c.in-Some.index None (Some (AtTurn c.in-Err.turn)) ∙ ap (λ (t : RoleState). set_value_at c.self.inside.sessions.slots c.in-Some.index (Some (AtTurn t))) c.in-Err.ensures.back.0 ∙ set_same c.self.inside.sessions.slots c.in-Some.index (Some (AtTurn c.in-Some-AtTurn.turn)) there (first_at c.self.inside c.self.invariant c.args.sid c.in-Some.index at).within) ∙ c.self.view_is, c.in-Err.ensures.back.1)
-
-pub returns-in-Err-clause-memory : goal.returns-in-Err-clause-memory
-returns-in-Err-clause-memory c =
-    let at = sym c.in-Some.ensures in
-    let there = sym c.take.ensures.taken ∙ c.in-Some-AtTurn.is ∙ ap (λ z. Some z) c.in-Some-AtTurn.field-0-is in
-    in_err _ c.not_sent.result
-    (ap (λ z. record { keys = c.self.inside.keys; programs = c.self.inside.programs.now; joins = c.self.inside.joins.pairs; live = held_in z }) (c.put.ensures.slots ∙ ap (λ z. set_value_at z c.in-Some.index (Some (AtTurn c.in-Err.turn))) c.take.ensures.slots ∙ set_twice c.self.inside.sessions.slots c.in-Some.index None (Some (AtTurn c.in-Err.turn)) ∙ ap (λ (t : RoleState). set_value_at c.self.inside.sessions.slots c.in-Some.index (Some (AtTurn t))) c.in-Err.ensures.back.0 ∙ set_same c.self.inside.sessions.slots c.in-Some.index (Some (AtTurn c.in-Some-AtTurn.turn)) there (first_at c.self.inside c.self.invariant c.args.sid c.in-Some.index at).within) ∙ c.self.view_is, c.in-Err.ensures.back.1)
+    let back : c.put.new.self.slots ≡ c.self.inside.sessions.slots = c.put.ensures.slots ∙ ap (λ z. set_value_at z c.in-Some.index (Some (AtTurn c.in-Err.turn))) c.take.ensures.slots ∙ set_twice c.self.inside.sessions.slots c.in-Some.index None (Some (AtTurn c.in-Err.turn)) ∙ ap (λ (t : RoleState). set_value_at c.self.inside.sessions.slots c.in-Some.index (Some (AtTurn t))) c.in-Err.ensures.back.0 ∙ set_same c.self.inside.sessions.slots c.in-Some.index (Some (AtTurn c.in-Some-AtTurn.turn)) there (first_at c.self.inside c.self.invariant c.args.sid c.in-Some.index at).within in
+    record {
+      answer = λ past st. refused_act c.not_sent.result c.not_sent.ensures.refused c.in-Err.fault c.not_sent.ensures.refusal (answer real (node_of past) (Act c.args.sid c.args.label (values_of c.args.values.now) c.args.confounders.now))
+          (not_sent_by c.self.inside c.self.invariant (node_of past) (subst (λ (z : NodeState). RepresentsPast z past) (sym c.self.view_is) st) c.args.sid c.args.label (values_of c.args.values.now) c.args.confounders.now c.in-Some.index at c.in-Some-AtTurn.turn there c.in-Err.fault c.in-Err.ensures.refused);
+      graph = λ past st. graph_beside c.not_sent.result c.not_sent.ensures.refused (answer real (node_of past) (Act c.args.sid c.args.label (values_of c.args.values.now) c.args.confounders.now)) _ (graph_of_call real (node_of past) (Act c.args.sid c.args.label (values_of c.args.values.now) c.args.confounders.now))
+          (refused_act c.not_sent.result c.not_sent.ensures.refused c.in-Err.fault c.not_sent.ensures.refusal (answer real (node_of past) (Act c.args.sid c.args.label (values_of c.args.values.now) c.args.confounders.now)) (not_sent_by c.self.inside c.self.invariant (node_of past) (subst (λ (z : NodeState). RepresentsPast z past) (sym c.self.view_is) st) c.args.sid c.args.label (values_of c.args.values.now) c.args.confounders.now c.in-Some.index at c.in-Some-AtTurn.turn there c.in-Err.fault c.in-Err.ensures.refused)) c.not_sent.ensures.graph
+          (ap (λ (g : Graph). Some g) (c.graph-graph.ensures.graph ∙ ap (λ (p : Program). p.graph) c.program.ensures) ∙ sym (graph_with_sid c.self.inside c.self.invariant (node_of past) (subst (λ (z : NodeState). RepresentsPast z past) (sym c.self.view_is) st) c.args.sid c.in-Some.index (AtTurn c.in-Some-AtTurn.turn) at there));
+      state = λ past st. by_refusal c.not_sent.result c.not_sent.ensures.refused _ (answer real (node_of past) (Act c.args.sid c.args.label (values_of c.args.values.now) c.args.confounders.now))
+          (refused_act c.not_sent.result c.not_sent.ensures.refused c.in-Err.fault c.not_sent.ensures.refusal (answer real (node_of past) (Act c.args.sid c.args.label (values_of c.args.values.now) c.args.confounders.now)) (not_sent_by c.self.inside c.self.invariant (node_of past) (subst (λ (z : NodeState). RepresentsPast z past) (sym c.self.view_is) st) c.args.sid c.args.label (values_of c.args.values.now) c.args.confounders.now c.in-Some.index at c.in-Some-AtTurn.turn there c.in-Err.fault c.in-Err.ensures.refused)) (λ fault is.
+          subst (λ (z : NodeState). GoesOn z (record { keys = c.self.inside.keys; programs = c.self.inside.programs.now; joins = c.self.inside.joins.pairs; live = held_in c.put.new.self.slots }) (Act c.args.sid c.args.label (values_of c.args.values.now) c.args.confounders.now) past) c.self.view_is (stays_by c.self.inside c.self.invariant past (subst (λ (z : NodeState). RepresentsPast z past) (sym c.self.view_is) st) c.args.sid c.args.label (values_of c.args.values.now) c.args.confounders.now c.facts_of_values.ensures c.put.new.self.slots back fault is));
+      notes = λ past st. by_refusal c.not_sent.result c.not_sent.ensures.refused _ (answer real (node_of past) (Act c.args.sid c.args.label (values_of c.args.values.now) c.args.confounders.now))
+          (refused_act c.not_sent.result c.not_sent.ensures.refused c.in-Err.fault c.not_sent.ensures.refusal (answer real (node_of past) (Act c.args.sid c.args.label (values_of c.args.values.now) c.args.confounders.now)) (not_sent_by c.self.inside c.self.invariant (node_of past) (subst (λ (z : NodeState). RepresentsPast z past) (sym c.self.view_is) st) c.args.sid c.args.label (values_of c.args.values.now) c.args.confounders.now c.in-Some.index at c.in-Some-AtTurn.turn there c.in-Err.fault c.in-Err.ensures.refused)) (λ fault is.
+          c.in-Err.ensures.back.1 ∙ with_none c.args.notes.now ∙ ap (with_notes c.args.notes.now) (sym (quiet (node_of past) c.args.sid c.args.label (values_of c.args.values.now) c.args.confounders.now fault is)));
+      refused = all_refused _ c.not_sent.result
+          (ap (λ z. record { keys = c.self.inside.keys; programs = c.self.inside.programs.now; joins = c.self.inside.joins.pairs; live = held_in z }) back ∙ c.self.view_is, c.in-Err.ensures.back.1);
+      memory = in_err _ c.not_sent.result
+          (ap (λ z. record { keys = c.self.inside.keys; programs = c.self.inside.programs.now; joins = c.self.inside.joins.pairs; live = held_in z }) back ∙ c.self.view_is, c.in-Err.ensures.back.1);
+      early = λ past st. if_memory c.not_sent.result c.not_sent.ensures.refused c.in-Err.fault c.not_sent.ensures.refusal _ (λ q.
+          would_send c.self.inside c.self.invariant (node_of past) (subst (λ (z : NodeState). RepresentsPast z past) (sym c.self.view_is) st) c.args.sid c.args.label (values_of c.args.values.now) c.args.confounders.now c.in-Some.index at c.in-Some-AtTurn.turn there (λ s represents. c.in-Err.ensures.memory s represents q));
+    }
 
 pub returns-in-Some-Waiting-clause-answer : goal.returns-in-Some-Waiting-clause-answer
 returns-in-Some-Waiting-clause-answer c =
@@ -202,10 +182,3 @@ returns-in-Some-Waiting-clause-refused c =
     let at = sym c.in-Some.ensures in
     let there = sym c.take.ensures.taken ∙ c.in-Some-Waiting.is ∙ ap (λ z. Some z) c.in-Some-Waiting.field-0-is in
     (ap (λ z. record { keys = c.self.inside.keys; programs = c.self.inside.programs.now; joins = c.self.inside.joins.pairs; live = held_in z }) (c.put-in-Some-Waiting.ensures.slots ∙ ap (λ z. set_value_at z c.in-Some.index (Some (Waiting c.in-Some-Waiting.wait))) c.take.ensures.slots ∙ set_twice c.self.inside.sessions.slots c.in-Some.index None (Some (Waiting c.in-Some-Waiting.wait)) ∙ set_same c.self.inside.sessions.slots c.in-Some.index (Some (Waiting c.in-Some-Waiting.wait)) there (first_at c.self.inside c.self.invariant c.args.sid c.in-Some.index at).within) ∙ c.self.view_is, refl)
-
-pub returns-in-Err-clause-early : goal.returns-in-Err-clause-early
-returns-in-Err-clause-early c =
-    let at = sym c.in-Some.ensures in
-    let there = sym c.take.ensures.taken ∙ c.in-Some-AtTurn.is ∙ ap (λ z. Some z) c.in-Some-AtTurn.field-0-is in
-    λ past st. if_memory c.not_sent.result c.not_sent.ensures.refused c.in-Err.fault c.not_sent.ensures.refusal _ (λ q.
-    would_send c.self.inside c.self.invariant (node_of past) (subst (λ (z : NodeState). RepresentsPast z past) (sym c.self.view_is) st) c.args.sid c.args.label (values_of c.args.values.now) c.args.confounders.now c.in-Some.index at c.in-Some-AtTurn.turn there (λ s represents. c.in-Err.ensures.memory s represents q))
