@@ -1,6 +1,5 @@
 pub mod More
 pub mod Indices
-pub mod Programs
 pub mod Keys
 pub mod Counts
 pub mod Leaving

@@ -1,10 +1,10 @@
 //! Which casts a node takes part in, and in which programs.
-ghost use Rattle.std.specs.Prelude.{◌≡◌, ◌==◌, ◌&&◌, bytes_eq, length, nat_lt, IsTrue, Some};
-ghost use Rattle.std.specs.Option.{option_copied};
+ghost use Rattle.std.specs.Prelude.{◌≡◌, ◌&&◌, bytes_eq, false, length, nat_lt, Some};
+ghost use Rattle.std.specs.Option.{option_copied, option_map_or};
 ghost use Rattle.sg_model.specs.Lists.{all_differ, has_text};
 ghost use Rattle.sg_model.specs.Shape.{role_at};
 ghost use Rattle.sg_protocol.specs.Graph.{shape};
-ghost use Rattle.sg_protocol.specs.Node.{is_cast, program_for, starter};
+ghost use Rattle.sg_protocol.specs.Node.{is_cast, program_for, starter, starts};
 ghost use Rattle.sg_protocol.specs.Session.{principal};
 
 use sg_base::{Name, NodeId, Role};
@@ -55,35 +55,40 @@ fn has_name(names: &[Name], name: &Name) -> bool
     false
 }
 
-/// The first program of a graph with this digest for the role that starts it. It takes no memory.
+/// The program of a graph with this digest for the role that starts it. It takes no memory.
 pub(crate) fn first_starter<'p>(programs: &'p Programs, digest: &[u8; 32]) -> Option<&'p Program>
     ensures { option_copied result ≡ starter programs.now digest.now }
 {
     for program in programs.as_slice() {
-        if program.digest() == digest && starts(program) {
+        if program.digest() == digest && is_starting(programs, digest, program.role()) {
             return Some(program);
         }
     }
     None
 }
 
-/// Whether the first program of a graph with this digest that starts it is also the first for its role. If it isn't, another graph has
-/// this digest, so that SHA-256 has collided. It takes no memory.
-pub(crate) fn is_first(programs: &Programs, digest: &[u8; 32], program: &Program) -> bool
+/// What is known of the program of a graph for the role that starts it: it is the first one with its digest and role.
+pub(crate) fn facts_of_starter(programs: &Programs, digest: &[u8; 32], program: &Program)
     requires { starter programs.now digest.now ≡ Some program.now }
-    ensures first { IsTrue result → program_for programs.now digest.now program.now.role ≡ Some program.now }
+    ensures first { program_for programs.now digest.now program.now.role ≡ Some program.now }
     ensures starts { role_at (shape program.now.graph) 0 ≡ program.now.role }
     ensures digest { program.now.digest ≡ digest.now }
 {
-    match program_for(programs, digest, program.role()) {
-        Some(first) => starts(first),
+}
+
+// The first program of a graph with this digest for a role starts its graph.
+fn is_starting(programs: &Programs, digest: &[u8; 32], role: Role) -> bool
+    ensures { result ≡ option_map_or starts (program_for programs.now digest.now role) false }
+{
+    match program_for(programs, digest, role) {
+        Some(program) => starts(program),
         None => false,
     }
 }
 
 // The program's role is that of the start node.
 fn starts(program: &Program) -> bool
-    ensures { result ≡ (program.now.role == role_at (shape program.now.graph) 0) }
+    ensures { result ≡ starts program.now }
 {
     program.role() == program.graph().node_role(NodeId(0))
 }

@@ -15,7 +15,7 @@ ghost use Rattle.sg_role.specs.Sending.{with_notes};
 ghost use Rattle.sg_node.specs.Answers.{GoesOn, answer_of_start, graph_named, graph_of_start, may_take_memory};
 ghost use Rattle.sg_node.specs.Joining.{start_refusal_for};
 
-use crate::cast::{first_starter, is_cast, is_first};
+use crate::cast::{facts_of_starter, first_starter, is_cast};
 use crate::join::{Obstacle, begin_session, first_obstacle, make_room, note_session};
 use crate::{Happened, Node, StartRefusal};
 use sg_base::OutOfMemory;
@@ -23,13 +23,11 @@ use sg_crypt::{Cast, Notes, session_id};
 use sg_program::Program;
 use sg_role::Before;
 use sg_walk::Event;
-use std::alloc::AllocError;
 
 impl<'p> Node<'p> {
     /// Starts a session of a cast, at the start node of its graph, or gives the first cause for which it is refused. After a
     /// refusal the node is as before, and if memory runs out the notes are too. No memory is taken before the graph, the cast and the keys
-    /// are found right. `OutOfMemory` is also given if the first program for the starting role is of another graph with the same digest, so
-    /// that SHA-256 has collided.
+    /// are found right.
     pub fn begin(
         &mut self,
         cast: Cast,
@@ -56,9 +54,7 @@ impl<'p> Node<'p> {
         if let Some(name) = self.keys.covers(&cast) {
             return Ok(Err(StartRefusal::UnknownPeer { name }));
         }
-        if !is_first(self.programs, &cast.graph(), program) {
-            return Err(AllocError);
-        }
+        facts_of_starter(self.programs, &cast.graph(), program);
         self.begin_in(program, cast, notes)
     }
 

@@ -209,9 +209,9 @@ module _ (sha : Hash) (hash : IsHash sha) (s : Schedule) (ps : List Past) (cours
   starts : (xs : List Program) → Own_ xs → (p : Program) → starter xs first.cast.graph ≡ Some p → role_at (shape first.program.graph) 0 ≡ p.role
   starts xs own p e =
       let h = starter_found xs first.cast.graph p e in
-      let ip = rec_in (λ (q : Program). IsProgram sha q × In s.graphs q.graph) xs p own h.2 in
-      let q : p.graph ≡ first.program.graph = W.same_digest sha hash s ps course is_course sid premises first p.graph first.program.graph ip.1 (first.own).1 (sym (ip.0).digest ∙ h.0 ∙ sym first.digest ∙ tp.digest) in
-      ap (λ z. role_at (shape z) 0) (sym q) ∙ sym h.1
+      let ip = rec_in (λ (q : Program). IsProgram sha q × In s.graphs q.graph) xs p own h.there in
+      let q : p.graph ≡ first.program.graph = W.same_digest sha hash s ps course is_course sid premises first p.graph first.program.graph ip.1 (first.own).1 (sym (ip.0).digest ∙ h.digest_is ∙ sym first.digest ∙ tp.digest) in
+      ap (λ z. role_at (shape z) 0) (sym q) ∙ sym h.role_is
 
   was_sent_ : (l : Logged) (who : Name) (bs : List ℕ) (f : Frame) → IsTaken (run_of sha ps course) l who bs f → f.sid ≡ sid → honest_role s first.cast f.sender ≡ true → In first.cast.names who → In first.cast.names (principal first.cast f.sender) → WasSent (run_of sha ps course) l.number (principal first.cast f.sender) bs f
   was_sent_ l who bs f t q h i j = (receipts_are_of_sends sha hash s ps course is_course premises l who bs f first.cast t (ap (λ z. cast_of_session z (run_of sha ps course).log) q ∙ first.is_cast) h).1

@@ -75,8 +75,8 @@ module _ (sha : Hash) (sid : List ℕ) where
             fits = fits;
             is_hashed = inl refl;
             program = p;
-            there = (starter_found n.programs c.graph p sp).2;
-            digest = (starter_found n.programs c.graph p sp).0;
+            there = (starter_found n.programs c.graph p sp).there;
+            digest = (starter_found n.programs c.graph p sp).digest_is;
             differ = cast_differ n.keys p.graph c p.role (no_start_row sha n c p e).cast;
             lengths = cast_length n.keys p.graph c p.role (no_start_row sha n c p e).cast;
           }

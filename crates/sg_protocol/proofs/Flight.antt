@@ -1,8 +1,8 @@
 -- In a session of honest principals, each frame but the last one was taken, and each role holds what was done until its last step or receipt.
-use Rattle.std.specs.Prelude.{◌&&◌, ◌≡◌, ◌≢◌, ℕ, ◌+◌, ◌<◌, ◌==◌, ◌⊎◌, Bool, true, false, not, if◌then◌else◌, List, [], ◌∷◌, ◌++◌, map, filter, flat_map, find, length, bytes_eq, refl, Option, Some, None, option_map, IfSome, Ok}
+use Rattle.std.specs.Prelude.{◌≡◌, ◌≢◌, ℕ, ◌+◌, ◌<◌, ◌==◌, ◌⊎◌, Bool, true, false, not, if◌then◌else◌, List, [], ◌∷◌, ◌++◌, map, filter, flat_map, find, length, bytes_eq, refl, Option, Some, None, option_map, IfSome, Ok}
 use Rattle.std.specs.List.{AllByRecursion, cons_option, list_any}
 use Rattle.std.proofs.Common.{sym, ◌∙◌, ap, subst, inl, inr, arith, append-nil, append_assoc}
-use Rattle.std.proofs.lemmas.Bool.{cases_Bool, eqb-true, eq-eqb, ne_eqb, not-true, and_from, and_parts}
+use Rattle.std.proofs.lemmas.Bool.{cases_Bool, eqb-true, eq-eqb, ne_eqb, not-true}
 use Rattle.std.proofs.lemmas.List.{map-append}
 use Rattle.std.proofs.lemmas.Slice.Eq.{bytes_eq-Decides}
 use Rattle.sg_model.specs.Last.{has, last, last_or, last_of, after_last}
@@ -12,7 +12,7 @@ use Rattle.sg_model.specs.Values.{Opening}
 use Rattle.sg_model.specs.Names.{Name}
 use Rattle.sg_model.proofs.Small.{clash, same_bytes, bytes_same, or_true, all_weaker, first_false, lt_of, not_empty}
 use Rattle.sg_model.proofs.Members.{In, in_from_Contains, contains_from_in, in_left, in_parts, in_last, split_at_end, in_split, split_in, two_splits}
-use Rattle.sg_model.proofs.Finding.{find_passes, found_in, find_some, find-filter, none_filter}
+use Rattle.sg_model.proofs.Finding.{find_passes, find-filter, none_filter}
 use Rattle.sg_protocol.specs.Graph.{Graph, IsGraph, shape, reads}
 use Rattle.sg_protocol.specs.Accepted.{Accepted}
 use Rattle.sg_protocol.specs.Frame.{Cast, Frame, Item}
@@ -66,6 +66,7 @@ use Rattle.sg_protocol.proofs.Splits.{rises_mid, role_small}
 use Rattle.sg_protocol.proofs.First.{keys_after}
 use Rattle.sg_protocol.proofs.LiveSessions.{sends_sid}
 use Rattle.sg_protocol.proofs.OfSid.{of_sid, for_sid}
+use Rattle.sg_protocol.proofs.NoRows.{starter_found}
 
 next_programs : (sha : Hash) (who : Name) (c : Call) (p : Past) → (next_past sha who c p).programs ≡ p.programs
 next_programs sha who c p = elim (cases_Bool (bytes_eq p.keys.me who)) [ inl e ↦ rw e refl | inr e ↦ rw e refl ]
@@ -640,9 +641,8 @@ module _ {sha : Hash} {s : Schedule} {sid : List ℕ} {cast : Cast} {g : Graph} 
         let q : Silent l0 = happened_silent (Started sid h.role) h.is_answer in
         let st : Starting h.role = unjoined_new h.role h.is_who h.inside h.none h.unjoined (fl.tracks who past its_past) in
         let first : at_turn g (new_session sid cast h.role) ≡ true = eq-eqb (role_at (shape g) 0) h.role (known.starts past.programs own h.program h.found_p ∙ h.its_role) in
-        let d = and_parts (bytes_eq (h.program).digest cast.graph) ((h.program).role == role_at (shape (h.program).graph) 0) (find_passes (λ (p : Program). bytes_eq p.digest cast.graph && (p.role == role_at (shape p.graph) 0)) past.programs h.program h.found_p) in
-        let its_p = find_some (λ (p : Program). bytes_eq p.digest cast.graph && (p.role == h.role)) past.programs h.program (found_in (λ (p : Program). bytes_eq p.digest cast.graph && (p.role == role_at (shape p.graph) 0)) past.programs h.program h.found_p) (and_from (bytes_eq (h.program).digest cast.graph) ((h.program).role == h.role) d.0 (eq-eqb (h.program).role h.role h.its_role)) in
-        held (new_session sid cast h.role) its_p h.now refl (subst (λ l. Relay_ l (new_session sid cast h.role)) (sym (same_items w.log l0 q)) st.relay_) first
+        let its_p = subst (λ r. program_for past.programs cast.graph r ≡ Some h.program) h.its_role (starter_found past.programs cast.graph h.program h.found_p).meant in
+        held (new_session sid cast h.role) (h.program, its_p) h.now refl (subst (λ l. Relay_ l (new_session sid cast h.role)) (sym (same_items w.log l0 q)) st.relay_) first
 
     started_take : HasStarted_ who n n' a → NoTake l0
     started_take h f i o = (let z : Answered (Happened (Started sid h.role)) ≡ Answered (Happened (receipt f)) = ap (λ z. Answered z) (sym h.is_answer) ∙ o in absurd (cc))

@@ -1,5 +1,5 @@
 -- What happens in a run, one after another, whether a schedule says it or principals run apart.
-use Rattle.std.specs.Prelude.{◌≡◌, ℕ, suc, ◌+◌, ◌==◌, nat_lt, ◌&&◌, IsTrue, true, List, [], ◌∷◌, ◌++◌, find, length, bytes_eq, refl, Option, Some, None, option_map, option_and_then, All, ⊤, map}
+use Rattle.std.specs.Prelude.{◌≡◌, ℕ, suc, ◌+◌, ◌==◌, nat_lt, IsTrue, true, List, [], ◌∷◌, ◌++◌, find, length, bytes_eq, refl, Option, Some, None, option_map, option_and_then, All, ⊤, map}
 use Rattle.std.specs.List.{AllByRecursion}
 use Rattle.std.specs.Option.{option_map_or}
 use Rattle.std.proofs.Common.{sym, ◌∙◌, ap, subst, inl, inr, arith, append-nil}
@@ -8,11 +8,9 @@ use Rattle.std.proofs.lemmas.Slice.Eq.{bytes_eq-Decides}
 use Rattle.sg_model.specs.Bytes.{IsBytes, AreBytes}
 use Rattle.sg_model.specs.Lists.{all_differ}
 use Rattle.sg_model.specs.Names.{Name, is_name}
-use Rattle.sg_model.specs.Shape.{role_at}
 use Rattle.sg_model.proofs.Small.{all_weaker, clash, same_bytes}
-use Rattle.sg_model.proofs.Members.{In}
-use Rattle.sg_model.proofs.Finding.{find_all}
-use Rattle.sg_protocol.specs.Graph.{IsGraph, shape}
+use Rattle.sg_model.proofs.Members.{In, rec_in}
+use Rattle.sg_protocol.specs.Graph.{IsGraph}
 use Rattle.sg_protocol.specs.Frame.{Cast, Frame}
 use Rattle.sg_protocol.specs.Texts.{Hash, IsHash, session_id, session_text_of}
 use Rattle.sg_protocol.specs.TextLaws.{IsVersion, CastFits}
@@ -32,6 +30,7 @@ use Rattle.sg_protocol.specs.Bounds.{IsSession, IsShortFrame}
 use Rattle.sg_protocol.proofs.Nodes.{start_all, start_sends}
 use Rattle.sg_protocol.proofs.Progressing.{Suffix, suffix_refl, suffix_one, suffix_trans, next_past, past_called, past_called_at}
 use Rattle.sg_protocol.proofs.Ranges.{new_in_range, node_in_range, sent_in_range}
+use Rattle.sg_protocol.proofs.NoRows.{starter_found}
 
 -- a principal is asked, or an entry without a call is logged
 pub data Happening : Type 0 where
@@ -90,7 +89,7 @@ cast_given c h = record { version = h.version; graph = h.graph.0; nonce = h.nonc
 -- a session that a node starts has as many principals as its graph has roles, so a node's sessions stay in range
 pub given_in_range : (sha : Hash) → IsHash sha → (n : Node) → AllByRecursion (IsProgram sha) n.programs → AllByRecursion IsSession n.live → (c : Call) → IsGiven c → AllByRecursion IsSession (node_after n c (answer sha n c)).live
 given_in_range sha hash n programs live (Start c) h = start_all sha n IsSession live c (λ p b.
-    let ip : IsProgram sha p = find_all (λ (p : Program). bytes_eq p.digest c.graph && (p.role == role_at (shape p.graph) 0)) (IsProgram sha) n.programs p programs b.found in
+    let ip : IsProgram sha p = rec_in (IsProgram sha) n.programs p programs (starter_found n.programs c.graph p b.found).there in
     let len : length c.names ≡ length p.graph.roles = eqb-true (length c.names) (length p.graph.roles) (and_parts (length c.names == length p.graph.roles) (all_differ c.names) (and_parts _ (nat_lt p.role (length c.names)) (and_parts _ (bytes_eq (principal c p.role) n.keys.me) b.cast).0).0).0 in
     new_in_range (session_id sha c) c p.role (hash (session_text_of c))
     (record { version = h.version; fields = record { version = refl; graph = h.graph; nonce = h.nonce; count = ((let a = ip.accepted.two_roles in omega (arith, a, len)), (let a = ip.is_graph.sizes.0 in omega (arith, a, len))); names = h.names } })

@@ -1,16 +1,17 @@
 -- The live sessions of any node are sound.
-use Rattle.std.specs.Prelude.{◌≡◌, ◌≢◌, ℕ, ◌<◌, ◌==◌, ◌&&◌, Bool, true, false, List, [], ◌∷◌, map, length, find, bytes_eq, refl, Some, None, IfSome, IsSomeAnd}
+use Rattle.std.specs.Prelude.{◌≡◌, ◌≢◌, ℕ, ◌<◌, ◌==◌, ◌&&◌, true, false, List, [], ◌∷◌, map, length, bytes_eq, refl, Some, None, IfSome, IsSomeAnd}
 use Rattle.std.specs.List.{AllByRecursion}
-use Rattle.std.proofs.Common.{sym, ◌∙◌, ap, subst, inl, inr, arith}
-use Rattle.std.proofs.lemmas.Bool.{cases_Bool, eqb-true, eq-eqb, and_parts}
+use Rattle.std.proofs.Common.{sym, ◌∙◌, ap, subst, arith}
+use Rattle.std.proofs.lemmas.Bool.{eqb-true, and_parts}
 use Rattle.std.proofs.lemmas.List.Elements.{All-from_recursion, recursion_from_All}
 use Rattle.sg_model.specs.Last.{Map, last}
 use Rattle.sg_model.specs.Lists.{first_some, rises_from}
 use Rattle.sg_model.specs.Shape.{role_at}
 use Rattle.sg_model.specs.Values.{Value, Opening}
 use Rattle.sg_model.proofs.Small.{clash}
+use Rattle.sg_model.proofs.Members.{rec_in}
 use Rattle.sg_model.proofs.LastOf.{eqb_same}
-use Rattle.sg_model.proofs.Finding.{find_passes, find_all}
+use Rattle.sg_model.proofs.Finding.{find_passes}
 use Rattle.sg_protocol.specs.Graph.{shape, writes}
 use Rattle.sg_protocol.specs.Evidence.{View}
 use Rattle.sg_protocol.specs.Frame.{Cast, Item, Frame, IsCastOf}
@@ -45,7 +46,7 @@ use Rattle.sg_protocol.proofs.Paths.{writes_rise}
 use Rattle.sg_protocol.proofs.Ranges.{new_in_range, extended_in_range, taken_in_range, joined_in_range, GivesInRange, gives_in_range}
 use Rattle.sg_protocol.proofs.ReadBack.{read-SpellsFrame}
 use Rattle.sg_protocol.proofs.Takes.{Rows, rows_of}
-use Rattle.sg_protocol.proofs.NoRows.{IsFor, found_for}
+use Rattle.sg_protocol.proofs.NoRows.{found_for, starter_found}
 
 -- ---- sessions
 
@@ -136,17 +137,6 @@ sessions_are_sound sha hash = record {
 
 -- ---- nodes
 
--- if one is found that passes another test too, that test finds one
-found_too : (A : Type 0) (p q : A → Bool) (xs : List A) (x : A) → find p xs ≡ Some x → q x ≡ true → (y : A) × (find q xs ≡ Some y)
-found_too A p q [] x e h = absurd (cc)
-found_too A p q (z ∷ zs) x e h = elim (cases_Bool (q z)) [
-  | inl d ↦ (z, rw d refl)
-  | inr d ↦ elim (cases_Bool (p z)) [
-    | inl k ↦ (let f : Some z ≡ Some x = rw k at e in let same : z ≡ x = cc in absurd (clash (q z) (ap q same ∙ h) d))
-    | inr k ↦ (let r = found_too A p q zs x (rw k at e) h in (r.0, rw d r.1))
-  ]
-]
-
 module _ (sha : Hash) (hash : IsHash sha) (n : Node) (programs : AllByRecursion (IsProgram sha) n.programs) where
   abbrev Live : Session → Type 0
   Live s = IsLive sha n.programs s
@@ -159,13 +149,10 @@ module _ (sha : Hash) (hash : IsHash sha) (n : Node) (programs : AllByRecursion 
 
   pub start_sound : (c : Cast) → IsCast c → (p : Program) → Begun sha n c p → IsLive sha n.programs (new_session (session_id sha c) c p.role)
   start_sound c h p b =
-      let st : Program → Bool = λ (p : Program). bytes_eq p.digest c.graph && (p.role == role_at (shape p.graph) 0) in
-      let ip : IsProgram sha p = find_all st (IsProgram sha) n.programs p programs b.found in
-      let d : bytes_eq p.digest c.graph ≡ true = (and_parts (bytes_eq p.digest c.graph) (p.role == role_at (shape p.graph) 0) (find_passes st n.programs p b.found)).0 in
+      let is = starter_found n.programs c.graph p b.found in
+      let ip : IsProgram sha p = rec_in (IsProgram sha) n.programs p programs is.there in
       let s : Session = new_session (session_id sha c) c p.role in
-      let too = found_too Program st (λ (q : Program). bytes_eq q.digest c.graph && (q.role == p.role)) n.programs p b.found (rw d (eq-eqb p.role p.role refl)) in
-      let f : IsFor sha n.programs c.graph p.role too.0 = found_for sha n.programs programs c.graph p.role too.0 too.1 in
-      at_live s too.0 too.1 (new_sound sha too.0 s refl (new_in_range (session_id sha c) c p.role (hash (session_text_of c)) h (role_in p ip)) f.digest_is f.role_is)
+      at_live s p is.meant (new_sound sha p s refl (new_in_range (session_id sha c) c p.role (hash (session_text_of c)) h (role_in p ip)) (sym is.digest_is) refl)
     where
       role_in : (p : Program) → IsProgram sha p → p.role < 16
       role_in p ip = let a = ip.role in let b = ip.is_graph.sizes.0 in omega (arith, a, b)

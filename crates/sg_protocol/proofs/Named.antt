@@ -8,14 +8,13 @@ use Rattle.std.proofs.lemmas.Bool.{cases_Bool, eqb-true, and_parts, not-false}
 use Rattle.std.proofs.lemmas.List.Elements.{recursion_from_All}
 use Rattle.sg_model.specs.Last.{Map, last}
 use Rattle.sg_model.specs.Lists.{first_some, is_in, keys_of, below}
-use Rattle.sg_model.specs.Shape.{role_at}
 use Rattle.sg_model.specs.Names.{Name}
 use Rattle.sg_model.specs.Values.{Value, Opening}
 use Rattle.sg_model.proofs.Small.{clash, same_bytes, bytes_same, lt_of}
 use Rattle.sg_model.proofs.Numbers.{below_in}
-use Rattle.sg_model.proofs.Members.{In, in_from_Contains, in_left}
-use Rattle.sg_model.proofs.Finding.{find_passes, find_all, found_in}
-use Rattle.sg_protocol.specs.Graph.{Graph, shape, writes, reads}
+use Rattle.sg_model.proofs.Members.{In, in_from_Contains, in_left, rec_in}
+use Rattle.sg_model.proofs.Finding.{find_passes, found_in}
+use Rattle.sg_protocol.specs.Graph.{Graph, writes, reads}
 use Rattle.sg_protocol.specs.Evidence.{View}
 use Rattle.sg_protocol.specs.Frame.{Cast, Item, Frame}
 use Rattle.sg_protocol.specs.Reading.{read}
@@ -39,7 +38,7 @@ use Rattle.sg_protocol.proofs.Gives.{keys_are}
 use Rattle.sg_protocol.proofs.Moves.{writes_below}
 use Rattle.sg_protocol.proofs.Sent.{reads_in}
 use Rattle.sg_protocol.proofs.Takes.{Rows, rows_of}
-use Rattle.sg_protocol.proofs.NoRows.{IsFor, found_for}
+use Rattle.sg_protocol.proofs.NoRows.{IsFor, found_for, starter_found}
 
 -- ---- lists
 
@@ -176,21 +175,20 @@ module _ (sha : Hash) (n : Node) (programs : AllByRecursion (IsProgram sha) n.pr
       by_rows : (p : Program) → starter n.programs c.graph ≡ Some p → (o : Option StartFault) → started (session_id sha c) p.role o ≡ a → NamesFrom (Start c) a
       by_rows p q (Some f) e = absurd (let z : false ≡ true = ap names_numbers e ∙ h in cc)
       by_rows p q None e =
-          let st : Program → Bool = λ (p : Program). bytes_eq p.digest c.graph && (p.role == role_at (shape p.graph) 0) in
-          let ip : IsProgram sha p = find_all st (IsProgram sha) n.programs p programs q in
-          let d : bytes_eq p.digest c.graph ≡ true = (and_parts (bytes_eq p.digest c.graph) (p.role == role_at (shape p.graph) 0) (find_passes st n.programs p q)).0 in
+          let is = starter_found n.programs c.graph p q in
+          let ip : IsProgram sha p = rec_in (IsProgram sha) n.programs p programs is.there in
           subst (NamesFrom (Start c)) e record {
             is_named = record {
               program = p;
               session = new_session (session_id sha c) c p.role;
               is_session = ap (option_map (λ (p : Program). (p, new_session (session_id sha c) c p.role))) q;
               is_call = bytes_same (session_id sha c) (session_id sha c) refl;
-              is_graph = sym (same_bytes p.digest c.graph d);
+              is_graph = sym is.digest_is;
               is_role = refl;
               named = ip.role;
               event = λ v i. let s = one_event (Started (session_id sha c) p.role) v i in (ap sid_of s, ap role_of s);
             };
-            there = found_in st n.programs p q;
+            there = is.there;
             is_from = inr (refl, refl, subst (λ z. In (notes_of_start c z).hashed (session_text_of c)) (sym (full ∙ sym e)) (inl refl));
           }
 

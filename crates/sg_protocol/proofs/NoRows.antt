@@ -1,14 +1,14 @@
 -- What is known of a start or a frame that no row refuses, and of the program that is found for it.
-use Rattle.std.specs.Prelude.{◌≡◌, ℕ, ◌<◌, nat_lt, nat_le, ◌&&◌, ◌==◌, true, false, not, List, [], ◌∷◌, length, bytes_eq, refl, Option, Some, None, option_map, option_and_then, IfSome, Ok}
+use Rattle.std.specs.Prelude.{◌≡◌, ℕ, ◌<◌, nat_lt, nat_le, ◌&&◌, ◌==◌, Bool, true, false, if◌then◌else◌, not, List, [], ◌∷◌, length, bytes_eq, find, refl, Option, Some, None, option_map, option_and_then, IfSome, Ok}
 use Rattle.std.specs.Option.{option_map_or}
 use Rattle.std.specs.List.{AllByRecursion}
-use Rattle.std.proofs.Common.{sym, ◌∙◌, ap, subst, inl}
-use Rattle.std.proofs.lemmas.Bool.{and_parts, eqb-true, not-false}
+use Rattle.std.proofs.Common.{sym, ◌∙◌, ap, subst, inl, inr}
+use Rattle.std.proofs.lemmas.Bool.{cases_Bool, and_parts, eqb-true, eq-eqb, not-false}
 use Rattle.sg_model.specs.Lists.{first_some}
 use Rattle.sg_model.specs.Shape.{role_at}
 use Rattle.sg_model.proofs.Finding.{find_passes, found_in}
 use Rattle.sg_model.proofs.Members.{In, in_left, rec_in}
-use Rattle.sg_model.proofs.Small.{lt_of, none_parts, same_bytes}
+use Rattle.sg_model.proofs.Small.{clash, lt_of, none_parts, same_bytes, some_same}
 use Rattle.sg_protocol.specs.Graph.{Graph, shape}
 use Rattle.sg_protocol.specs.Frame.{Cast, Frame, IsCastOf}
 use Rattle.sg_protocol.specs.Spelling.{HasSpelling}
@@ -18,7 +18,7 @@ use Rattle.sg_protocol.specs.Keyring.{Keyring, Program}
 use Rattle.sg_protocol.specs.Session.{Session, new_session, principal}
 use Rattle.sg_protocol.specs.Calls.{Refusal, StartFault}
 use Rattle.sg_protocol.specs.Calls.Refusal.{UnknownSession, UnknownGraph, BadCast, UnknownPeer, BadSession, Joined, CacheFull, SessionsFull}
-use Rattle.sg_protocol.specs.Node.{Node, is_cast, stranger, has_joined, program_for, starter, session_for}
+use Rattle.sg_protocol.specs.Node.{Node, is_cast, stranger, has_joined, program_for, starts, starter, session_for}
 use Rattle.sg_protocol.specs.Verdict.{row, rows, rows_of_session, rows_of_join, rows_of_next, join_rows, next_rows}
 use Rattle.sg_protocol.specs.Acting.{rows_of_start}
 use Rattle.sg_protocol.specs.Notes.{session_of_frame, notes_of_read, hashed_of_join, row_number}
@@ -43,11 +43,52 @@ pub record IsFor (sha : Hash) (ps : List Program) (digest : List ℕ) (r : ℕ) 
 pub found_for : (sha : Hash) (ps : List Program) → AllByRecursion (IsProgram sha) ps → (digest : List ℕ) (r : ℕ) (p : Program) → program_for ps digest r ≡ Some p → IsFor sha ps digest r p
 found_for sha ps are digest r p e = let b = program_found ps digest r p e in record { is_program = rec_in (IsProgram sha) ps p are b.2; digest_is = sym b.0; role_is = sym b.1; there = b.2 }
 
--- a program that is found for a graph and the role that starts it
-pub starter_found : (ps : List Program) (digest : List ℕ) (p : Program) → starter ps digest ≡ Some p → (p.digest ≡ digest) × (p.role ≡ role_at (shape p.graph) 0) × In ps p
-starter_found ps digest p e =
-    let b = and_parts (bytes_eq p.digest digest) (p.role == role_at (shape p.graph) 0) (find_passes (λ (p : Program). bytes_eq p.digest digest && (p.role == role_at (shape p.graph) 0)) ps p e) in
-    (same_bytes p.digest digest b.0, eqb-true p.role (role_at (shape p.graph) 0) b.1, found_in (λ (p : Program). bytes_eq p.digest digest && (p.role == role_at (shape p.graph) 0)) ps p e)
+-- two that are found first, each of which passes the other's test, are one
+same_first : {A : Type 0} (p q : A → Bool) (xs : List A) (a b : A) → find p xs ≡ Some a → find q xs ≡ Some b → q a ≡ true → p b ≡ true → b ≡ a
+same_first p q [] a b e f g h = absurd (cc)
+same_first p q (x ∷ xs) a b e f g h = elim (cases_Bool (p x)) [
+  | inl i ↦
+      let xa : x ≡ a = some_same (sym (ap (λ t. if t then Some x else find p xs) i) ∙ e) in
+      let qx : q x ≡ true = ap q xa ∙ g in
+      sym (some_same (sym (ap (λ t. if t then Some x else find q xs) qx) ∙ f)) ∙ xa
+  | inr i ↦ elim (cases_Bool (q x)) [
+    | inl j ↦ clash (p x) (ap p (some_same (sym (ap (λ t. if t then Some x else find q xs) j) ∙ f)) ∙ h) i
+    | inr j ↦ same_first p q xs a b (sym (ap (λ t. if t then Some x else find p xs) i) ∙ e) (sym (ap (λ t. if t then Some x else find q xs) j) ∙ f) g h
+  ]
+]
+
+-- a program that is found for a graph and the role that starts it, is the program for them
+pub record IsStarter (ps : List Program) (digest : List ℕ) (p : Program) : Type 0 where
+  pub digest_is : p.digest ≡ digest
+  pub role_is : p.role ≡ role_at (shape p.graph) 0
+  pub there : In ps p
+  pub meant : program_for ps digest p.role ≡ Some p
+
+pub starter_found : (ps : List Program) (digest : List ℕ) (p : Program) → starter ps digest ≡ Some p → IsStarter ps digest p
+starter_found ps digest p e = by (program_for ps digest p.role) refl
+  where
+    begins : Program → Bool
+    begins z = bytes_eq z.digest digest && option_map_or starts (program_for ps digest z.role) false
+
+    its : (bytes_eq p.digest digest ≡ true) × (option_map_or starts (program_for ps digest p.role) false ≡ true)
+    its = and_parts (bytes_eq p.digest digest) (option_map_or starts (program_for ps digest p.role) false) (find_passes begins ps p e)
+
+    by : (o : Option Program) → program_for ps digest p.role ≡ o → IsStarter ps digest p
+    by None f = clash (option_map_or starts (program_for ps digest p.role) false) its.1 (ap (λ o. option_map_or starts o false) f)
+    by (Some z) f =
+        let h = program_found ps digest p.role z f in
+        let s : starts z ≡ true = sym (ap (λ o. option_map_or starts o false) f) ∙ its.1 in
+        let same : z ≡ p = same_first begins (λ (q : Program). bytes_eq q.digest digest && (q.role == p.role)) ps p z e f
+            (ap (λ t. t && (p.role == p.role)) its.0 ∙ eq-eqb p.role p.role refl)
+            (ap (λ d. bytes_eq d digest && option_map_or starts (program_for ps digest z.role) false) (h.0 ∙ sym (same_bytes p.digest digest its.0))
+            ∙ ap (λ t. t && option_map_or starts (program_for ps digest z.role) false) its.0
+            ∙ ap (λ r. option_map_or starts (program_for ps digest r) false) h.1 ∙ its.1) in
+        record {
+          digest_is = same_bytes p.digest digest its.0;
+          role_is = eqb-true p.role (role_at (shape p.graph) 0) (sym (ap starts same) ∙ s);
+          there = found_in begins ps p e;
+          meant = f ∙ ap (λ z. Some z) same;
+        }
 
 -- ---- casts
 

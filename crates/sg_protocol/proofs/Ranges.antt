@@ -7,9 +7,8 @@ use Rattle.std.proofs.lemmas.List.Elements.{All-from_recursion, recursion_from_A
 use Rattle.sg_model.specs.Bytes.{AreBytes}
 use Rattle.sg_model.specs.Last.{Map, last, last_or}
 use Rattle.sg_model.specs.Lists.{first_some, keys_of}
-use Rattle.sg_model.specs.Shape.{role_at}
 use Rattle.sg_model.specs.Values.{Value, Opening}
-use Rattle.sg_protocol.specs.Graph.{shape, writes}
+use Rattle.sg_protocol.specs.Graph.{writes}
 use Rattle.sg_protocol.specs.Frame.{Cast, Item, Frame, IsItem, IsValue, IsOpening, IsCastOf}
 use Rattle.sg_protocol.specs.Spelling.{HasSpelling}
 use Rattle.sg_protocol.specs.Texts.{Hash, IsHash, session_id, session_text_of}
@@ -20,6 +19,7 @@ use Rattle.sg_protocol.specs.Sending.{own_item, frame_sent}
 use Rattle.sg_protocol.specs.Calls.{Event, Call, Start, Act, Abandon, Deliver, Sends}
 use Rattle.sg_model.specs.Names.{Name}
 use Rattle.sg_model.proofs.Small.{all-append, all_end}
+use Rattle.sg_model.proofs.Members.{rec_in}
 use Rattle.sg_model.proofs.Finding.{find_passes, find_all}
 use Rattle.sg_protocol.specs.Node.{Node, is_for}
 use Rattle.sg_protocol.specs.Acting.{openings_for, rows_of_act, answer}
@@ -31,6 +31,7 @@ use Rattle.sg_protocol.proofs.Acts as C
 use Rattle.sg_protocol.proofs.Bounds.{sent_is_short}
 use Rattle.sg_protocol.proofs.Gives.{keys_are}
 use Rattle.sg_protocol.proofs.Moves.{writes_below}
+use Rattle.sg_protocol.proofs.NoRows.{starter_found}
 use Rattle.sg_protocol.proofs.Nodes.{Begun, ActSent, act_sends, start_sends, abandon_sends, deliver_sends, start_all, abandon_all, act_all, deliver_all}
 use Rattle.sg_protocol.proofs.Paths.{flat_map-append}
 use Rattle.sg_protocol.proofs.ReadBack.{read-SpellsFrame}
@@ -136,7 +137,7 @@ module _ (sha : Hash) (hash : IsHash sha) (n : Node) (programs : AllByRecursion 
 
   started_in_range : (c : Cast) → IsCast c → (p : Program) → Begun sha n c p → IsSession (new_session (session_id sha c) c p.role)
   started_in_range c h p b =
-      let ip : IsProgram sha p = find_all (λ (p : Program). bytes_eq p.digest c.graph && (p.role == role_at (shape p.graph) 0)) (IsProgram sha) n.programs p programs b.found in
+      let ip : IsProgram sha p = rec_in (IsProgram sha) n.programs p programs (starter_found n.programs c.graph p b.found).there in
       new_in_range (session_id sha c) c p.role (hash (session_text_of c)) h (let a = ip.role in let b = ip.is_graph.sizes.0 in omega (arith, a, b))
 
   pub node_in_range : (c : Call) → IsCallInRange c → AllByRecursion IsSession (node_after n c (answer sha n c)).live

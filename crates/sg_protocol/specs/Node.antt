@@ -1,6 +1,7 @@
 -- A node, as its calls see it.
-use Rattle.std.specs.Prelude.{ℕ, List, length, ◌==◌, Bool, ◌&&◌, nat_lt, Option, bytes_eq, not, is_none, find}
+use Rattle.std.specs.Prelude.{ℕ, List, length, ◌==◌, Bool, false, ◌&&◌, nat_lt, Option, bytes_eq, not, is_none, find}
 use Rattle.std.specs.List.{list_any}
+use Rattle.std.specs.Option.{option_map_or}
 use Rattle.sg_model.specs.Lists.{all_differ}
 use Rattle.sg_model.specs.Names.{Name}
 use Rattle.sg_model.specs.Shape.{role_at}
@@ -16,13 +17,17 @@ pub record Node : Type 0 where
   pub joins : List (List ℕ × ℕ)
   pub live : List Session
 
--- the program for a graph and a role
+-- the program for a graph and a role: the first one that has them
 abbrev pub program_for : List Program → List ℕ → ℕ → Option Program
 program_for programs digest r = find (λ p. bytes_eq p.digest digest && (p.role == r)) programs
 
--- the program for a graph and the role that starts it
+-- the program's role starts its graph
+abbrev pub starts : Program → Bool
+starts p = p.role == role_at (shape p.graph) 0
+
+-- the program for a graph and the role that starts it: the first one with the digest for whose role that is the program of a starting role
 abbrev pub starter : List Program → List ℕ → Option Program
-starter programs digest = find (λ p. bytes_eq p.digest digest && (p.role == role_at (shape p.graph) 0)) programs
+starter programs digest = find (λ p. bytes_eq p.digest digest && option_map_or starts (program_for programs digest p.role) false) programs
 
 -- the pair was joined
 abbrev pub has_joined : List (List ℕ × ℕ) → List ℕ → ℕ → Bool

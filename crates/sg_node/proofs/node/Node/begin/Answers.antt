@@ -44,16 +44,6 @@ returns-clause-graph c = λ past st.
     same_graph c.begin_in.result (Some c.in-Some.program.now.graph) (graph_of_call real (node_of past) (Start c.args.cast)) c.begin_in.ensures.graph
     (sym (start_graph (node_of past) c.args.cast c.in-Some.program.now (subst (λ ps. starter ps c.args.cast.graph ≡ Some c.in-Some.program.now) st.programs found)))
 
-pub returns-then-not-is_first-clause-early : goal.returns-then-not-is_first-clause-early
-returns-then-not-is_first-clause-early c = λ past st.
-    let found : starter c.args.self.now.programs c.args.cast.graph ≡ Some c.in-Some.program.now = search rules in
-    let right : is_cast c.args.self.now.keys c.in-Some.program.now.graph c.args.cast c.in-Some.program.now.role ≡ true = search rules in
-    let covered : stranger c.args.self.now.keys c.args.cast ≡ None = search rules in
-    start_may (node_of past) c.args.cast c.in-Some.program.now
-    (subst (λ ps. starter ps c.args.cast.graph ≡ Some c.in-Some.program.now) st.programs found)
-    (subst (λ k. is_cast k c.in-Some.program.now.graph c.args.cast c.in-Some.program.now.role ≡ true) st.keys right)
-    (subst (λ k. stranger k c.args.cast ≡ None) st.keys covered)
-
 pub returns-clause-early : goal.returns-clause-early
 returns-clause-early c = λ past st.
     let found : starter c.args.self.now.programs c.args.cast.graph ≡ Some c.in-Some.program.now = search rules in
