@@ -28,10 +28,11 @@ counted p = record p { calls = one_more p.calls }
 abbrev pub failed : FaultPlan → FaultPlan
 failed p = record (counted p) { faults = one_more p.faults }
 
--- files in memory, each as the bytes of its name and its own bytes
+-- files in memory, each as the bytes of its name and its own bytes, and the name of the file for which a call last failed
 pub record FilesHeld : Type 0 where
   pub files : List (List ℕ × List ℕ)
   pub plan : FaultPlan
+  pub last : Option (List ℕ)
 
 -- a sink in memory: the bytes written, and how many there may be
 pub record SinkHeld : Type 0 where

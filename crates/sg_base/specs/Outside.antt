@@ -6,6 +6,19 @@ use Rattle.std.specs.Str.{bytes_eq}
 abbrev pub HasRisen : ℕ → ℕ → Type 0
 HasRisen old new = (old < new) ⊎ (2 ^ 64 - 1 ≤ old)
 
+-- the name of a file as far as a path may go, which has at most 4,095 bytes
+unfoldable pub as_path : List ℕ → List ℕ
+as_path name = take 4095 name
+
+-- the faults of files: how often a call failed, and the name of the file for which the last such call was, as far as a path may go
+pub record FileFaults : Type 0 where
+  pub count : ℕ
+  pub last : Option (List ℕ)
+
+-- a call for this file failed, and none did after it
+abbrev pub FailsAt : (file : List ℕ) → (old new : FileFaults) → Type 0
+FailsAt file old new = HasRisen old.count new.count × (new.last ≡ Some (as_path file))
+
 -- the items were added at the end of a list, if the list is known
 abbrev pub Appends : {A : Type 0} → Option (List A) → Option (List A) → List A → Type 0
 Appends {A} old new items = (before : List A) → old ≡ Some before → new ≡ Some (before ++ items)

@@ -6,6 +6,7 @@ mod byte_in;
 mod byte_out;
 mod chars;
 mod facts;
+mod last_path;
 mod memory;
 mod name;
 mod number;

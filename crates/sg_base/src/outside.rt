@@ -1,10 +1,10 @@
 //! The outside as traits: files, sinks of bytes, links, and random bytes.
 //!
 //! Each object that can fail has a count of faults. The count never falls, and a call answers `Failed` only if it rose in that
-//! call. What an object holds is known of objects in memory and not of those of the system, so the clauses on it speak of what is
+//! call. Files also tell for which file a call last failed. What an object holds is known of objects in memory and not of those of the system, so the clauses on it speak of what is
 //! known. At which address a link waits is known of each link.
-ghost use Rattle.std.specs.Prelude.{◌≡◌, ◌<◌, ◌≤◌, ℕ, List, [], ◌∷◌, Option, Some, None, take, drop, replicate, length, slice_index_or, OnOk, OnErr, IfOk, IfErr, IfSome, IfNone, IsSomeAnd};
-ghost use Rattle.sg_base.specs.Outside.{HasRisen, Appends, AppendsPrefix, TakesFirst, file_at};
+ghost use Rattle.std.specs.Prelude.{◌≡◌, ◌≢◌, ◌<◌, ◌≤◌, ℕ, List, [], ◌∷◌, Option, Some, None, take, drop, replicate, length, slice_index_or, OnOk, OnErr, IfOk, IfErr, IfSome, IfNone, IsSomeAnd};
+ghost use Rattle.sg_base.specs.Outside.{FileFaults, FailsAt, HasRisen, Appends, AppendsPrefix, TakesFirst, file_at};
 ghost use Rattle.sg_base.specs.declared.address.Addr.{Addr};
 
 use crate::{Addr, Sealed};
@@ -31,16 +31,17 @@ pub struct Failed;
 
 /// Files, by name.
 pub trait Files {
-    /// How often a call failed.
-    ghost faults: { Self → ℕ };
+    /// How often a call failed, and for which file one last did.
+    ghost faults: { Self → FileFaults };
 
     /// The files, each as the bytes of its name and its own bytes, if they are known.
     ghost held: { Self → Option (List (List ℕ × List ℕ)) };
 
     /// The whole file of a name, of at most `max` bytes, or `None` if there is no such file. No call changes the files.
     fn read(&mut self, alloc: Global, name: &str, max: u32) -> Result<Option<Vec<u8>>, FileFault>
-        ensures never_falls { faults self.old ≤ faults self.new }
-        ensures failed { result ≡ Err FileFault.Failed → HasRisen (faults self.old) (faults self.new) }
+        ensures never_falls { (faults self.old).count ≤ (faults self.new).count }
+        ensures failed { result ≡ Err FileFault.Failed → FailsAt name.now (faults self.old) (faults self.new) }
+        ensures no_fault { result ≢ Err FileFault.Failed → faults self.new ≡ faults self.old }
         ensures fits { IfOk result (λ found. IfSome found (λ bytes. length bytes.items ≤ max)) }
         ensures kept { held self.new ≡ held self.old }
 

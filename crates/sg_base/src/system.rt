@@ -1,7 +1,8 @@
 //! The files and the writers of the system. What they hold is not known: that a file is missing or too long, and which bytes
 //! were written, is what the system says.
-ghost use Rattle.std.specs.Prelude.{◌≡◌};
+ghost use Rattle.std.specs.Prelude.{◌≡◌, None};
 
+use crate::last_path::LastPath;
 use crate::{Failed, FileFault, Files, Sink};
 use std::alloc::Global;
 use std::io::{ErrorKind, Read, Write};
@@ -12,14 +13,19 @@ use std::{fs, io, rt};
 pub struct StdFiles<R: rt::Files> {
     rt: R,
     faults: u64,
+    last: LastPath,
 }
 
 impl<R: rt::Files + Drop> StdFiles<R> {
-    /// The files, with a count of faults of 0.
+    /// The files, of which none failed.
     pub fn new(rt: R) -> StdFiles<R>
-        ensures { ⟦<StdFiles<R> as Files>⟧.faults result ≡ 0 }
+        ensures { ⟦<StdFiles<R> as Files>⟧.faults result ≡ record { count = 0; last = None } }
     {
-        StdFiles { rt, faults: 0 }
+        StdFiles {
+            rt,
+            faults: 0,
+            last: LastPath::new(),
+        }
     }
 }
 
@@ -37,7 +43,7 @@ where
 impl<R: rt::Files + Drop> Files for StdFiles<R> {
     ghost use Rattle.std.specs.Prelude.{None};
 
-    ghost faults = { λ f. f.faults };
+    ghost faults = { λ f. record { count = f.faults; last = f.last } };
 
     ghost held = { λ _. None };
 
@@ -50,6 +56,7 @@ impl<R: rt::Files + Drop> Files for StdFiles<R> {
                 ErrorKind::OutOfMemory => Err(FileFault::OutOfMemory),
                 _ => {
                     self.faults = self.faults.saturating_add(1);
+                    self.last.put(name);
                     Err(FileFault::Failed)
                 }
             },

@@ -1,6 +1,7 @@
 -- Claims that are decided on a graph, file after file and claim after claim.
-use Rattle.std.proofs.Common.{◌≡◌, ℕ, ◌+◌, ◌≤◌, ◌<◌, inl, inr, Bool, ◌&&◌, List, [], ◌∷◌, ◌++◌, take, get_or, is_none, length, sym, ap, ◌∙◌, subst}
+use Rattle.std.proofs.Common.{◌≡◌, ℕ, ◌+◌, ◌<◌, Bool, ◌&&◌, List, [], ◌∷◌, ◌++◌, take, get_or, is_none, length, sym, ap, ◌∙◌, subst}
 use Rattle.std.proofs.lemmas.List.{take_more}
+use Rattle.sg_base.specs.Outside.{FileFaults}
 use Rattle.sg_claims.specs.Answers.{IsAnswer}
 use Rattle.sg_claims.specs.declared.claim.NamedClaim.{NamedClaim}
 use Rattle.sg_claims.specs.declared.decision.Answer.{Answer}
@@ -9,17 +10,12 @@ use Rattle.sg_protocol.specs.Graph.{Graph, shape}
 use Rattle.sg_ending.specs.Ending.{Ending}
 use Rattle.sg_ending.specs.Files.{KnownFiles}
 use Rattle.sg_ending.specs.Output.{Output}
-use Rattle.sg_design.specs.Claimed.{AreAnswered, IsAgainst, OneMore, OnClaims, answer_line, most_claims_file, walk_in}
-use Rattle.sg_ending.proofs.Files.{unread}
+use Rattle.sg_design.specs.Claimed.{AreAnswered, IsAgainst, OneMore, OnClaims, answer_line, walk_in}
 
 -- the claims are read after the graph, which changed nothing of what the files hold
-pub on_later : (g : Graph) (claims : List ℕ) (known known' : KnownFiles) (f0 f1 f2 : ℕ) (old new : Output) (e : Ending) → known' ≡ known → f0 ≤ f1 → f1 ≤ f2
+pub on_later : (g : Graph) (claims : List ℕ) (known known' : KnownFiles) (f0 f1 f2 : FileFaults) (old new : Output) (e : Ending) → known' ≡ known → f1 ≡ f0
     → OnClaims g claims known' f1 f2 old new e → OnClaims g claims known f0 f2 old new e
-on_later g claims known known' f0 f1 f2 old new e same a b h = widened (subst (λ t. OnClaims g claims t f1 f2 old new e) same h)
-  where
-    widened : OnClaims g claims known f1 f2 old new e → OnClaims g claims known f0 f2 old new e
-    widened (inl u) = inl (u.0, unread most_claims_file claims known f0 f1 f2 e a b u.1)
-    widened (inr held) = inr held
+on_later g claims known known' f0 f1 f2 old new e same none h = subst (λ f. OnClaims g claims known f f2 old new e) none (subst (λ t. OnClaims g claims t f1 f2 old new e) same h)
 
 -- what there is against a claim is what its answer says
 against : (g : Graph) (c : NamedClaim) (a : Answer) → IsAnswer (shape g) c.claim a → IsAgainst g c (walk_in a)

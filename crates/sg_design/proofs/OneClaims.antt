@@ -1,6 +1,7 @@
 -- The endings of a command on a graph and its claims exclude each other.
 use Rattle.std.proofs.Common.{◌≡◌, ℕ, ◌⊎◌, inl, inr, Bool, true, false, ◌&&◌, if◌then◌else◌, List, [], ◌∷◌, ◌++◌, Option, Some, None, Err, All, is_none, refl, sym, ap, ◌∙◌, subst}
 use Rattle.std.proofs.lemmas.List.Elements.{All-nil, All-pop, All-push}
+use Rattle.sg_base.specs.Outside.{FileFaults}
 use Rattle.sg_claims.specs.declared.claim.NamedClaim.{NamedClaim}
 use Rattle.sg_claims_text.specs.Grammar.{SpellsClaims}
 use Rattle.sg_claims_text.specs.Reading.{read}
@@ -127,14 +128,14 @@ graphs_once = record {
 }
 
 module _ (files : List (List ℕ × List ℕ)) (claims : List ℕ) where
-  on_claims : (g : Graph) (m m' n n' : ℕ) (a a' b b' : Output) (x y : Ending) → IsGraph g → OnClaims g claims (Some files) m m' a a' x → OnClaims g claims (Some files) n n' b b' y
+  on_claims : (g : Graph) (m m' n n' : FileFaults) (a a' b b' : Output) (x y : Ending) → IsGraph g → OnClaims g claims (Some files) m m' a a' x → OnClaims g claims (Some files) n n' b b' y
       → is_of_outside x ≡ false → is_of_outside y ≡ false → Agree x y
   on_claims g m m' n n' a a' b b' x y is (inl (same, u)) (inl (same', v)) p q = inl (unread_once files most_claims_file claims m m' n n' x y u v p q)
-  on_claims g m m' n n' a a' b b' x y is (inl (same, u)) (inr h) p q = absurd (held_is_read files most_claims_file claims m m' (λ bytes. OnClaimsIn g bytes b b' y) x h u p)
-  on_claims g m m' n n' a a' b b' x y is (inr h) (inl (same, u)) p q = absurd (held_is_read files most_claims_file claims n n' (λ bytes. OnClaimsIn g bytes a a' x) y h u q)
+  on_claims g m m' n n' a a' b b' x y is (inl (same, u)) (inr h) p q = absurd (held_is_read files most_claims_file claims m m' (λ bytes. OnClaimsIn g bytes b b' y × (n' ≡ n)) x h u p)
+  on_claims g m m' n n' a a' b b' x y is (inr h) (inl (same, u)) p q = absurd (held_is_read files most_claims_file claims n n' (λ bytes. OnClaimsIn g bytes a a' x × (m' ≡ m)) y h u q)
   on_claims g m m' n n' a a' b b' x y is (inr h) (inr k) p q =
-      let (bytes, s, t) = held_once files most_claims_file most_claims_file claims (λ bytes. OnClaimsIn g bytes a a' x) (λ bytes. OnClaimsIn g bytes b b' y) h k in
-      one_claims g is bytes x y (claims_cause g is bytes a a' x s p) (claims_cause g is bytes b b' y t q)
+      let (bytes, s, t) = held_once files most_claims_file most_claims_file claims (λ bytes. OnClaimsIn g bytes a a' x × (m' ≡ m)) (λ bytes. OnClaimsIn g bytes b b' y × (n' ≡ n)) h k in
+      one_claims g is bytes x y (claims_cause g is bytes a a' x s.0 p) (claims_cause g is bytes b b' y t.0 q)
 
 accepting : (files : List (List ℕ × List ℕ)) (graph : List ℕ) (g : Graph) → Holds (Some files) most_graph_file graph (λ bytes. IsAcceptedText bytes g) → Holds (Some files) most_graph_file graph accepts
 accepting files graph g (bytes, at, few, s) = (bytes, at, few, (g, s))

@@ -1,5 +1,6 @@
 -- The command `claims` on a graph and claims always has an ending.
 use Rattle.std.proofs.Common.{ℕ, ◌⊎◌, inl, inr, Bool, true, false, List, [], Some, refl}
+use Rattle.sg_base.specs.Outside.{FileFaults}
 use Rattle.sg_claims.specs.declared.claim.NamedClaim.{NamedClaim}
 use Rattle.sg_claims_text.specs.Grammar.{SpellsClaims}
 use Rattle.sg_claims_text.specs.Reading.{read}
@@ -44,12 +45,12 @@ decided g bytes old =
 
 -- ---- the two files
 
-module _ (files : List (List ℕ × List ℕ)) (n : ℕ) (old : Output) where
+module _ (files : List (List ℕ × List ℕ)) (n : FileFaults) (old : Output) where
   on_claims : (claims : List ℕ) (g : Graph) → SomeEnding (λ new e. OnClaims g claims (Some files) n n old new e)
   on_claims claims g =
       elim (read_or_unread files most_claims_file claims n) [
         | inr u ↦ sure (old, u.0, u.1, inl (refl, u.2))
-        | inl b ↦ so (decided g b.0 old) (λ a. sure (a.0, a.1, a.2, inr (b.0, b.1, b.2, a.3)))
+        | inl b ↦ so (decided g b.0 old) (λ a. sure (a.0, a.1, a.2, inr (b.0, b.1, b.2, (a.3, refl))))
       ]
 
 pub claims_always : ClaimsEndAlways

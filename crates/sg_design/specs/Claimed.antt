@@ -1,5 +1,6 @@
 -- What is written of claims of a graph, which claims are suggested, and how the program ends by it.
 use Rattle.std.specs.Prelude.{◌≡◌, ◌≢◌, ℕ, ◌⊎◌, Bool, true, ◌&&◌, if◌then◌else◌, List, [], ◌∷◌, ◌++◌, All, Err, Option, Some, None, is_none, codes, length, ⊤}
+use Rattle.sg_base.specs.Outside.{FileFaults}
 use Rattle.sg_claims.specs.Breaks.{IsFirstBreak}
 use Rattle.sg_claims.specs.Suggestions.{AreSuggested}
 use Rattle.sg_claims.specs.declared.claim.NamedClaim.{NamedClaim}
@@ -117,13 +118,13 @@ abbrev pub OnClaimsIn : Graph → List ℕ → (old new : Output) → Ending →
 OnClaimsIn g bytes old new ending = ((new ≡ old) × RefusesClaims g bytes ending) ⊎ Decides g bytes old new ending
 
 -- the same of a file, which is not read, and nothing is written, or holds such bytes
-abbrev pub OnClaims : Graph → (claims : List ℕ) → KnownFiles → (faults faults' : ℕ) → (old new : Output) → Ending → Type 0
+abbrev pub OnClaims : Graph → (claims : List ℕ) → KnownFiles → (faults faults' : FileFaults) → (old new : Output) → Ending → Type 0
 OnClaims g claims known faults faults' old new ending =
     ((new ≡ old) × IsUnread most_claims_file claims known faults faults' ending)
-    ⊎ Holds known most_claims_file claims (λ bytes. OnClaimsIn g bytes old new ending)
+    ⊎ Holds known most_claims_file claims (λ bytes. OnClaimsIn g bytes old new ending × (faults' ≡ faults))
 
 -- the claims of a file are decided on the graph of another so: the graph is read and checked first, and if it is refused nothing is written
-abbrev pub DecidesClaims : (graph claims : List ℕ) → KnownFiles → (faults faults' : ℕ) → (old new : Output) → Ending → Type 0
+abbrev pub DecidesClaims : (graph claims : List ℕ) → KnownFiles → (faults faults' : FileFaults) → (old new : Output) → Ending → Type 0
 DecidesClaims graph claims known faults faults' old new ending =
     ((new ≡ old) × EndsAt known faults faults' most_graph_file graph RefusesGraph ending)
     ⊎ ((g : Graph) × Holds known most_graph_file graph (λ bytes. IsAcceptedText bytes g) × OnClaims g claims known faults faults' old new ending)

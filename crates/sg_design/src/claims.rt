@@ -48,7 +48,7 @@ fn accepted_graph<'w, F: Files>(
     ensures holds { IfOk result (λ g. Holds (F.held files.old) most_graph_file file.now (λ bytes. IsAcceptedText bytes g)) }
     ensures ends { IfErr result (λ ending. EndsAt (F.held files.old) (F.faults files.old) (F.faults files.new) most_graph_file file.now RefusesGraph (ending_held ending)) }
     ensures kept { F.held files.new ≡ F.held files.old }
-    ensures falls { F.faults files.old ≤ F.faults files.new }
+    ensures no_fault { OnOk result (F.faults files.new ≡ F.faults files.old) }
 {
     let bytes = read_file(alloc, file, files, MOST_GRAPH_BYTES)?;
     accepted(alloc, bytes.as_slice())
@@ -89,7 +89,6 @@ fn on_claims<'w, F: Files, O: Sink>(
     ensures kept { F.held files.new ≡ F.held files.old }
     ensures on { OnClaims graph.now file.now (F.held files.old) (F.faults files.old) (F.faults files.new)
         (record { bytes = O.written out.old; faults = O.faults out.old }) (record { bytes = O.written out.new; faults = O.faults out.new }) (ending_held result) }
-    ensures falls { F.faults files.old ≤ F.faults files.new }
 {
     match read_file(alloc, file, files, MOST_BYTES) {
         Ok(bytes) => decide_bytes(alloc, graph, bytes.as_slice(), out),

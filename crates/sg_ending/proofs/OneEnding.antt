@@ -1,7 +1,7 @@
 -- Endings exclude each other: what every command on one file needs.
 use Rattle.std.proofs.Common.{◌≡◌, ℕ, ◌≤◌, ◌<◌, inl, inr, false, List, [], ◌∷◌, length, Some, None, Result, Ok, Err, All, refl, sym, ap, ◌∙◌, subst, arith}
 use Rattle.std.specs.Prelude.{IsSomeAnd}
-use Rattle.sg_base.specs.Outside.{file_at}
+use Rattle.sg_base.specs.Outside.{FileFaults, file_at}
 use Rattle.sg_parse.specs.Grammar.{SpellsGraph}
 use Rattle.sg_parse.specs.Reading.{read as parsed}
 use Rattle.sg_parse.specs.declared.fault.ParseFault.{ParseFault}
@@ -69,7 +69,7 @@ data Unread (files : List (List ℕ × List ℕ)) (most : ℕ) (file : List ℕ)
   Missing : file_at files file ≡ None → Unread files most file (NoSuchFile file)
   TooLong : IsSomeAnd (file_at files file) (λ bytes. most < length bytes) → Unread files most file (TooLarge file)
 
-unread : (files : List (List ℕ × List ℕ)) (most : ℕ) (file : List ℕ) (m m' : ℕ) (e : Ending) → IsUnread most file (Some files) m m' e → is_of_outside e ≡ false → Unread files most file (asked e)
+unread : (files : List (List ℕ × List ℕ)) (most : ℕ) (file : List ℕ) (m m' : FileFaults) (e : Ending) → IsUnread most file (Some files) m m' e → is_of_outside e ≡ false → Unread files most file (asked e)
 unread files most file m m' (FileFailed arg) h n = absurd (cc)
 unread files most file m m' NoMemory h n = absurd (cc)
 unread files most file m m' (NoSuchFile arg) h n = subst (λ w. Unread files most file (NoSuchFile w)) (sym h.0) (Missing (h.1 files refl))
@@ -100,11 +100,11 @@ held_once files most much file S T (bytes, at, few, s) (others, at', few', t) =
     (others, subst S same s, t)
 
 -- a file that holds something is read
-pub held_is_read : (files : List (List ℕ × List ℕ)) (most : ℕ) (file : List ℕ) (m m' : ℕ) (S : List ℕ → Type 0) (e : Ending) → Holds (Some files) most file S → IsUnread most file (Some files) m m' e → is_of_outside e ≡ false → ⊥
+pub held_is_read : (files : List (List ℕ × List ℕ)) (most : ℕ) (file : List ℕ) (m m' : FileFaults) (S : List ℕ → Type 0) (e : Ending) → Holds (Some files) most file S → IsUnread most file (Some files) m m' e → is_of_outside e ≡ false → ⊥
 held_is_read files most file m m' S e (bytes, at, few, s) u p = read_or_unread files most file bytes (asked e) (at files refl) few (unread files most file m m' e u p)
 
 -- a file that isn't read asks for one ending
-pub unread_once : (files : List (List ℕ × List ℕ)) (most : ℕ) (file : List ℕ) (m m' n n' : ℕ) (x y : Ending) → IsUnread most file (Some files) m m' x → IsUnread most file (Some files) n n' y
+pub unread_once : (files : List (List ℕ × List ℕ)) (most : ℕ) (file : List ℕ) (m m' n n' : FileFaults) (x y : Ending) → IsUnread most file (Some files) m m' x → IsUnread most file (Some files) n n' y
     → is_of_outside x ≡ false → is_of_outside y ≡ false → asked x ≡ asked y
 unread_once files most file m m' n n' x y u v p q = one_unread files most file (asked x) (asked y) (unread files most file m m' x u p) (unread files most file n n' y v q)
 
@@ -115,24 +115,24 @@ pub record RefusedOnce (Such : List ℕ → Type 0) (Refuses : List ℕ → Endi
 
 -- so a file is refused in one way, or holds such bytes, and not both
 module _ (files : List (List ℕ × List ℕ)) (most : ℕ) (file : List ℕ) (Such : List ℕ → Type 0) (Refuses : List ℕ → Ending → Type 0) (r : RefusedOnce Such Refuses) where
-  pub ends_once : (m m' n n' : ℕ) (x y : Ending) → EndsAt (Some files) m m' most file Refuses x → EndsAt (Some files) n n' most file Refuses y → is_of_outside x ≡ false → is_of_outside y ≡ false → asked x ≡ asked y
+  pub ends_once : (m m' n n' : FileFaults) (x y : Ending) → EndsAt (Some files) m m' most file Refuses x → EndsAt (Some files) n n' most file Refuses y → is_of_outside x ≡ false → is_of_outside y ≡ false → asked x ≡ asked y
   ends_once m m' n n' x y (inl u) (inl v) p q = unread_once files most file m m' n n' x y u v p q
-  ends_once m m' n n' x y (inl u) (inr h) p q = absurd (held_is_read files most file m m' (λ bytes. Refuses bytes y) x h u p)
-  ends_once m m' n n' x y (inr h) (inl v) p q = absurd (held_is_read files most file n n' (λ bytes. Refuses bytes x) y h v q)
-  ends_once m m' n n' x y (inr h) (inr k) p q = (let (bytes, s, t) = held_once files most most file (λ bytes. Refuses bytes x) (λ bytes. Refuses bytes y) h k in r.once bytes x y s t p q)
+  ends_once m m' n n' x y (inl u) (inr h) p q = absurd (held_is_read files most file m m' (λ bytes. Refuses bytes y × (n' ≡ n)) x h u p)
+  ends_once m m' n n' x y (inr h) (inl v) p q = absurd (held_is_read files most file n n' (λ bytes. Refuses bytes x × (m' ≡ m)) y h v q)
+  ends_once m m' n n' x y (inr h) (inr k) p q = (let (bytes, s, t) = held_once files most most file (λ bytes. Refuses bytes x × (m' ≡ m)) (λ bytes. Refuses bytes y × (n' ≡ n)) h k in r.once bytes x y s.0 t.0 p q)
 
-  pub holds_or_ends : (m m' : ℕ) (x : Ending) → Holds (Some files) most file Such → EndsAt (Some files) m m' most file Refuses x → is_of_outside x ≡ false → ⊥
+  pub holds_or_ends : (m m' : FileFaults) (x : Ending) → Holds (Some files) most file Such → EndsAt (Some files) m m' most file Refuses x → is_of_outside x ≡ false → ⊥
   holds_or_ends m m' x h (inl u) p = held_is_read files most file m m' Such x h u p
-  holds_or_ends m m' x h (inr k) p = (let (bytes, s, t) = held_once files most most file Such (λ bytes. Refuses bytes x) h k in r.apart bytes x s t p)
+  holds_or_ends m m' x h (inr k) p = (let (bytes, s, t) = held_once files most most file Such (λ bytes. Refuses bytes x × (m' ≡ m)) h k in r.apart bytes x s t.0 p)
 
 -- what is asked for of a file, if its bytes ask for one ending
 pub file_once : (Does : List ℕ → (old new : Output) → Ending → Type 0) (most : ℕ)
     → ((bytes : List ℕ) (a a' b b' : Output) (x y : Ending) → Does bytes a a' x → Does bytes b b' y → is_of_outside x ≡ false → is_of_outside y ≡ false → asked x ≡ asked y)
     → EndsOnce Does most
 file_once Does most once files file m m' n n' a a' b b' x y (inl h) (inl k) p q =
-    (let (bytes, does, does') = held_once files most most file (λ bytes. Does bytes a a' x) (λ bytes. Does bytes b b' y) h k in once bytes a a' b b' x y does does' p q)
-file_once Does most once files file m m' n n' a a' b b' x y (inl h) (inr (same, u)) p q = absurd (held_is_read files most file n n' (λ bytes. Does bytes a a' x) y h u q)
-file_once Does most once files file m m' n n' a a' b b' x y (inr (same, u)) (inl h) p q = absurd (held_is_read files most file m m' (λ bytes. Does bytes b b' y) x h u p)
+    (let (bytes, does, does') = held_once files most most file (λ bytes. Does bytes a a' x × (m' ≡ m)) (λ bytes. Does bytes b b' y × (n' ≡ n)) h k in once bytes a a' b b' x y does.0 does'.0 p q)
+file_once Does most once files file m m' n n' a a' b b' x y (inl h) (inr (same, u)) p q = absurd (held_is_read files most file n n' (λ bytes. Does bytes a a' x × (m' ≡ m)) y h u q)
+file_once Does most once files file m m' n n' a a' b b' x y (inr (same, u)) (inl h) p q = absurd (held_is_read files most file m m' (λ bytes. Does bytes b b' y × (n' ≡ n)) x h u p)
 file_once Does most once files file m m' n n' a a' b b' x y (inr (same, u)) (inr (same', v)) p q = unread_once files most file m m' n n' x y u v p q
 
 -- ---- graphs

@@ -3,7 +3,7 @@ use Rattle.std.proofs.Common.{◌≡◌, ◌≢◌, ℕ, zero, suc, ◌+◌, ◌
 use Rattle.std.specs.Option.{option_map}
 use Rattle.std.specs.Prelude.{IsSomeAnd}
 use Rattle.std.proofs.lemmas.Bool.{cases_lt}
-use Rattle.sg_base.specs.Outside.{file_at}
+use Rattle.sg_base.specs.Outside.{FileFaults, file_at}
 use Rattle.sg_parse.specs.Grammar.{SpellsGraph}
 use Rattle.sg_parse.specs.Reading.{read as parsed}
 use Rattle.sg_parse.specs.declared.fault.ParseFault.{ParseFault}
@@ -42,7 +42,7 @@ text_written o text = ((λ before is. ap (option_map (λ bytes. bytes ++ text)) 
 
 -- ---- files
 
-module _ (files : List (List ℕ × List ℕ)) (most : ℕ) (file : List ℕ) (n : ℕ) where
+module _ (files : List (List ℕ × List ℕ)) (most : ℕ) (file : List ℕ) (n : FileFaults) where
   has : (found : Option (List ℕ)) → file_at files file ≡ found → Has (Some files) file found
   has found is others same = (let one : files ≡ others = cc in subst (λ fs. file_at fs file ≡ found) one is)
 
@@ -52,10 +52,10 @@ module _ (files : List (List ℕ × List ℕ)) (most : ℕ) (file : List ℕ) (n
     where
       by : (found : Option (List ℕ)) → file_at files file ≡ found
           → ((bytes : List ℕ) × Has (Some files) file (Some bytes) × (length bytes ≤ most)) ⊎ ((e : Ending) × IsAsked e × IsUnread most file (Some files) n n e)
-      by None is = inr (NoSuchFile file, (refl, λ e. cc), (refl, has None is))
+      by None is = inr (NoSuchFile file, (refl, λ e. cc), (refl, has None is, refl))
       by (Some bytes) is =
           elim (cases_lt most (length bytes)) [
-            | inl l ↦ inr (TooLarge file, (refl, λ e. cc), (refl, λ others same. subst (λ o. IsSomeAnd o (λ (b : List ℕ). most < length b)) (sym (has (Some bytes) is others same)) l))
+            | inl l ↦ inr (TooLarge file, (refl, λ e. cc), (refl, λ others same. subst (λ o. IsSomeAnd o (λ (b : List ℕ). most < length b)) (sym (has (Some bytes) is others same)) l, refl))
             | inr m ↦ inl (bytes, has (Some bytes) is, omega (arith, m))
           ]
 
@@ -69,7 +69,7 @@ module _ (files : List (List ℕ × List ℕ)) (most : ℕ) (file : List ℕ) (n
             so (each b.0)
             (λ a. elim a [
               | inl such ↦ sure (inl (b.0, b.1, b.2, such))
-              | inr r ↦ sure (inr (r.0, r.1, inr (b.0, b.1, b.2, r.2)))
+              | inr r ↦ sure (inr (r.0, r.1, inr (b.0, b.1, b.2, (r.2, refl))))
             ])
       ]
 
@@ -77,7 +77,7 @@ pub always : (Does : List ℕ → (old new : Output) → Ending → Type 0) (mos
 always Does most each files file n old =
     elim (read_or_unread files most file n) [
       | inr u ↦ sure (old, u.0, u.1, inr (refl, u.2))
-      | inl b ↦ so (each b.0 old) (λ a. sure (a.0, a.1, a.2, inl (b.0, b.1, b.2, a.3)))
+      | inl b ↦ so (each b.0 old) (λ a. sure (a.0, a.1, a.2, inl (b.0, b.1, b.2, (a.3, refl))))
     ]
 
 -- ---- graphs

@@ -1,5 +1,6 @@
 -- What a command on one file does is what its file asks for: one ending, and always one, unless the outside fails.
 use Rattle.std.specs.Prelude.{◌≡◌, ◌≢◌, ℕ, Bool, true, false, List, Some}
+use Rattle.sg_base.specs.Outside.{FileFaults}
 use Rattle.sg_compile.specs.Laws.{Surely}
 use Rattle.sg_compile.specs.declared.check.CompileFault.TheVariants.{OutOfMemory}
 use Rattle.sg_ending.specs.Ending.{Ending, Written, GraphRefused, FileFailed, WriteFailed, NoMemory}
@@ -20,7 +21,7 @@ asked ending = ending
 
 -- Whatever the outside does, the same files ask for the same ending
 abbrev pub EndsOnce : (Does : List ℕ → (old new : Output) → Ending → Type 0) → (most : ℕ) → Type 0
-EndsOnce Does most = (files : List (List ℕ × List ℕ)) (file : List ℕ) (m m' n n' : ℕ) (a a' b b' : Output) (x y : Ending)
+EndsOnce Does most = (files : List (List ℕ × List ℕ)) (file : List ℕ) (m m' n n' : FileFaults) (a a' b b' : Output) (x y : Ending)
     → OnFile Does most file (Some files) m m' a a' x → OnFile Does most file (Some files) n n' b b' y
     → is_of_outside x ≡ false → is_of_outside y ≡ false → asked x ≡ asked y
 
@@ -34,4 +35,4 @@ SomeEnding Ends = Surely ((new : Output) × (ending : Ending) × IsAsked ending 
 
 -- Whatever files hold, a command on one file may end without the outside's failing
 abbrev pub EndsAlways : (Does : List ℕ → (old new : Output) → Ending → Type 0) → (most : ℕ) → Type 0
-EndsAlways Does most = (files : List (List ℕ × List ℕ)) (file : List ℕ) (n : ℕ) (old : Output) → SomeEnding (λ new ending. OnFile Does most file (Some files) n n old new ending)
+EndsAlways Does most = (files : List (List ℕ × List ℕ)) (file : List ℕ) (n : FileFaults) (old : Output) → SomeEnding (λ new ending. OnFile Does most file (Some files) n n old new ending)

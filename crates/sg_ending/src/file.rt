@@ -1,5 +1,5 @@
 //! The files that the arguments name.
-ghost use Rattle.std.specs.Prelude.{◌≡◌, ◌≤◌, Some, IfErr, IfOk, length};
+ghost use Rattle.std.specs.Prelude.{◌≡◌, ◌≤◌, Some, IfErr, IfOk, OnOk, length};
 ghost use Rattle.sg_ending.specs.Files.{Has, IsUnread};
 ghost use Rattle.sg_ending.specs.Model.{ending_held};
 
@@ -18,7 +18,7 @@ pub fn read_file<'w, F: Files>(
     ensures found { IfOk result (λ bytes. Has (F.held files.old) file.now (Some bytes.items)) }
     ensures unread { IfErr result (λ ending. IsUnread most file.now (F.held files.old) (F.faults files.old) (F.faults files.new) (ending_held ending)) }
     ensures kept { F.held files.new ≡ F.held files.old }
-    ensures falls { F.faults files.old ≤ F.faults files.new }
+    ensures no_fault { OnOk result (F.faults files.new ≡ F.faults files.old) }
 {
     match files.read(alloc, file, most) {
         Ok(Some(bytes)) => Ok(bytes),

@@ -3,6 +3,7 @@ use Rattle.std.proofs.Common.{◌≡◌, ℕ, ◌+◌, ◌<◌, ◌≤◌, List,
 use Rattle.std.specs.Prelude.{OnOk}
 use Rattle.std.proofs.lemmas.List.{drop_more, map_more, map-append, take-append-drop, take_all}
 use Rattle.std.proofs.lemmas.Result.{on_ok_weaker}
+use Rattle.sg_base.specs.Outside.{FileFaults}
 use Rattle.sg_model.specs.Limits.{most_program_file, most_script_file}
 use Rattle.sg_keys.specs.KeyFile.{SpellsKeys}
 use Rattle.sg_protocol.specs.Keyring.{Keyring, Program}
@@ -42,36 +43,36 @@ pub all_held : {X : Type 0} (f : X → List ℕ) (known : KnownFiles) (names : L
 all_held f known names i programs l held = subst (λ ns. HoldPrograms known (map f ns) programs) (take_all i names l) held
 
 -- it ends at a program
-pub stops : {X : Type 0} (f : X → List ℕ) (known known' : KnownFiles) (f0 f1 f2 : ℕ) (names : List X) (i : ℕ) (d : X) (programs : List Program) (e : Ending) → i < length names
-    → known' ≡ known → f0 ≤ f1 → f1 ≤ f2 → HoldPrograms known (map f (take i names)) programs → EndsAt known' f1 f2 most_program_file (f (get_or names i d)) (RefusesProgram programs) e → StopsAtProgram known f0 f2 (map f names) e
-stops f known known' f0 f1 f2 names i d programs e l same a b held h = record {
+pub stops : {X : Type 0} (f : X → List ℕ) (known known' : KnownFiles) (f0 f1 f2 : FileFaults) (names : List X) (i : ℕ) (d : X) (programs : List Program) (e : Ending) → i < length names
+    → known' ≡ known → f1 ≡ f0 → HoldPrograms known (map f (take i names)) programs → EndsAt known' f1 f2 most_program_file (f (get_or names i d)) (RefusesProgram programs) e → StopsAtProgram known f0 f2 (map f names) e
+stops f known known' f0 f1 f2 names i d programs e l same none held h = record {
   before = map f (take i names);
   file = f (get_or names i d);
   behind = map f (drop (i + 1) names);
   programs = programs;
   are = parts f names i d l;
   held = held;
-  ends = ends_later most_program_file (f (get_or names i d)) (RefusesProgram programs) known known' f0 f1 f2 e same a b h;
+  ends = ends_later most_program_file (f (get_or names i d)) (RefusesProgram programs) known known' f0 f1 f2 e same none h;
 }
 
 -- it ends at a program of these files after others
-stops_later : (known known' : KnownFiles) (f0 f1 f2 : ℕ) (files : List (List ℕ)) (e : Ending) → known' ≡ known → f0 ≤ f1 → f1 ≤ f2 → StopsAtProgram known' f1 f2 files e → StopsAtProgram known f0 f2 files e
-stops_later known known' f0 f1 f2 files e same a b h = record {
+stops_later : (known known' : KnownFiles) (f0 f1 f2 : FileFaults) (files : List (List ℕ)) (e : Ending) → known' ≡ known → f1 ≡ f0 → StopsAtProgram known' f1 f2 files e → StopsAtProgram known f0 f2 files e
+stops_later known known' f0 f1 f2 files e same none h = record {
   before = h.before;
   file = h.file;
   behind = h.behind;
   programs = h.programs;
   are = h.are;
   held = subst (λ t. HoldPrograms t h.before h.programs) same h.held;
-  ends = ends_later most_program_file h.file (RefusesProgram h.programs) known known' f0 f1 f2 e same a b h.ends;
+  ends = ends_later most_program_file h.file (RefusesProgram h.programs) known known' f0 f1 f2 e same none h.ends;
 }
 
 -- ---- a principal: the keys are read first, then the programs
 
 module _ (file : List ℕ) (files : List (List ℕ)) (keys : Keyring) (known known1 : KnownFiles) (same1 : known1 ≡ known) (held : Holds known most_script_file file (λ bytes. SpellsKeys bytes keys)) where
   -- it ends at a program
-  pub lacks_program : (f0 f1 f2 : ℕ) (e : Ending) → f0 ≤ f1 → f1 ≤ f2 → StopsAtProgram known1 f1 f2 files e → LacksPrincipal known f0 f2 file files e
-  lacks_program f0 f1 f2 e a b h = AtProgram held (stops_later known known1 f0 f1 f2 files e same1 a b h)
+  pub lacks_program : (f0 f1 f2 : FileFaults) (e : Ending) → f1 ≡ f0 → StopsAtProgram known1 f1 f2 files e → LacksPrincipal known f0 f2 file files e
+  lacks_program f0 f1 f2 e none h = AtProgram held (stops_later known known1 f0 f1 f2 files e same1 none h)
 
   -- it is there
   pub has_principal : (programs : List Program) → HoldPrograms known1 files programs → HasPrincipal known file files (record { keys = keys; programs = programs })
@@ -81,8 +82,8 @@ module _ (file : List ℕ) (files : List (List ℕ)) (keys : Keyring) (known kno
 
 module _ (named : RunFiles) (p : Principal) (known known1 : KnownFiles) (same1 : known1 ≡ known) (has : HasPrincipal known named.keys named.programs p) where
   -- it ends at the script
-  pub lacks_script : (f0 f1 f2 : ℕ) (e : Ending) → f0 ≤ f1 → f1 ≤ f2 → EndsAt known1 f1 f2 most_script_file named.script (RefusesScript p.programs) e → LacksSetup known f0 f2 named e
-  lacks_script f0 f1 f2 e a b h = AtScript has (ends_later most_script_file named.script (RefusesScript p.programs) known known1 f0 f1 f2 e same1 a b h)
+  pub lacks_script : (f0 f1 f2 : FileFaults) (e : Ending) → f1 ≡ f0 → EndsAt known1 f1 f2 most_script_file named.script (RefusesScript p.programs) e → LacksSetup known f0 f2 named e
+  lacks_script f0 f1 f2 e none h = AtScript has (ends_later most_script_file named.script (RefusesScript p.programs) known known1 f0 f1 f2 e same1 none h)
 
   -- it is there
   pub has_setup : (script : Script) → Holds known1 most_script_file named.script (λ bytes. SpellsScript p.programs bytes script) → HasSetup known named (record { keys = p.keys; programs = p.programs; script = script })

@@ -4,6 +4,7 @@ use Rattle.std.specs.List.{list_any}
 use Rattle.std.proofs.Math.Seq.{take-append_seam, get_or-append_seam}
 use Rattle.std.proofs.lemmas.Bool.{cases_lt}
 use Rattle.std.proofs.lemmas.List.{take_all, take_more}
+use Rattle.sg_base.specs.Outside.{FileFaults}
 use Rattle.sg_compile.specs.Loading.{IsLoadFault}
 use Rattle.sg_compile.specs.declared.check.CompileFault.{CompileFault}
 use Rattle.sg_compile.specs.declared.check.CompileFault.TheVariants.{OutOfMemory as CompileMemory}
@@ -219,13 +220,13 @@ module _ (known : List (List ℕ × List ℕ)) where
       ap (λ rs. rs ++ p ∷ []) same ∙ ap (λ (r : Program). last.before ++ r ∷ []) program ∙ sym last.is
 
   -- it ends at the program of this number, counted from 0
-  record StopsAt (files : List (List ℕ)) (m m' : ℕ) (e : Ending) (i : ℕ) : Type 0 where
+  record StopsAt (files : List (List ℕ)) (m m' : FileFaults) (e : Ending) (i : ℕ) : Type 0 where
     within : i < length files
     programs : List Program
     held : HoldPrograms (Some known) (take i files) programs
     ends : EndsAt (Some known) m m' most_program_file (get_or files i []) (RefusesProgram programs) e
 
-  stops_at : (files : List (List ℕ)) (m m' : ℕ) (e : Ending) (s : StopsAtProgram (Some known) m m' files e) → StopsAt files m m' e (length s.before)
+  stops_at : (files : List (List ℕ)) (m m' : FileFaults) (e : Ending) (s : StopsAtProgram (Some known) m m' files e) → StopsAt files m m' e (length s.before)
   stops_at files m m' e s =
       let size : length files ≡ length s.before + length (s.file ∷ s.behind) = ap (λ (fs : List (List ℕ)). length fs) s.are ∙ length-append s.before (s.file ∷ s.behind) in
       let front : take (length s.before) files ≡ s.before = ap (take (length s.before)) s.are ∙ take-append_seam s.before (s.file ∷ s.behind) in
@@ -238,7 +239,7 @@ module _ (known : List (List ℕ × List ℕ)) where
       }
 
   -- a program that is taken isn't refused
-  taken : (files : List (List ℕ)) (i : ℕ) (programs : List Program) (m m' : ℕ) (e : Ending) → Last (take i files) (get_or files i []) programs → StopsAt files m m' e i → is_of_outside e ≡ false → ⊥
+  taken : (files : List (List ℕ)) (i : ℕ) (programs : List Program) (m m' : FileFaults) (e : Ending) → Last (take i files) (get_or files i []) programs → StopsAt files m m' e i → is_of_outside e ≡ false → ⊥
   taken files i programs m m' e last s p =
       let same : last.before ≡ s.programs = one_list (take i files) last.before s.programs last.held s.held in
       let (bytes, at, few, text) = last.there in
@@ -246,7 +247,7 @@ module _ (known : List (List ℕ × List ℕ)) where
       holds_or_ends known most_program_file (get_or files i []) (is_next s.programs) (RefusesProgram s.programs) (programs_once s.programs) m m' e (bytes, at, few, next) s.ends p
 
   -- where the first files hold programs, it doesn't end at one of them
-  never_there : (files : List (List ℕ)) (j : ℕ) (programs : List Program) (i m m' : ℕ) (e : Ending) → j ≤ length files → HoldPrograms (Some known) (take j files) programs → i < j → StopsAt files m m' e i
+  never_there : (files : List (List ℕ)) (j : ℕ) (programs : List Program) (i : ℕ) (m m' : FileFaults) (e : Ending) → j ≤ length files → HoldPrograms (Some known) (take j files) programs → i < j → StopsAt files m m' e i
       → is_of_outside e ≡ false → ⊥
   never_there files zero programs i m m' e l h n s p = absurd (omega (arith, n))
   never_there files (suc k) programs i m m' e l h n s p =
@@ -257,14 +258,14 @@ module _ (known : List (List ℕ × List ℕ)) where
         | inr z ↦ (let same : i ≡ k = omega (arith, n, z) in taken files k programs m m' e last (subst (StopsAt files m m' e) same s) p)
       ]
 
-  stops_once : (files : List (List ℕ)) (m m' n n' : ℕ) (d e : Ending) (i : ℕ) → StopsAt files m m' d i → StopsAt files n n' e i → is_of_outside d ≡ false → is_of_outside e ≡ false → asked d ≡ asked e
+  stops_once : (files : List (List ℕ)) (m m' n n' : FileFaults) (d e : Ending) (i : ℕ) → StopsAt files m m' d i → StopsAt files n n' e i → is_of_outside d ≡ false → is_of_outside e ≡ false → asked d ≡ asked e
   stops_once files m m' n n' d e i s t p q =
       let same : t.programs ≡ s.programs = one_list (take i files) t.programs s.programs t.held s.held in
       let ends : EndsAt (Some known) n n' most_program_file (get_or files i []) (RefusesProgram s.programs) e =
       subst (λ ps. EndsAt (Some known) n n' most_program_file (get_or files i []) (RefusesProgram ps) e) same t.ends in
       ends_once known most_program_file (get_or files i []) (is_next s.programs) (RefusesProgram s.programs) (programs_once s.programs) m m' n n' d e s.ends ends p q
 
-  stops_same : (files : List (List ℕ)) (m m' n n' : ℕ) (d e : Ending) (i j : ℕ) → StopsAt files m m' d i → StopsAt files n n' e j → is_of_outside d ≡ false → is_of_outside e ≡ false → asked d ≡ asked e
+  stops_same : (files : List (List ℕ)) (m m' n n' : FileFaults) (d e : Ending) (i j : ℕ) → StopsAt files m m' d i → StopsAt files n n' e j → is_of_outside d ≡ false → is_of_outside e ≡ false → asked d ≡ asked e
   stops_same files m m' n n' d e i j s t p q =
       elim (cases_lt i j) [
         | inl y ↦ absurd (never_there files j t.programs i m m' d (let l = t.within in omega (arith, l)) t.held y s p)
@@ -288,7 +289,7 @@ module _ (known : List (List ℕ × List ℕ)) where
         let programs : a.programs ≡ b.programs = one_list files a.programs b.programs h.has_programs k.has_programs in
         λ i. record { keys = ring i; programs = programs i }
 
-    principal_or_none : (a : Principal) (m m' : ℕ) (e : Ending) → HasPrincipal (Some known) keys files a → LacksPrincipal (Some known) m m' keys files e → is_of_outside e ≡ false → ⊥
+    principal_or_none : (a : Principal) (m m' : FileFaults) (e : Ending) → HasPrincipal (Some known) keys files a → LacksPrincipal (Some known) m m' keys files e → is_of_outside e ≡ false → ⊥
     principal_or_none a m m' e h (AtKeys ends) p = holds_or_ends known most_script_file keys spells_keys RefusesKeys keys_once m m' e (has_keys a.keys h.has_keys) ends p
     principal_or_none a m m' e h (AtProgram found stops) p =
         let s = stops_at files m m' e stops in
@@ -296,7 +297,7 @@ module _ (known : List (List ℕ × List ℕ)) where
         subst (λ fs. HoldPrograms (Some known) fs a.programs) (sym (take_all (length files) files (omega arith))) h.has_programs in
         never_there files (length files) a.programs (length stops.before) m m' e (omega arith) all s.within s p
 
-    principal_cause : (m m' n n' : ℕ) (d e : Ending) → LacksPrincipal (Some known) m m' keys files d → LacksPrincipal (Some known) n n' keys files e → is_of_outside d ≡ false → is_of_outside e ≡ false → asked d ≡ asked e
+    principal_cause : (m m' n n' : FileFaults) (d e : Ending) → LacksPrincipal (Some known) m m' keys files d → LacksPrincipal (Some known) n n' keys files e → is_of_outside d ≡ false → is_of_outside e ≡ false → asked d ≡ asked e
     principal_cause m m' n n' d e (AtKeys s) (AtKeys t) p q = ends_once known most_script_file keys spells_keys RefusesKeys keys_once m m' n n' d e s t p q
     principal_cause m m' n n' d e (AtKeys s) (AtProgram {found} h t) p q = absurd (holds_or_ends known most_script_file keys spells_keys RefusesKeys keys_once m m' d (has_keys found h) s p)
     principal_cause m m' n n' d e (AtProgram {found} h s) (AtKeys t) p q = absurd (holds_or_ends known most_script_file keys spells_keys RefusesKeys keys_once n n' e (has_keys found h) t q)
@@ -320,14 +321,14 @@ module _ (known : List (List ℕ × List ℕ)) where
         let script : a.script ≡ b.script = one_script b.programs bytes a.script b.script (subst (λ ps. SpellsScript ps bytes a.script) programs s) t in
         λ i. record { keys = keys i; programs = programs i; script = script i }
 
-    setup_or_none : (a : Setup) (m m' : ℕ) (e : Ending) → HasSetup (Some known) named a → LacksSetup (Some known) m m' named e → is_of_outside e ≡ false → ⊥
+    setup_or_none : (a : Setup) (m m' : FileFaults) (e : Ending) → HasSetup (Some known) named a → LacksSetup (Some known) m m' named e → is_of_outside e ≡ false → ⊥
     setup_or_none a m m' e h (AtPrincipal lacks) p = principal_or_none named.keys named.programs (principal_of a) m m' e h.principal lacks p
     setup_or_none a m m' e h (AtScript {p = b} has ends) p =
         let same : b.programs ≡ a.programs = ap (λ (x : Principal). x.programs) (one_principal named.keys named.programs b (principal_of a) has h.principal) in
         holds_or_ends known most_script_file named.script (spells_script a.programs) (RefusesScript a.programs) (scripts_once a.programs) m m' e (has_script a.programs a.script h.script)
         (subst (λ ps. EndsAt (Some known) m m' most_script_file named.script (RefusesScript ps) e) same ends) p
 
-    setup_cause : (m m' n n' : ℕ) (d e : Ending) → LacksSetup (Some known) m m' named d → LacksSetup (Some known) n n' named e → is_of_outside d ≡ false → is_of_outside e ≡ false → asked d ≡ asked e
+    setup_cause : (m m' n n' : FileFaults) (d e : Ending) → LacksSetup (Some known) m m' named d → LacksSetup (Some known) n n' named e → is_of_outside d ≡ false → is_of_outside e ≡ false → asked d ≡ asked e
     setup_cause m m' n n' d e (AtPrincipal s) (AtPrincipal t) p q = principal_cause named.keys named.programs m m' n n' d e s t p q
     setup_cause m m' n n' d e (AtPrincipal s) (AtScript {p = b} has t) p q = absurd (principal_or_none named.keys named.programs b m m' d has s p)
     setup_cause m m' n n' d e (AtScript {p = a} has s) (AtPrincipal t) p q = absurd (principal_or_none named.keys named.programs a n n' e has t q)

@@ -2,6 +2,7 @@
 use Rattle.std.proofs.Common.{◌≡◌, ◌≢◌, ℕ, ◌+◌, ◌⊎◌, inl, inr, false, List, [], ◌∷◌, ◌++◌, map, length, codes, Option, Some, None, Result, Ok, Err, refl, sym, ap, ◌∙◌, subst, append-nil, append_assoc}
 use Rattle.std.specs.List.{list_any}
 use Rattle.std.proofs.lemmas.Bool.{cases_Bool}
+use Rattle.sg_base.specs.Outside.{FileFaults}
 use Rattle.sg_compile.specs.Laws.{Surely}
 use Rattle.sg_compile.specs.Loading.{IsLoadFault}
 use Rattle.sg_compile.specs.declared.loader.LoadFault.{LoadFault}
@@ -133,7 +134,7 @@ module _ (before : List Program) (bytes : List ℕ) where
             ]
       ])
 
-module _ (known : List (List ℕ × List ℕ)) (n : ℕ) where
+module _ (known : List (List ℕ × List ℕ)) (n : FileFaults) where
   -- files hold programs behind those that are held, or it ends at one of them
   programs_or_none : (rest before : List (List ℕ)) (programs : List Program) → HoldPrograms (Some known) before programs
       → Surely (((ps : List Program) × HoldPrograms (Some known) (before ++ rest) ps) ⊎ ((e : Ending) × IsAsked e × StopsAtProgram (Some known) n n (before ++ rest) e))

@@ -1,6 +1,7 @@
 -- What a run is given: the files that its arguments name, and the keys, the programs and the script that they hold.
 use Rattle.std.specs.Prelude.{◌≡◌, ◌≢◌, ℕ, ◌+◌, true, false, List, [], ◌∷◌, ◌++◌, length, Err, ⊤}
 use Rattle.std.specs.List.{list_any}
+use Rattle.sg_base.specs.Outside.{FileFaults}
 use Rattle.sg_base.specs.declared.address.Addr.{Addr}
 use Rattle.sg_model.specs.Limits.{most_program_file, most_script_file}
 use Rattle.sg_protocol.specs.Keyring.{Keyring, Program}
@@ -97,7 +98,7 @@ RefusesScript programs bytes NoMemory = ⊤
 RefusesScript programs bytes ending = ⊥
 
 -- it ends at a program of these files, those before it being read and taken
-pub record StopsAtProgram (known : KnownFiles) (faults faults' : ℕ) (files : List (List ℕ)) (ending : Ending) : Type 0 where
+pub record StopsAtProgram (known : KnownFiles) (faults faults' : FileFaults) (files : List (List ℕ)) (ending : Ending) : Type 0 where
   pub before : List (List ℕ)
   pub file : List ℕ
   pub behind : List (List ℕ)
@@ -107,13 +108,13 @@ pub record StopsAtProgram (known : KnownFiles) (faults faults' : ℕ) (files : L
   pub ends : EndsAt known faults faults' most_program_file file (RefusesProgram programs) ending
 
 -- there is no principal, by the first cause: the keys are looked at first, then the programs in order
-pub data LacksPrincipal (known : KnownFiles) (faults faults' : ℕ) (keys : List ℕ) (programs : List (List ℕ)) (ending : Ending) : Type 0 where
+pub data LacksPrincipal (known : KnownFiles) (faults faults' : FileFaults) (keys : List ℕ) (programs : List (List ℕ)) (ending : Ending) : Type 0 where
   AtKeys : EndsAt known faults faults' most_script_file keys RefusesKeys ending → LacksPrincipal known faults faults' keys programs ending
   AtProgram : {found : Keyring} → Holds known most_script_file keys (λ bytes. SpellsKeys bytes found) → StopsAtProgram known faults faults' programs ending
       → LacksPrincipal known faults faults' keys programs ending
 
 -- there is no setup, by the first cause: the principal is looked at first, then the script
-pub data LacksSetup (known : KnownFiles) (faults faults' : ℕ) (named : RunFiles) (ending : Ending) : Type 0 where
+pub data LacksSetup (known : KnownFiles) (faults faults' : FileFaults) (named : RunFiles) (ending : Ending) : Type 0 where
   AtPrincipal : LacksPrincipal known faults faults' named.keys named.programs ending → LacksSetup known faults faults' named ending
   AtScript : {p : Principal} → HasPrincipal known named.keys named.programs p → EndsAt known faults faults' most_script_file named.script (RefusesScript p.programs) ending
       → LacksSetup known faults faults' named ending

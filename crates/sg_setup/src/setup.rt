@@ -57,7 +57,7 @@ pub fn read_principal<'w, F: Files>(
     ensures same { IfOk result (λ p. p.keys_of_node ≡ p.keys) }
     ensures lacks { IfErr result (λ ending. LacksPrincipal (F.held files.old) (F.faults files.old) (F.faults files.new) keys.now (map (λ p. p.now) programs.now) (ending_held ending)) }
     ensures kept { F.held files.new ≡ F.held files.old }
-    ensures falls { F.faults files.old ≤ F.faults files.new }
+    ensures no_fault { OnOk result (F.faults files.new ≡ F.faults files.old) }
 {
     let (keys, keys_of_node) = read_keys(alloc, keys, files)?;
     let programs = read_programs(alloc, programs, files)?;
@@ -80,6 +80,7 @@ pub fn read_setup<'w, F: Files>(
     ensures has { IfOk result (λ s. HasSetup (F.held files.old) (record { keys = keys.now; programs = map (λ p. p.now) programs.now; script = script.now })
         (record { keys = s.keys; programs = s.programs; script = s.script })) }
     ensures same { IfOk result (λ s. s.keys_of_node ≡ s.keys) }
+    ensures no_fault { OnOk result (F.faults files.new ≡ F.faults files.old) }
     ensures lacks { IfErr result (λ ending. LacksSetup (F.held files.old) (F.faults files.old) (F.faults files.new)
         (record { keys = keys.now; programs = map (λ p. p.now) programs.now; script = script.now }) (ending_held ending)) }
 {
@@ -108,7 +109,7 @@ fn read_keys<'w, F: Files>(
     ensures same { IfOk result (λ k. k.1 ≡ k.0) }
     ensures ends { IfErr result (λ ending. EndsAt (F.held files.old) (F.faults files.old) (F.faults files.new) most_script_file file.now RefusesKeys (ending_held ending)) }
     ensures kept { F.held files.new ≡ F.held files.old }
-    ensures falls { F.faults files.old ≤ F.faults files.new }
+    ensures no_fault { OnOk result (F.faults files.new ≡ F.faults files.old) }
 {
     let bytes = read_file(alloc, file, files, MOST_BYTES)?;
     both_of(alloc, bytes.as_slice())
@@ -147,7 +148,7 @@ fn read_programs<'w, F: Files>(
     ensures hold { IfOk result (HoldPrograms (F.held files.old) (map (λ p. p.now) names.now)) }
     ensures ends { IfErr result (λ ending. StopsAtProgram (F.held files.old) (F.faults files.old) (F.faults files.new) (map (λ p. p.now) names.now) (ending_held ending)) }
     ensures kept { F.held files.new ≡ F.held files.old }
-    ensures falls { F.faults files.old ≤ F.faults files.new }
+    ensures no_fault { OnOk result (F.faults files.new ≡ F.faults files.old) }
 {
     let mut programs = Programs::new(alloc);
     'files: for file in names {
@@ -166,7 +167,7 @@ fn add_program<'w, F: Files>(
     ensures added { OnOk result (Adds (λ p. Holds (F.held files.old) most_program_file file.now (IsTextOf p)) programs.old programs.new) }
     ensures ends { IfErr result (λ ending. EndsAt (F.held files.old) (F.faults files.old) (F.faults files.new) most_program_file file.now (RefusesProgram programs.old) (ending_held ending)) }
     ensures kept { F.held files.new ≡ F.held files.old }
-    ensures falls { F.faults files.old ≤ F.faults files.new }
+    ensures no_fault { OnOk result (F.faults files.new ≡ F.faults files.old) }
 {
     let bytes = read_file(alloc, file, files, MOST_OF_A_PROGRAM)?;
     put_program(alloc, bytes.as_slice(), programs)
@@ -239,7 +240,7 @@ fn script_of<'w, F: Files>(
     ensures kept { F.held files.new ≡ F.held files.old }
     ensures holds { IfOk result (λ s. Holds (F.held files.old) most_script_file file.now (λ bytes. SpellsScript programs.now bytes s)) }
     ensures ends { IfErr result (λ ending. EndsAt (F.held files.old) (F.faults files.old) (F.faults files.new) most_script_file file.now (RefusesScript programs.now) (ending_held ending)) }
-    ensures falls { F.faults files.old ≤ F.faults files.new }
+    ensures no_fault { OnOk result (F.faults files.new ≡ F.faults files.old) }
 {
     let bytes = read_file(alloc, file, files, MOST_BYTES)?;
     match read_script(alloc, bytes.as_slice(), programs) {

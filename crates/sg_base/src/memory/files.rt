@@ -1,13 +1,14 @@
 //! Files in memory.
-ghost use Rattle.std.specs.Prelude.{◌≡◌, ◌↔◌, ◌<◌, ◌≤◌, if◌then◌else◌, map, string_bytes, length, IfOk, IfSome, IfNone, IsSomeAnd, IsTrue};
+ghost use Rattle.std.specs.Prelude.{◌≡◌, ◌↔◌, ◌<◌, ◌≤◌, if◌then◌else◌, map, string_bytes, length, IfOk, IfSome, IfNone, IsSomeAnd, IsTrue, None, Some};
 ghost use Rattle.sg_model.specs.Lists.{all_differ};
 ghost use Rattle.std.specs.Option.{option_copied, option_map};
 ghost use Rattle.std.specs.List.{find};
 ghost use Rattle.std.specs.Str.{bytes_eq};
-ghost use Rattle.sg_base.specs.Outside.{file_at};
+ghost use Rattle.sg_base.specs.Outside.{as_path, file_at};
 ghost use Rattle.sg_base.specs.Memory.{new_plan, fails_next, counted, failed};
 
 use super::plan::FaultPlan;
+use crate::last_path::LastPath;
 use crate::{FileFault, Files, OutOfMemory};
 use std::alloc::Global;
 use std::marker::Model;
@@ -17,6 +18,7 @@ use std::marker::Model;
 pub struct MemFiles {
     files: Vec<(String, Vec<u8>)>,
     plan: FaultPlan,
+    last: LastPath,
 }
 
 impl Model for MemFiles {
@@ -25,18 +27,19 @@ impl Model for MemFiles {
 
     ghost Value = { FilesHeld };
 
-    ghost view = { λ f. record { files = map (λ p. (string_bytes p.0, p.1.items)) f.files.items; plan = f.plan } };
+    ghost view = { λ f. record { files = map (λ p. (string_bytes p.0, p.1.items)) f.files.items; plan = f.plan; last = f.last } };
 }
 
 impl MemFiles {
     /// The files of a list, each its name and its bytes, with the numbers of the calls that are to fail.
     pub fn new(files: Vec<(String, Vec<u8>)>, fails: Vec<u32>) -> MemFiles
         requires { IsTrue (all_differ (map (λ f. string_bytes f.0) files.items)) }
-        ensures { result ≡ record { files = map (λ f. (string_bytes f.0, f.1.items)) files.items; plan = new_plan fails.items } }
+        ensures { result ≡ record { files = map (λ f. (string_bytes f.0, f.1.items)) files.items; plan = new_plan fails.items; last = None } }
     {
         MemFiles {
             files,
             plan: FaultPlan::new(fails),
+            last: LastPath::new(),
         }
     }
 }
@@ -44,7 +47,7 @@ impl MemFiles {
 impl Files for MemFiles {
     ghost use Rattle.std.specs.Prelude.{Some};
 
-    ghost faults = { λ f. f.plan.faults };
+    ghost faults = { λ f. record { count = f.plan.faults; last = f.last } };
 
     ghost held = { λ f. Some f.files };
 
@@ -57,8 +60,10 @@ impl Files for MemFiles {
         ensures too_long { result ≡ Err FileFault.TooLong → IsSomeAnd (file_at self.old.files name.now) (λ bytes. max < length bytes) }
         ensures files { self.new.files ≡ self.old.files }
         ensures plan { self.new.plan ≡ (if fails_next self.old.plan then failed self.old.plan else counted self.old.plan) }
+        ensures last { self.new.last ≡ (if fails_next self.old.plan then Some (as_path name.now) else self.old.last) }
     {
         if self.plan.call(true).is_err() {
+            self.last.put(name);
             return Err(FileFault::Failed);
         }
         let Some(bytes) = find_bytes(&self.files, name) else {

@@ -10,5 +10,5 @@ returns-in-Ok-clause-ends g c =
       c.in-Ok.ensures.holds,
       on_later c.in-Ok.graph c.args.claims.now (g.F.Files.held c.args.files.now) (g.F.Files.held c.accepted_graph.new.files) (g.F.Files.faults c.args.files.now) (g.F.Files.faults c.accepted_graph.new.files) (g.F.Files.faults c.on_claims.new.files)
           (record { bytes = g.O.Sink.written c.args.out.now; faults = g.O.Sink.faults c.args.out.now }) (record { bytes = g.O.Sink.written c.on_claims.new.out; faults = g.O.Sink.faults c.on_claims.new.out }) (ending_held c.on_claims.result)
-          c.accepted_graph.ensures.kept c.accepted_graph.ensures.falls c.on_claims.ensures.falls c.on_claims.ensures.on,
+          c.accepted_graph.ensures.kept c.in-Ok.ensures.no_fault c.on_claims.ensures.on,
     )

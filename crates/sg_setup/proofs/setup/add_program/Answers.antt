@@ -21,5 +21,5 @@ pub returns-clause-ends : goal.returns-clause-ends
 returns-clause-ends g c =
     IfErr-weaker c.put_program.result _ _
     (λ e h. refuses (g.F.Files.held c.args.files.now) (g.F.Files.faults c.args.files.now) (g.F.Files.faults c.read_file.new.files) most_program_file c.args.file.now c.in_ok-bytes.bytes.items c.as_slice.result.now
-    (RefusesProgram c.args.programs.now) (ending_held e) c.as_slice.ensures.value c.in_ok-bytes.ensures.found c.in_ok-bytes.ensures.few h)
+    (RefusesProgram c.args.programs.now) (ending_held e) c.as_slice.ensures.value c.in_ok-bytes.ensures.found c.in_ok-bytes.ensures.few c.in_ok-bytes.ensures.no_fault h)
     c.put_program.ensures.refused

@@ -1,4 +1,4 @@
-use Rattle.std.proofs.Common.{map, Bor, List, ℕ, ◌∙◌, arith}
+use Rattle.std.proofs.Common.{map, Bor, List, ℕ, ◌∙◌}
 use Rattle.std.proofs.lemmas.Result.{err_from_is_err_and}
 use Rattle.sg_ending.specs.Model.{ending_held}
 use Rattle.sg_setup.specs.Setup.{AtKeys}
@@ -20,7 +20,7 @@ returns-in_err-programs-clause-lacks g c =
     rw (p.1, p.2)
     (lacks_program c.args.keys.now (names c.args.programs) c.in_ok-keys.keys (g.F.Files.held c.args.files.now) (g.F.Files.held c.read_keys.new.files) c.read_keys.ensures.kept c.in_ok-keys.ensures.holds
     (g.F.Files.faults c.args.files.now) (g.F.Files.faults c.read_keys.new.files) (g.F.Files.faults c.read_programs.new.files) (ending_held c.in_err-programs.field-0.0)
-    c.read_keys.ensures.falls c.read_programs.ensures.falls c.in_err-programs.ensures.ends)
+    c.in_ok-keys.ensures.no_fault c.in_err-programs.ensures.ends)
 
 pub returns-clause-has : goal.returns-clause-has
 returns-clause-has g c =
@@ -33,8 +33,5 @@ returns-in_err-programs-clause-kept g c = c.read_programs.ensures.kept ∙ c.rea
 pub returns-clause-kept : goal.returns-clause-kept
 returns-clause-kept g c = c.read_programs.ensures.kept ∙ c.read_keys.ensures.kept
 
-pub returns-in_err-programs-clause-falls : goal.returns-in_err-programs-clause-falls
-returns-in_err-programs-clause-falls g c = let a = c.read_keys.ensures.falls in let b = c.read_programs.ensures.falls in omega (arith, a, b)
-
-pub returns-clause-falls : goal.returns-clause-falls
-returns-clause-falls g c = let a = c.read_keys.ensures.falls in let b = c.read_programs.ensures.falls in omega (arith, a, b)
+pub returns-clause-no_fault : goal.returns-clause-no_fault
+returns-clause-no_fault g c = c.in_ok-programs.ensures.no_fault ∙ c.in_ok-keys.ensures.no_fault

@@ -16,4 +16,4 @@ returns-in-Ok-clause-holds g c =
     c.as_slice.ensures.value c.in_ok-bytes.ensures.found c.in_ok-bytes.ensures.few c.in-Ok.ensures.spelled
 
 pub returns-in-Err-OutOfMemory-clause-ends : goal.returns-in-Err-OutOfMemory-clause-ends
-returns-in-Err-OutOfMemory-clause-ends g c = inl tt
+returns-in-Err-OutOfMemory-clause-ends g c = inl c.in_ok-bytes.ensures.no_fault
