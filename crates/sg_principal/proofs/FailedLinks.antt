@@ -1,6 +1,6 @@
 -- A run ends with a failed link only if the link's count of faults rose.
 use Rattle.std.proofs.Common.{◌≡◌, ℕ, inl, inr, List, Result, Err, refl}
-use Rattle.sg_base.specs.Outside.{HasRisen}
+use Rattle.sg_base.specs.Outside.{FileFaults, HasRisen}
 use Rattle.sg_play.specs.declared.fault.PlayFault.{PlayFault}
 use Rattle.sg_play.specs.declared.fault.PlayFault.TheVariants as Play
 use Rattle.sg_ending.specs.Ending.{Ending, LinkFailed}
@@ -15,10 +15,10 @@ of_play (Err Play.LinkFailed) h = refl
 of_play _ h = absurd (cc)
 
 -- no file ends a run so
-module _ (known : KnownFiles) (faults faults' : ℕ) where
+module _ (known : KnownFiles) (faults faults' : FileFaults) where
   at_file : (most : ℕ) (file : List ℕ) (Refuses : List ℕ → Ending → Type 0) → ((bytes : List ℕ) → Refuses bytes LinkFailed → ⊥) → EndsAt known faults faults' most file Refuses LinkFailed → ⊥
   at_file most file Refuses none (inl unread) = unread
-  at_file most file Refuses none (inr (bytes, at, few, refused)) = none bytes refused
+  at_file most file Refuses none (inr (bytes, at, few, refused)) = none bytes refused.0
 
   no_principal : (keys : List ℕ) (programs : List (List ℕ)) → LacksPrincipal known faults faults' keys programs LinkFailed → ⊥
   no_principal keys programs (AtKeys ends) = at_file _ keys RefusesKeys (λ bytes h. h) ends
@@ -30,5 +30,5 @@ module _ (known : KnownFiles) (faults faults' : ℕ) where
 
 -- its count rose
 pub link_rose : (named : RunFiles) (most : ℕ) (files files' : Filed) (old new : Stage) → Runs named most files files' old new LinkFailed → HasRisen (old.link).faults (new.link).faults
-link_rose named most files files' old new (inl (s, result, has, waits, ends, same)) = ((ends.faults).link).rises (of_play result same)
+link_rose named most files files' old new (inl (s, result, has, waits, ends, same, none)) = ((ends.faults).link).rises (of_play result same)
 link_rose named most files files' old new (inr (same, lacks)) = absurd (no_setup files.held files.faults files'.faults named lacks)

@@ -130,7 +130,7 @@ KeepsSetup file s most old new disk disk' ending =
 -- a run over the ledger of a file ends so: the files hold a setup, which is played over the ledger, if there is one; or they hold none, and nothing is touched, nor the disk asked
 abbrev pub KeepsRun : (file : List ℕ) → RunFiles → (most : ℕ) → (files files' : Filed) → (old new : Stage) → (disk disk' : Disked) → Ending → Type 0
 KeepsRun file named most files files' old new disk disk' ending =
-    ((s : Setup) × HasSetup files.held named s × KeepsSetup file s most old new disk disk' ending)
+    ((s : Setup) × HasSetup files.held named s × KeepsSetup file s most old new disk disk' ending × (files'.faults ≡ files.faults))
     ⊎ ((new ≡ old) × IsNotAsked disk disk' × LacksSetup files.held files.faults files'.faults named ending)
 
 -- with these endings a run over a ledger may have played

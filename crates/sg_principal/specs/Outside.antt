@@ -1,6 +1,7 @@
 -- What a principal acts on, and what each of these objects reports.
 use Rattle.std.specs.Prelude.{◌≡◌, ℕ, List, Option}
 use Rattle.std.specs.Borrow.{MutBor}
+use Rattle.sg_base.specs.Outside.{FileFaults}
 use Rattle.sg_base.specs.declared.address.Addr.{Addr}
 use Rattle.sg_base.specs.declared.outside.Files as Files
 use Rattle.sg_base.specs.declared.outside.Fresh as Fresh
@@ -15,10 +16,10 @@ use Rattle.sg_principal.specs.declared.stage.Stage as Held
 
 -- ---- what each object reports
 
--- files: what they hold, if it is known, and their count of faults
+-- files: what they hold, if it is known, and their faults
 pub record Filed : Type 0 where
   pub held : KnownFiles
-  pub faults : ℕ
+  pub faults : FileFaults
 
 -- a link: the address at which it waits, if it is open, the deliveries to come and the frames sent, if they are known, and its count of faults
 pub record Linked : Type 0 where
@@ -102,6 +103,6 @@ stage_at_return s = record { out = (s.0).now; link = (s.1.0).now; fresh = (s.1.1
 
 -- ---- what is left as it was
 
--- no call changes what files hold: they are as before but for their count
+-- no call changes what files hold: they are as before but for their faults
 abbrev pub IsKept : (files files' : Filed) → Type 0
 IsKept files files' = files' ≡ record files { faults = files'.faults }

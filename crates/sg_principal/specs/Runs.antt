@@ -59,7 +59,7 @@ WaitsAt keys old new ending = ((new.link).bound ≡ Some (waits_at keys)) ⊎ ((
 -- a run ends so: the files hold a setup, which is played over the link at the address of its keys; or they hold none, and nothing is touched
 abbrev pub Runs : RunFiles → (most : ℕ) → (files files' : Filed) → (old new : Stage) → Ending → Type 0
 Runs named most files files' old new ending =
-    ((s : Setup) × (result : Result (Unit {0}) PlayFault) × HasSetup files.held named s × WaitsAt s.keys old new ending × EndsPlaying s most old new result × (ending ≡ ending_of_play result))
+    ((s : Setup) × (result : Result (Unit {0}) PlayFault) × HasSetup files.held named s × WaitsAt s.keys old new ending × EndsPlaying s most old new result × (ending ≡ ending_of_play result) × (files'.faults ≡ files.faults))
     ⊎ ((new ≡ old) × LacksSetup files.held files.faults files'.faults named ending)
 
 -- with these endings a run may have played

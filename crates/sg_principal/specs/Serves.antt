@@ -76,7 +76,7 @@ ServesPrincipal (Some file) p old new disk disk' ending =
 -- a run for an application ends so: the files hold a principal, which serves; or they hold none, and nothing is touched, nor the disk asked
 abbrev pub ServesRun : NamedFiles → (files files' : Filed) → (old new : Application) → (disk disk' : Disked) → Ending → Type 0
 ServesRun named files files' old new disk disk' ending =
-    ((p : Principal) × HasPrincipal files.held named.keys named.programs p × ServesPrincipal named.ledger p old new disk disk' ending)
+    ((p : Principal) × HasPrincipal files.held named.keys named.programs p × ServesPrincipal named.ledger p old new disk disk' ending × (files'.faults ≡ files.faults))
     ⊎ ((new ≡ old) × IsNotAsked disk disk' × LacksPrincipal files.held files.faults files'.faults named.keys named.programs ending)
 
 -- with these endings a run for an application may have begun

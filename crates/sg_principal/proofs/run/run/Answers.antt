@@ -14,6 +14,7 @@ returns-in-Ok-clause-runs g c =
       waits (c.in-Ok.setup).keys _ _ (ending_held c.ended.result) (λ e. c.ended.ensures.ending ∙ ap ending_of_play e) c.play_setup.ensures.waits,
       c.play_setup.ensures.ends,
       c.ended.ensures.ending,
+      c.in-Ok.ensures.no_fault,
     )
 
 pub returns-in-Ok-clause-as_before : goal.returns-in-Ok-clause-as_before
