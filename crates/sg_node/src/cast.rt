@@ -73,8 +73,7 @@ pub(crate) fn facts_of_starter(programs: &Programs, digest: &[u8; 32], program: 
     ensures first { program_for programs.now digest.now program.now.role ≡ Some program.now }
     ensures starts { role_at (shape program.now.graph) 0 ≡ program.now.role }
     ensures digest { program.now.digest ≡ digest.now }
-{
-}
+{}
 
 // The first program of a graph with this digest for a role starts its graph.
 fn is_starting(programs: &Programs, digest: &[u8; 32], role: Role) -> bool

@@ -79,10 +79,10 @@ starter_found ps digest p e = by (program_for ps digest p.role) refl
         let h = program_found ps digest p.role z f in
         let s : starts z ≡ true = sym (ap (λ o. option_map_or starts o false) f) ∙ its.1 in
         let same : z ≡ p = same_first begins (λ (q : Program). bytes_eq q.digest digest && (q.role == p.role)) ps p z e f
-            (ap (λ t. t && (p.role == p.role)) its.0 ∙ eq-eqb p.role p.role refl)
-            (ap (λ d. bytes_eq d digest && option_map_or starts (program_for ps digest z.role) false) (h.0 ∙ sym (same_bytes p.digest digest its.0))
-            ∙ ap (λ t. t && option_map_or starts (program_for ps digest z.role) false) its.0
-            ∙ ap (λ r. option_map_or starts (program_for ps digest r) false) h.1 ∙ its.1) in
+        (ap (λ t. t && (p.role == p.role)) its.0 ∙ eq-eqb p.role p.role refl)
+        (ap (λ d. bytes_eq d digest && option_map_or starts (program_for ps digest z.role) false) (h.0 ∙ sym (same_bytes p.digest digest its.0))
+        ∙ ap (λ t. t && option_map_or starts (program_for ps digest z.role) false) its.0
+        ∙ ap (λ r. option_map_or starts (program_for ps digest r) false) h.1 ∙ its.1) in
         record {
           digest_is = same_bytes p.digest digest its.0;
           role_is = eqb-true p.role (role_at (shape p.graph) 0) (sym (ap starts same) ∙ s);

@@ -9,7 +9,8 @@
 //! - A file that is the only one of its command is read whole here (`file`), and the command is what is done with its bytes.
 //! - `stream` is `run` over the link over connections: its deliveries are the frames whose messages become whole, in that order.
 //! - Each status has its cause: a refusal comes if the arguments or the bytes ask for it, and a fault of a file, of an output, of the input,
-//!   of the link or of the disk only if its count of faults rose. Out of memory alone may come in place of anything.
+//!   of the link or of the disk only if its count of faults rose; that of a file names the one for which the call failed. Out of memory alone
+//!   may come in place of anything.
 //! - With each status but 0 and 6 one line on standard error says why (`sg_ending`). If that line isn't taken, the status is that of a failed write.
 //!
 //! `laws` says of each command on one file that its endings exclude each other, and of `stream` whose fault a failed link was.
