@@ -60,7 +60,7 @@ pub(crate) fn first_starter<'p>(programs: &'p Programs, digest: &[u8; 32]) -> Op
     ensures { option_copied result ≡ starter programs.now digest.now }
 {
     for program in programs.as_slice() {
-        if program.digest() == digest && is_starting(programs, digest, program.role()) {
+        if program.digest() == digest && is_starting(programs, digest, program) {
             return Some(program);
         }
     }
@@ -75,12 +75,12 @@ pub(crate) fn facts_of_starter(programs: &Programs, digest: &[u8; 32], program: 
     ensures digest { program.now.digest ≡ digest.now }
 {}
 
-// The first program of a graph with this digest for a role starts its graph.
-fn is_starting(programs: &Programs, digest: &[u8; 32], role: Role) -> bool
-    ensures { result ≡ option_map_or starts (program_for programs.now digest.now role) false }
+// The first program of a graph with this digest for the role of this one starts its graph.
+fn is_starting(programs: &Programs, digest: &[u8; 32], program: &Program) -> bool
+    ensures { result ≡ option_map_or starts (program_for programs.now digest.now program.now.role) false }
 {
-    match program_for(programs, digest, role) {
-        Some(program) => starts(program),
+    match program_for(programs, digest, program.role()) {
+        Some(first) => starts(first),
         None => false,
     }
 }
