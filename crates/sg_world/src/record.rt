@@ -1,5 +1,5 @@
 //! The record of a replay.
-ghost use Rattle.std.specs.Prelude.{◌≡◌, ◌+◌, ◌<◌, ◌^◌, ◌++◌, ◌∷◌, [], length, sum_by, vec_len, vec_capacity, option_map, IfOk, OnOk};
+ghost use Rattle.std.specs.Prelude.{◌≡◌, ◌+◌, ◌<◌, ◌≤◌, ◌^◌, ◌++◌, ◌∷◌, [], length, sum_by, vec_len, vec_capacity, option_map, IfOk, OnOk};
 ghost use Rattle.std.specs.Option.{option_copied, option_map_or, option_to_list};
 ghost use Rattle.sg_model.specs.Last.{last};
 ghost use Rattle.sg_sched.specs.Format.StepsHeld.{step_of};
@@ -108,7 +108,8 @@ impl<'p> Model for Record<'p> {
 impl<'p> Record<'p> {
     /// The record of a replay of which no step was taken, of this size. There is room for so many steps, so that it isn't copied as it grows.
     pub fn new(alloc: Global, steps: usize, size: u64) -> Result<Record<'p>, OutOfMemory>
-        ensures { IfOk result (λ r. r.done ≡ record { entries = []; notes = []; frames = []; size = size }) }
+        ensures blank { IfOk result (λ r. r.done ≡ record { entries = []; notes = []; frames = []; size = size }) }
+        ensures room { IfOk result (λ r. steps ≤ r.room) }
     {
         Ok(Record {
             entries: Vec::with_capacity(alloc, steps)?,
