@@ -1,5 +1,5 @@
 //! Answers of a few words.
-ghost use Rattle.std.specs.Prelude.{◌≡◌, ◌<◌, ◌++◌, ◌∷◌, [], false, OnOk, codes};
+ghost use Rattle.std.specs.Prelude.{◌≡◌, ◌<◌, ◌++◌, ◌∷◌, [], false, OnOk};
 ghost use Rattle.std.specs.Fmt.{digit_glyph};
 ghost use Rattle.sg_text.specs.Sessions.{numbered};
 ghost use Rattle.sg_answers.specs.Answers.{again_text, failed_text, hex_text, id_text, nothing_text, over_text, quiet_text, unknown_text, unsent_text, waits_text, wrong_text};
@@ -50,11 +50,11 @@ pub fn put_failed(out: &mut ByteOut) -> Result<(), OutOfMemory>
 }
 
 /// Writes that the frame of this number went to the principal once more.
-pub fn put_again(out: &mut ByteOut, frame: u32, to: &Name) -> Result<(), OutOfMemory>
+pub fn put_again(out: &mut ByteOut, frame: u64, to: &Name) -> Result<(), OutOfMemory>
     ensures { OnOk result (out.new ≡ out.old ++ again_text frame to.now) }
 {
     out.bytes(b"again f")?;
-    out.decimal(u64::from(frame))?;
+    out.decimal(frame)?;
     out.bytes(b" to ")?;
     out.bytes(to.as_bytes())?;
     out.u8(b'\n')

@@ -1,5 +1,5 @@
 -- Which answers have their names in a graph, and that the graph of others says nothing.
-use Rattle.std.proofs.Common.{◌≡◌, ℕ, List, true, false, Option, None, true≢false, refl}
+use Rattle.std.proofs.Common.{◌≡◌, ℕ, List, false, Option, None, true≢false, refl}
 use Rattle.sg_protocol.specs.Calls.{Answer, Happened, Sends, NotActed, NotDelivered, ActFault, SendFault, Refusal}
 use Rattle.sg_protocol.specs.Graph.{Graph}
 use Rattle.sg_protocol.specs.Named.{names_numbers}
@@ -14,16 +14,7 @@ reported-without_numbers graph n (NotActed (ActFault.Send (SendFault.BadValues x
 reported-without_numbers graph n (NotDelivered (Refusal.BadOpening x)) h = absurd (true≢false h)
 reported-without_numbers graph n other h = tt
 
--- ---- what has its names in no graph has none
-
-pub reported-anywhere : (graph : Option Graph) (t : Reported) → CanBeReported None t → CanBeReported graph t
-reported-anywhere graph (Reported.Happened e) h = absurd h
-reported-anywhere graph (Reported.Sends e to frame) h = absurd h
-reported-anywhere graph (Reported.NotActed (ActFault.Send (SendFault.BadValues x))) h = absurd h
-reported-anywhere graph (Reported.NotDelivered (Refusal.BadOpening x)) h = absurd h
-reported-anywhere graph other h = tt
-
--- so its text is the same by any
+-- what has its names in no graph has none, so its text is the same by any
 pub text-anywhere : (session : List ℕ) (g h : Graph) (t : Reported) → CanBeReported None t → reported_text session g t ≡ reported_text session h t
 text-anywhere session g h (Reported.Happened e) k = absurd k
 text-anywhere session g h (Reported.Sends e to frame) k = absurd k

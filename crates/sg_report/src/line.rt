@@ -1,11 +1,10 @@
 //! The line of a step.
 ghost use Rattle.std.specs.Prelude.{◌≡◌, ◌++◌, IfOk, OnErr, OnOk, codes, length, take};
 ghost use Rattle.std.specs.Fmt.{decimal};
-ghost use Rattle.sg_protocol.specs.Named.{HasEvent};
 ghost use Rattle.sg_walk.specs.Model.{event_of};
 ghost use Rattle.sg_report.specs.Lines.{by_whom, graph_or_none, line_text, reported_text};
 ghost use Rattle.sg_report.specs.Outcome.{graph_in, outcome_of};
-ghost use Rattle.sg_report.specs.Reported.{CanBeReported, Happened, Sends};
+ghost use Rattle.sg_report.specs.Reported.{Happened, Sends};
 
 use crate::Outcome;
 use crate::reason::{put_act_refusal, put_delivery_refusal, put_start_refusal};
@@ -15,8 +14,8 @@ use sg_text::{put_event, put_event_values, put_sent_to};
 use sg_walk::Event;
 use std::alloc::Global;
 
-/// The line of a step: its number, counted from 1, the principal, and the outcome, in a session of this name. If a role, a
-/// label or a variable is named by its number, the graph beside it has it. A craft is nobody's.
+/// The line of a step: its number, counted from 1, the principal, and the outcome, in a session of this name. A role, a label or a
+/// variable that the graph beside it hasn't has no name. A craft is nobody's.
 pub fn report_line(
     alloc: Global,
     step: u64,
@@ -24,7 +23,6 @@ pub fn report_line(
     session: &[u8],
     outcome: &Outcome<'_>,
 ) -> Result<Vec<u8>, OutOfMemory>
-    requires { CanBeReported (graph_in outcome.now) (outcome_of outcome.now) }
     ensures { IfOk result (λ text. text.items ≡ line_text session.now (graph_or_none (graph_in outcome.now)) step who (outcome_of outcome.now)) }
 {
     let mut out = ByteOut::new(alloc);
@@ -41,7 +39,6 @@ pub fn put_line(
     session: &[u8],
     outcome: &Outcome<'_>,
 ) -> Result<(), OutOfMemory>
-    requires { CanBeReported (graph_in outcome.now) (outcome_of outcome.now) }
     ensures ok { OnOk result (out.new ≡ out.old ++ line_text session.now (graph_or_none (graph_in outcome.now)) step who.now (outcome_of outcome.now)) }
     ensures prefix { OnErr result (take (length out.old) out.new ≡ out.old) }
 {
@@ -68,7 +65,6 @@ fn put_whom(out: &mut ByteOut, who: &[u8], outcome: &Outcome<'_>) -> Result<(), 
 
 // Writes the outcome of a step.
 fn put_reported(out: &mut ByteOut, session: &[u8], outcome: &Outcome<'_>) -> Result<(), OutOfMemory>
-    requires { CanBeReported (graph_in outcome.now) (outcome_of outcome.now) }
     ensures ok { OnOk result (out.new ≡ out.old ++ reported_text session.now (graph_or_none (graph_in outcome.now)) (outcome_of outcome.now)) }
     ensures prefix { OnErr result (take (length out.old) out.new ≡ out.old) }
 {
@@ -103,7 +99,6 @@ fn put_happened(
     graph: &Graph,
     event: &Event,
 ) -> Result<(), OutOfMemory>
-    requires { HasEvent graph.now (event_of event.now) }
     ensures ok { OnOk result (out.new ≡ out.old ++ reported_text session.now graph.now (Happened (event_of event.now))) }
     ensures prefix { OnErr result (take (length out.old) out.new ≡ out.old) }
 {
@@ -117,9 +112,8 @@ fn put_sending(
     graph: &Graph,
     event: &Event,
     to: &Name,
-    frame: u32,
+    frame: u64,
 ) -> Result<(), OutOfMemory>
-    requires { HasEvent graph.now (event_of event.now) }
     ensures ok { OnOk result (out.new ≡ out.old ++ reported_text session.now graph.now (Sends (event_of event.now) to.now frame)) }
     ensures prefix { OnErr result (take (length out.old) out.new ≡ out.old) }
 {
@@ -136,10 +130,10 @@ fn put_abandoned(out: &mut ByteOut, session: &[u8]) -> Result<(), OutOfMemory>
     out.bytes(b" abandoned")
 }
 
-fn put_crafted(out: &mut ByteOut, frame: u32) -> Result<(), OutOfMemory>
+fn put_crafted(out: &mut ByteOut, frame: u64) -> Result<(), OutOfMemory>
     ensures ok { OnOk result (out.new ≡ out.old ++ (codes "crafted f" ++ decimal frame)) }
     ensures prefix { OnErr result (take (length out.old) out.new ≡ out.old) }
 {
     out.bytes(b"crafted f")?;
-    out.decimal(frame as u64)
+    out.decimal(frame)
 }

@@ -12,7 +12,7 @@ use sg_graph::Graph;
 use sg_node::{ActRefusal, DeliveryRefusal, Happened, Receipt, StartRefusal};
 use sg_walk::{Event, sid_of};
 
-/// The outcome of a step. What it names by a number has its name in the graph that stands beside. None says that memory ran out.
+/// The outcome of a step. What it names by a number has its name in the graph that stands beside, if that has it. None says that memory ran out.
 #[derive(Debug, Drop)]
 pub enum Outcome<'p> {
     /// The principal started a session.
@@ -24,7 +24,7 @@ pub enum Outcome<'p> {
         /// The principal to whom the frame goes.
         to: Name,
         /// The frame's number, from 1.
-        frame: u32,
+        frame: u64,
     },
     /// The principal took a frame.
     Received(Receipt<'p>),
@@ -33,7 +33,7 @@ pub enum Outcome<'p> {
     /// A frame was made and recorded.
     Crafted {
         /// The frame's number, from 1.
-        frame: u32,
+        frame: u64,
     },
     /// No session was started.
     NotStarted(StartRefusal),

@@ -1,14 +1,13 @@
 //! Why a step was refused, in words.
-ghost use Rattle.std.specs.Prelude.{◌≡◌, ◌<◌, ◌++◌, OnErr, OnOk, codes, length, take};
+ghost use Rattle.std.specs.Prelude.{◌≡◌, ◌++◌, OnErr, OnOk, codes, length, take};
 ghost use Rattle.std.specs.Fmt.{decimal};
 ghost use Rattle.sg_node.specs.Faults.{act_refusal, delivery_refusal, graph_of_act_refusal, graph_of_delivery_refusal, start_refusal};
 ghost use Rattle.sg_protocol.specs.Graph.{variable_name};
 ghost use Rattle.sg_report.specs.Lines.{graph_or_none};
 ghost use Rattle.sg_report.specs.Reasons.{act_text, refusal_text, start_text};
-ghost use Rattle.sg_report.specs.Reported.{CanBeReported, NotActed, NotDelivered};
 
 use sg_base::{ByteOut, Name, OutOfMemory, Time, Var};
-use sg_graph::Graph;
+use sg_graph::{Graph, put_var};
 use sg_node::{ActRefusal, DeliveryRefusal, StartRefusal};
 
 /// Writes why a start was refused.
@@ -28,7 +27,6 @@ pub(crate) fn put_start_refusal(out: &mut ByteOut, why: &StartRefusal) -> Result
 
 /// Writes why an act was refused.
 pub(crate) fn put_act_refusal(out: &mut ByteOut, why: &ActRefusal<'_>) -> Result<(), OutOfMemory>
-    requires { CanBeReported (graph_of_act_refusal why.now) (NotActed (act_refusal why.now)) }
     ensures ok { OnOk result (out.new ≡ out.old ++ act_text (graph_or_none (graph_of_act_refusal why.now)) (act_refusal why.now)) }
     ensures prefix { OnErr result (take (length out.old) out.new ≡ out.old) }
 {
@@ -46,7 +44,6 @@ pub(crate) fn put_delivery_refusal(
     out: &mut ByteOut,
     why: &DeliveryRefusal<'_>,
 ) -> Result<(), OutOfMemory>
-    requires { CanBeReported (graph_of_delivery_refusal why.now) (NotDelivered (delivery_refusal why.now)) }
     ensures ok { OnOk result (out.new ≡ out.old ++ refusal_text (graph_or_none (graph_of_delivery_refusal why.now)) (delivery_refusal why.now)) }
     ensures prefix { OnErr result (take (length out.old) out.new ≡ out.old) }
 {
@@ -102,10 +99,9 @@ fn put_bad_time(out: &mut ByteOut, item: u32, got: Time, least: Time) -> Result<
 
 // Writes words and the name of a variable of a graph.
 fn put_variable(out: &mut ByteOut, words: &[u8], graph: &Graph, var: Var) -> Result<(), OutOfMemory>
-    requires { var < length graph.now.variables }
     ensures ok { OnOk result (out.new ≡ out.old ++ (words.now ++ variable_name graph.now var)) }
     ensures prefix { OnErr result (take (length out.old) out.new ≡ out.old) }
 {
     out.bytes(words)?;
-    out.bytes(graph.var_name(var).as_bytes())
+    put_var(out, graph, var)
 }

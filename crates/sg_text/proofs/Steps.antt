@@ -1,38 +1,20 @@
 -- The steps of a stored walk are the graph's, and how they are written.
-use Rattle.std.proofs.Common.{◌≡◌, ℕ, ◌<◌, nat_lt, Bool, sym, ap, refl, subst, List, [], ◌∷◌, ◌++◌, length, if◌then◌else◌}
+use Rattle.std.proofs.Common.{◌≡◌, ℕ, ◌<◌, Bool, ap, refl, subst, List, [], ◌∷◌, ◌++◌, if◌then◌else◌}
 use Rattle.std.specs.Prelude.{flat_map, codes}
-use Rattle.std.specs.List.{AllByRecursion, list_all}
-use Rattle.std.proofs.lemmas.Bool.{and_parts}
-use Rattle.std.proofs.lemmas.List.{get_or-map, length-map}
-use Rattle.sg_model.specs.Lists.{keys_of, rises_from}
-use Rattle.sg_model.specs.Shape.{Arrow, Walk, sender, target}
-use Rattle.sg_model.proofs.Small.{all_below}
-use Rattle.sg_protocol.specs.Graph.{Graph, Edge, IsGraph, shape, writes}
-use Rattle.sg_protocol.specs.Walk.{StoredStep, IsStoredStep, IsStoredWalk, labels}
-use Rattle.sg_graph.specs.Parts.{edge_at, edge_name}
+use Rattle.std.proofs.lemmas.List.{length-map}
+use Rattle.sg_model.specs.Shape.{Walk, sender, target}
+use Rattle.sg_protocol.specs.Graph.{Graph, shape}
+use Rattle.sg_protocol.specs.Walk.{StoredStep, IsStoredWalk, labels}
+use Rattle.sg_graph.specs.Parts.{edge_name}
 use Rattle.sg_text.specs.Walks.{HasSteps, step_text, walk_line, written}
 
--- an edge without its name
-abbrev arrow : Edge → Arrow
-arrow e = record { source = e.source; target = e.target; writes = e.writes; reads = e.reads }
+steps_from : (g : Graph) (m : ℕ) (steps : List StoredStep) → Walk (shape g) m (labels steps) → HasSteps g steps
+steps_from g m [] w = tt
+steps_from g m (s ∷ ss) w = (subst (λ n. s.label < n) (length-map g.edges _) w.0, steps_from g (target (shape g) s.label) ss w.2)
 
-module _ (g : Graph) (is : IsGraph g) where
-  writes_below : (e : ℕ) → e < length g.edges → AllByRecursion (λ x. x < length g.variables) (writes g e)
-  writes_below e there =
-      let at : writes g e ≡ (edge_at g e).writes = ap (λ (a : Arrow). a.writes) (get_or-map arrow g.edges e (record { name = []; source = 0; target = 0; writes = []; reads = [] }) (record { source = 0; target = 0; writes = []; reads = [] }) there) in
-      let numbers = (is.variables e (record { name = []; source = 0; target = 0; writes = []; reads = [] }) there).0 in
-      subst (AllByRecursion (λ x. x < length g.variables)) (sym at) (all_below (length g.variables) (edge_at g e).writes (and_parts (rises_from 0 (edge_at g e).writes) (list_all (λ k. nat_lt k (length g.variables)) (edge_at g e).writes) numbers).1)
-
-  steps_from : (m : ℕ) (steps : List StoredStep) → Walk (shape g) m (labels steps) → AllByRecursion (IsStoredStep g) steps → HasSteps g steps
-  steps_from m [] w v = tt
-  steps_from m (s ∷ ss) w v =
-      let there : s.label < length g.edges = subst (λ n. s.label < n) (length-map g.edges _) w.0 in
-      let variables : AllByRecursion (λ x. x < length g.variables) (keys_of s.writes) = subst (AllByRecursion (λ x. x < length g.variables)) (sym v.0.0) (writes_below s.label there) in
-      ((there, variables), steps_from (target (shape g) s.label) ss w.2 v.1)
-
-  -- a graph has the steps of its stored walks
-  pub HasSteps-IsStoredWalk : (steps : List StoredStep) → IsStoredWalk g steps → HasSteps g steps
-  HasSteps-IsStoredWalk steps w = steps_from 0 steps w.walk w.values
+-- a graph has the steps of its stored walks
+pub HasSteps-IsStoredWalk : (g : Graph) (steps : List StoredStep) → IsStoredWalk g steps → HasSteps g steps
+HasSteps-IsStoredWalk g steps w = steps_from g 0 steps w.walk
 
 -- a walk is written the same, whichever test says which roles are honest
 module _ (session : List ℕ) (g : Graph) (one two : ℕ → Bool) (same : (r : ℕ) → one r ≡ two r) where

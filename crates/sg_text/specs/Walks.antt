@@ -2,7 +2,6 @@
 use Rattle.std.specs.Prelude.{ℕ, ◌<◌, Bool, if◌then◌else◌, List, [], ◌∷◌, ◌++◌, map, flat_map, length, codes, Option}
 use Rattle.std.specs.List.{AllByRecursion}
 use Rattle.sg_model.specs.Last.{Map}
-use Rattle.sg_model.specs.Lists.{keys_of}
 use Rattle.sg_model.specs.Shape.{sender}
 use Rattle.sg_model.specs.Values.{Value}
 use Rattle.sg_protocol.specs.Graph.{Graph, shape}
@@ -32,6 +31,6 @@ step_text g honest s = 32 ∷ (if honest (sender (shape g) s.label) then [] else
 abbrev pub walk_line : (session : List ℕ) → Graph → (honest : ℕ → Bool) → List StoredStep → List ℕ
 walk_line session g honest steps = codes "walk " ++ session ++ 58 ∷ flat_map (step_text g honest) steps ++ 10 ∷ []
 
--- the graph has the label and the variables of each step
+-- the graph has the label of each step
 abbrev pub HasSteps : Graph → List StoredStep → Type 0
-HasSteps g steps = AllByRecursion (λ s. (s.label < length g.edges) × AllByRecursion (λ x. x < length g.variables) (keys_of s.writes)) steps
+HasSteps g steps = AllByRecursion (λ s. s.label < length g.edges) steps

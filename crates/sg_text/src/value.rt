@@ -1,5 +1,5 @@
 //! Values of variables.
-ghost use Rattle.std.specs.Prelude.{◌≡◌, ◌<◌, ◌++◌, ◌∷◌, [], All, OnErr, OnOk, false, flat_map, length, option_map, take};
+ghost use Rattle.std.specs.Prelude.{◌≡◌, ◌<◌, ◌++◌, ◌∷◌, [], OnErr, OnOk, false, flat_map, length, option_map, take};
 ghost use Rattle.std.specs.Fmt.{digit_glyph, signed_decimal};
 ghost use Rattle.std.specs.Option.{option_copied};
 ghost use Rattle.sg_base.specs.Model.{value_of};
@@ -8,7 +8,7 @@ ghost use Rattle.sg_walk.specs.Model.{values_of};
 
 use itoa::Buffer;
 use sg_base::{ByteOut, Chars, OutOfMemory, Value, Var};
-use sg_graph::Graph;
+use sg_graph::{Graph, put_var};
 
 /// Appends a value: a number in digits, a text between quotes. If memory runs out, what was there still stands first.
 pub fn put_value(out: &mut ByteOut, value: &Value) -> Result<(), OutOfMemory>
@@ -85,13 +85,12 @@ fn hex_digit(digit: u8) -> u8
     }
 }
 
-/// Appends a space and a value, for each. If memory runs out, what was there still stands first.
+/// Appends a space and a value, for each; a variable that the graph hasn't has no name. If memory runs out, what was there still stands first.
 pub fn put_values(
     out: &mut ByteOut,
     graph: &Graph,
     values: &[(Var, Value)],
 ) -> Result<(), OutOfMemory>
-    requires { All (λ w. w.0 < length graph.now.variables) values.now }
     ensures ok { OnOk result (out.new ≡ out.old ++ values_text graph.now (values_of values.now)) }
     ensures prefix { OnErr result (take (length out.old) out.new ≡ out.old) }
 {
@@ -110,11 +109,10 @@ pub fn put_assigned(
     var: Var,
     value: Option<&Value>,
 ) -> Result<(), OutOfMemory>
-    requires { var < length graph.now.variables }
     ensures ok { OnOk result (out.new ≡ out.old ++ assigned graph.now var (value_or_hidden (option_map value_of (option_copied value.entry)))) }
     ensures prefix { OnErr result (take (length out.old) out.new ≡ out.old) }
 {
-    out.bytes(graph.var_name(var).as_bytes())?;
+    put_var(out, graph, var)?;
     out.u8(b'=')?;
     match value {
         Some(value) => put_value(out, value),

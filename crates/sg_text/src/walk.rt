@@ -37,7 +37,7 @@ fn put_steps(
     honest: RoleSet,
     steps: &[StoredStep],
 ) -> Result<(), OutOfMemory>
-    requires { All (λ s. (s.label < length graph.now.edges) × All (λ w. w.0 < length graph.now.variables) s.writes) steps.now }
+    requires { All (λ s. s.label < length graph.now.edges) steps.now }
     ensures ok { OnOk result (out.new ≡ out.old ++ flat_map (step_text graph.now (λ r. is_in r honest)) (map step_of steps.now)) }
     ensures prefix { OnErr result (take (length out.old) out.new ≡ out.old) }
 {
@@ -53,7 +53,7 @@ fn put_step(
     honest: RoleSet,
     step: &StoredStep,
 ) -> Result<(), OutOfMemory>
-    requires { (step.now.label < length graph.now.edges) × All (λ w. w.0 < length graph.now.variables) step.now.writes }
+    requires { step.now.label < length graph.now.edges }
     ensures ok { OnOk result (out.new ≡ out.old ++ step_text graph.now (λ r. is_in r honest) (step_of step.now)) }
     ensures prefix { OnErr result (take (length out.old) out.new ≡ out.old) }
 {
@@ -75,7 +75,6 @@ fn put_writes(
     graph: &Graph,
     writes: &[(Var, Option<Value>)],
 ) -> Result<(), OutOfMemory>
-    requires { All (λ w. w.0 < length graph.now.variables) writes.now }
     ensures ok { OnOk result (out.new ≡ out.old ++ written graph.now (writes_of writes.now)) }
     ensures prefix { OnErr result (take (length out.old) out.new ≡ out.old) }
 {
@@ -92,8 +91,6 @@ fn put_bracketed(
     first: &(Var, Option<Value>),
     rest: &[(Var, Option<Value>)],
 ) -> Result<(), OutOfMemory>
-    requires first { first.now.0 < length graph.now.variables }
-    requires rest { All (λ w. w.0 < length graph.now.variables) rest.now }
     ensures ok { OnOk result (out.new ≡ out.old ++ written graph.now (writes_of (first.now ∷ rest.now))) }
     ensures prefix { OnErr result (take (length out.old) out.new ≡ out.old) }
 {
@@ -109,7 +106,6 @@ fn put_more(
     graph: &Graph,
     writes: &[(Var, Option<Value>)],
 ) -> Result<(), OutOfMemory>
-    requires { All (λ w. w.0 < length graph.now.variables) writes.now }
     ensures ok { OnOk result (out.new ≡ out.old ++ flat_map (λ t. 44 ∷ t) (map (write_text graph.now) (writes_of writes.now))) }
     ensures prefix { OnErr result (take (length out.old) out.new ≡ out.old) }
 {
@@ -126,7 +122,6 @@ fn put_write(
     graph: &Graph,
     write: &(Var, Option<Value>),
 ) -> Result<(), OutOfMemory>
-    requires { write.now.0 < length graph.now.variables }
     ensures ok { OnOk result (out.new ≡ out.old ++ write_text graph.now (write.now.0, option_map value_of write.now.1)) }
     ensures prefix { OnErr result (take (length out.old) out.new ≡ out.old) }
 {
