@@ -1,193 +1,168 @@
 -- What is kept after any calls.
-use Rattle.std.proofs.Common.{◌≡◌, ◌⊎◌, ℕ, Bool, true, false, not, sym, ap, ◌∙◌, subst, refl, List, [], ◌∷◌, ◌++◌, map, filter, if◌then◌else◌, Option, Some, None, bytes_eq, nat_lt, inl, inr, true≢false}
-use Rattle.std.specs.Prelude.{length, fold}
-use Rattle.std.specs.List.{AllByRecursion, find}
-use Rattle.std.specs.Option.{option_map, unwrap_or}
+use Rattle.std.proofs.Common.{◌≡◌, ◌⊎◌, ◌≤◌, ◌+◌, ℕ, Bool, true, false, sym, ap, ◌∙◌, refl, List, [], ◌∷◌, ◌++◌, if◌then◌else◌, Option, Some, None, bytes_eq, nat_lt, inl, inr, arith, length-append}
+use Rattle.std.specs.Prelude.{length, drop, fold}
+use Rattle.std.specs.Cmp.Lexicographic.{slice_cmp}
+use Rattle.std.specs.FinMap.{get, get-empty, insert}
+use Rattle.std.specs.List.{list_any}
+use Rattle.std.specs.Option.{option_map, option_map_or}
+use Rattle.std.specs.Ordering.{nat_cmp}
 use Rattle.std.proofs.lemmas.Bool.{cases_Bool}
+use Rattle.std.proofs.lemmas.Bool.Decides.{nat_tests}
 use Rattle.std.proofs.lemmas.Slice.Eq.{bytes_eq-Decides}
-use Rattle.sg_model.proofs.Small.{bytes_eq-flip}
-use Rattle.sg_again.specs.LastFrames.{KeptFrame, SentFrame, most_over, is_of, is_over, over, without, without_first_over, within_limit, frame_of}
-use Rattle.sg_again.specs.Laws.{Call, Sends, Ends, after_call, kept_after, last_after, last_sent, live_after, KeepsTheLast, KeepsTheLive}
+use Rattle.sg_again.specs.LastFrames.{KeptFrame, SentFrame, Frames, LastFrames, most_over, no_frames, frame_of, sent, ended, ends, within_limit, without_first}
+use Rattle.sg_again.specs.Laws.{Call, Sends, Ends, after_call, last_after, ended_after, KeepsTheLast, KeepsTheLive, KeepsFew}
+use Rattle.sg_again.proofs.Kept.{get_put, get_less}
 
--- ---- each frame of the session is its last one
+-- ---- by what is kept of a session, and by how many ended
+
+ended_by : (P : LastFrames → Type 0) (l : LastFrames) (s : List ℕ) → P l → ((k : KeptFrame) → get l.frames s ≡ Some k → P (ends l s k.frame)) → P (ended l s)
+ended_by P l s p q = by (get l.frames s) refl
+  where
+    on : (k : KeptFrame) → get l.frames s ≡ Some k → (b : Bool) → P (if b then ends l s k.frame else l)
+    on k e true = q k e
+    on k e false = p
+
+    by : (o : Option KeptFrame) → get l.frames s ≡ o → P (option_map_or (λ (k : KeptFrame). if k.live then ends l s k.frame else l) o l)
+    by None e = p
+    by (Some k) e = on k e k.live
+
+limit_by : (P : LastFrames → Type 0) (l : LastFrames) → (nat_lt most_over (length l.over) ≡ false → P l) → (nat_lt most_over (length l.over) ≡ true → P (record { frames = without_first l.over l.frames; over = drop 1 l.over })) → P (within_limit l)
+limit_by P l few many = by (nat_lt most_over (length l.over)) refl
+  where
+    by : (b : Bool) → nat_lt most_over (length l.over) ≡ b → P (if b then record { frames = without_first l.over l.frames; over = drop 1 l.over } else l)
+    by true e = many e
+    by false e = few e
+
+-- ---- what is kept of a session
+
+abbrev frame_in : Option KeptFrame → Option SentFrame
+frame_in o = option_map (λ (k : KeptFrame). k.frame) o
+
+-- the session that ends, whose last frame this is
+abbrev with_one : LastFrames → List ℕ → SentFrame → LastFrames
+with_one l s f = record { frames = insert l.frames s (record { frame = f; live = false }); over = l.over ++ s ∷ [] }
 
 module _ (sid : List ℕ) where
-  abbrev AreLast : Option SentFrame → List KeptFrame → Type 0
-  AreLast last ks = AllByRecursion (λ (k : KeptFrame). is_of sid k ≡ true → last ≡ Some k.frame) ks
+  -- the session is among those that ended
+  abbrev Ended : List (List ℕ) → Bool
+  Ended over = list_any (bytes_eq sid) over
 
-  last-without : (s : List ℕ) (last : Option SentFrame) (ks : List KeptFrame) → AreLast last ks → AreLast last (without s ks)
-  last-without s last [] h = tt
-  last-without s last (k ∷ ks) h = elim (cases_Bool (is_of s k)) [
-    | inl p ↦ rw p (last-without s last ks h.1)
-    | inr p ↦ rw p (h.0, last-without s last ks h.1)
+  sent_frame : (l : LastFrames) (s : List ℕ) (f : SentFrame) → frame_of (sent l s f) sid ≡ (if bytes_eq sid s then Some f else frame_of l sid)
+  sent_frame l s f = elim (cases_Bool (bytes_eq sid s)) [
+    | inl p ↦ ap frame_in (get_put l.frames s _ sid) ∙ (rw p refl)
+    | inr p ↦ ap frame_in (get_put l.frames s _ sid) ∙ (rw p refl)
   ]
 
-  last-none : (last : Option SentFrame) (ks : List KeptFrame) → AreLast last (without sid ks)
-  last-none last [] = tt
-  last-none last (k ∷ ks) = elim (cases_Bool (is_of sid k)) [
-    | inl p ↦ rw p (last-none last ks)
-    | inr p ↦ rw p (λ q. absurd (true≢false (sym q ∙ p)), last-none last ks)
+  ends_frame : (l : LastFrames) (s : List ℕ) (k : KeptFrame) → get l.frames s ≡ Some k → frame_of (with_one l s k.frame) sid ≡ frame_of l sid
+  ends_frame l s k e = elim (cases_Bool (bytes_eq sid s)) [
+    | inl p ↦ ap frame_in (get_put l.frames s _ sid) ∙ (rw p refl) ∙ ap frame_in (sym e) ∙ ap (λ (q : List ℕ). frame_of l q) (sym ((bytes_eq-Decides sid s).0 p))
+    | inr p ↦ ap frame_in (get_put l.frames s _ sid) ∙ (rw p refl)
   ]
 
-  last-append : (last : Option SentFrame) (ks : List KeptFrame) (x : KeptFrame) → AreLast last ks → (is_of sid x ≡ true → last ≡ Some x.frame) → AreLast last (ks ++ x ∷ [])
-  last-append last [] x h p = (p, tt)
-  last-append last (k ∷ ks) x h p = (h.0, last-append last ks x h.1 p)
-
-  last-over : (s : List ℕ) (last : Option SentFrame) (ks : List KeptFrame) → AreLast last ks → AreLast last (map (over s) ks)
-  last-over s last [] h = tt
-  last-over s last (k ∷ ks) h = elim (cases_Bool (is_of s k)) [
-    | inl p ↦ rw p (h.0, last-over s last ks h.1)
-    | inr p ↦ rw p (h.0, last-over s last ks h.1)
+  first_frame : (over : List (List ℕ)) (m : Frames) → (get (without_first over m) sid ≡ get m sid) ⊎ (get (without_first over m) sid ≡ None)
+  first_frame [] m = inl refl
+  first_frame (s ∷ ss) m = elim (cases_Bool (bytes_eq sid s)) [
+    | inl p ↦ inr (get_less m s sid ∙ (rw p refl))
+    | inr p ↦ inl (get_less m s sid ∙ (rw p refl))
   ]
 
-  last-first_over : (last : Option SentFrame) (ks : List KeptFrame) → AreLast last ks → AreLast last (without_first_over ks)
-  last-first_over last [] h = tt
-  last-first_over last (k ∷ ks) h = last-first_by last k ks h (last-first_over last ks h.1) (is_over k)
-    where
-      last-first_by : (last : Option SentFrame) (k : KeptFrame) (ks : List KeptFrame) → AreLast last (k ∷ ks) → AreLast last (without_first_over ks) → (b : Bool) → AreLast last (if b then ks else k ∷ without_first_over ks)
-      last-first_by last k ks h rest true = h.1
-      last-first_by last k ks h rest false = (h.0, rest)
-
-  last-limit : (last : Option SentFrame) (ks : List KeptFrame) → AreLast last ks → AreLast last (within_limit ks)
-  last-limit last ks h = by (nat_lt most_over (length (filter is_over ks)))
-    where
-      by : (b : Bool) → AreLast last (if b then without_first_over ks else ks)
-      by true = last-first_over last ks h
-      by false = h
-
-  last-call : (c : Call) (last : Option SentFrame) (ks : List KeptFrame) → AreLast last ks → AreLast (last_after sid last c) (after_call ks c)
-  last-call (Sends s f) last ks h = elim (cases_Bool (bytes_eq sid s)) [
-    | inl p ↦ let same : sid ≡ s = (bytes_eq-Decides sid s).0 p in
-        rw p (last-append (Some f) (without s ks) (record { session = s; frame = f; live = true }) (subst (λ (t : List ℕ). AreLast (Some f) (without t ks)) same (last-none (Some f) ks)) (λ q. refl))
-    | inr p ↦ rw p (last-append last (without s ks) (record { session = s; frame = f; live = true }) (last-without s last ks h) (λ q. absurd (true≢false (sym q ∙ p))))
-  ]
-  last-call (Ends s) last ks h = last-limit last (map (over s) ks) (last-over s last ks h)
-
-  last-calls : (cs : List Call) (last : Option SentFrame) (ks : List KeptFrame) → AreLast last ks → AreLast (fold (last_after sid) last cs) (fold after_call ks cs)
-  last-calls [] last ks h = h
-  last-calls (c ∷ cs) last ks h = last-calls cs (last_after sid last c) (after_call ks c) (last-call c last ks h)
-
-  last-found : (last : Option SentFrame) (ks : List KeptFrame) → AreLast last ks → (frame_of ks sid ≡ last) ⊎ (frame_of ks sid ≡ None)
-  last-found last [] h = inr refl
-  last-found last (k ∷ ks) h = elim (cases_Bool (is_of sid k)) [
-    | inl p ↦ inl (rw p (sym (h.0 p)))
-    | inr p ↦ let rest = last-found last ks h.1 in rw p rest
+  other_frame : (over : List (List ℕ)) (m : Frames) → Ended over ≡ false → get (without_first over m) sid ≡ get m sid
+  other_frame [] m h = refl
+  other_frame (s ∷ ss) m h = elim (cases_Bool (bytes_eq sid s)) [
+    | inl p ↦ absurd (let n = rw p at h in let z : true ≡ false = n in cc)
+    | inr p ↦ get_less m s sid ∙ (rw p refl)
   ]
 
--- what is kept of a session is the last frame that it sent, or nothing
+  others_after : (over : List (List ℕ)) → Ended over ≡ false → Ended (drop 1 over) ≡ false
+  others_after [] h = refl
+  others_after (s ∷ ss) h = elim (cases_Bool (bytes_eq sid s)) [
+    | inl p ↦ absurd (let n = rw p at h in let z : true ≡ false = n in cc)
+    | inr p ↦ let n = rw p at h in n
+  ]
+
+  others_with : (over : List (List ℕ)) (s : List ℕ) → Ended over ≡ false → bytes_eq sid s ≡ false → Ended (over ++ s ∷ []) ≡ false
+  others_with [] s h d = rw d refl
+  others_with (x ∷ xs) s h d = elim (cases_Bool (bytes_eq sid x)) [
+    | inl p ↦ absurd (let n = rw p at h in let z : true ≡ false = n in cc)
+    | inr p ↦ let n = rw p at h in rw p (others_with xs s n d)
+  ]
+
+  -- ---- it is the last one, or none
+
+  abbrev IsLast : Option SentFrame → LastFrames → Type 0
+  IsLast last l = (frame_of l sid ≡ last) ⊎ (frame_of l sid ≡ None)
+
+  last-limit : (last : Option SentFrame) (l : LastFrames) → IsLast last l → IsLast last (within_limit l)
+  last-limit last l h = limit_by (IsLast last) l (λ e. h) (λ e. elim (first_frame l.over l.frames) [
+    | inl same ↦ elim h [ inl p ↦ inl (ap frame_in same ∙ p) | inr p ↦ inr (ap frame_in same ∙ p) ]
+    | inr gone ↦ inr (ap frame_in gone)
+  ])
+
+  last-call : (c : Call) (last : Option SentFrame) (l : LastFrames) → IsLast last l → IsLast (last_after sid last c) (after_call l c)
+  last-call (Sends s f) last l h = elim (cases_Bool (bytes_eq sid s)) [
+    | inl p ↦ inl (sent_frame l s f ∙ (rw p refl))
+    | inr p ↦ elim h [ inl q ↦ inl (sent_frame l s f ∙ (rw p q)) | inr q ↦ inr (sent_frame l s f ∙ (rw p q)) ]
+  ]
+  last-call (Ends s) last l h = ended_by (IsLast last) l s h (λ k e. last-limit last (with_one l s k.frame)
+      (elim h [ inl p ↦ inl (ends_frame l s k e ∙ p) | inr p ↦ inr (ends_frame l s k e ∙ p) ]))
+
+  last-calls : (calls : List Call) (last : Option SentFrame) (l : LastFrames) → IsLast last l → IsLast (fold (last_after sid) last calls) (fold after_call l calls)
+  last-calls [] last l h = h
+  last-calls (c ∷ cs) last l h = last-calls cs (last_after sid last c) (after_call l c) (last-call c last l h)
+
+  -- ---- until it has ended, it is the last one
+
+  abbrev IsKept : Option SentFrame → LastFrames → Type 0
+  IsKept last l = (frame_of l sid ≡ last) × (Ended l.over ≡ false)
+
+  kept-limit : (last : Option SentFrame) (l : LastFrames) → IsKept last l → IsKept last (within_limit l)
+  kept-limit last l h = limit_by (IsKept last) l (λ e. h) (λ e. (ap frame_in (other_frame l.over l.frames h.1) ∙ h.0, others_after l.over h.1))
+
+  kept-call : (c : Call) (last : Option SentFrame) (b : Bool) (l : LastFrames) → (b ≡ false → IsKept last l) → ended_after sid b c ≡ false → IsKept (last_after sid last c) (after_call l c)
+  kept-call (Sends s f) last b l h e = elim (cases_Bool (bytes_eq sid s)) [
+    | inl p ↦ (sent_frame l s f ∙ (rw p refl), (h e).1)
+    | inr p ↦ (sent_frame l s f ∙ (rw p (h e).0), (h e).1)
+  ]
+  kept-call (Ends s) last true l h e = absurd (let z : true ≡ false = e in cc)
+  kept-call (Ends s) last false l h e = ended_by (IsKept last) l s (h refl) (λ k is. kept-limit last (with_one l s k.frame) (ends_frame l s k is ∙ (h refl).0, others_with l.over s (h refl).1 e))
+
+  kept-calls : (calls : List Call) (last : Option SentFrame) (b : Bool) (l : LastFrames) → (b ≡ false → IsKept last l) → fold (ended_after sid) b calls ≡ false → frame_of (fold after_call l calls) sid ≡ fold (last_after sid) last calls
+  kept-calls [] last b l h e = (h e).0
+  kept-calls (c ∷ cs) last b l h e = kept-calls cs (last_after sid last c) (ended_after sid b c) (after_call l c) (kept-call c last b l h) e
+
+-- ---- few of them ended
+
+abbrev AreFew : LastFrames → Type 0
+AreFew l = length l.over ≤ most_over
+
+one_more : (over : List (List ℕ)) (s : List ℕ) → length (over ++ s ∷ []) ≡ length over + 1
+one_more over s = length-append over (s ∷ [])
+
+one_less : (over : List (List ℕ)) → length over ≤ most_over + 1 → length (drop 1 over) ≤ most_over
+one_less [] h = omega arith
+one_less (s ∷ ss) h = omega (arith, h)
+
+few-limit : (l : LastFrames) → length l.over ≤ most_over + 1 → AreFew (within_limit l)
+few-limit l h = limit_by AreFew l (λ e. grind (arith, nat_tests, e)) (λ e. one_less l.over h)
+
+few-call : (c : Call) (l : LastFrames) → AreFew l → AreFew (after_call l c)
+few-call (Sends s f) l h = h
+few-call (Ends s) l h = ended_by AreFew l s h (λ k e. few-limit (with_one l s k.frame) (omega (arith, h, one_more l.over s)))
+
+few-calls : (calls : List Call) (l : LastFrames) → AreFew l → AreFew (fold after_call l calls)
+few-calls [] l h = h
+few-calls (c ∷ cs) l h = few-calls cs (after_call l c) (few-call c l h)
+
+-- ---- the laws
+
+no_frame : (sid : List ℕ) → frame_of no_frames sid ≡ None
+no_frame sid = ap frame_in (get-empty (slice_cmp nat_cmp) sid)
+
 pub keeps_last : KeepsTheLast
-keeps_last calls sid = last-found sid (last_sent sid calls) (kept_after calls) (last-calls sid calls None [] tt)
+keeps_last calls sid = last-calls sid calls None no_frames (inl (no_frame sid))
 
--- ---- a frame of a live session stays
-
-module _ (sid : List ℕ) where
-  -- the session's frame is there, as one of a live session
-  record Lives (ks : List KeptFrame) : Type 0 where
-    kept : KeptFrame
-    there : find (is_of sid) ks ≡ Some kept
-    is_live : kept.live ≡ true
-
-  own : (k : KeptFrame) (ks : List KeptFrame) → find (is_of sid) ks ≡ Some k → is_of sid k ≡ true
-  own k [] h = absurd (let z : None ≡ Some k = h in cc)
-  own k (x ∷ ks) h = elim (cases_Bool (is_of sid x)) [
-    | inl p ↦ let n = rw p at h in subst (λ (y : KeptFrame). is_of sid y ≡ true) (ap (λ (o : Option KeptFrame). unwrap_or o k) n) p
-    | inr p ↦ let n = rw p at h in own k ks n
-  ]
-
-  of_other : (s : List ℕ) (k : KeptFrame) → is_of sid k ≡ true → bytes_eq sid s ≡ false → is_of s k ≡ false
-  of_other s k p d = bytes_eq-flip k.session s (subst (λ (t : List ℕ). bytes_eq t s ≡ false) ((bytes_eq-Decides sid k.session).0 p) d)
-
-  lives-append : (x : KeptFrame) (ks : List KeptFrame) → Lives ks → Lives (ks ++ x ∷ [])
-  lives-append x ks h = record { kept = h.kept; there = go ks h.there; is_live = h.is_live }
-    where
-      go : (xs : List KeptFrame) → find (is_of sid) xs ≡ Some h.kept → find (is_of sid) (xs ++ x ∷ []) ≡ Some h.kept
-      go [] f = absurd (let z : None ≡ Some h.kept = f in cc)
-      go (y ∷ ys) f = elim (cases_Bool (is_of sid y)) [
-        | inl p ↦ let n = rw p at f in rw p n
-        | inr p ↦ let n = rw p at f in rw p (go ys n)
-      ]
-
-  find-without : (s : List ℕ) (ks : List KeptFrame) → bytes_eq sid s ≡ false → find (is_of sid) (without s ks) ≡ find (is_of sid) ks
-  find-without s [] d = refl
-  find-without s (k ∷ ks) d = elim (cases_Bool (is_of sid k)) [
-    | inl p ↦ rw (of_other s k p d, p) refl
-    | inr p ↦ elim (cases_Bool (is_of s k)) [
-      | inl q ↦ rw (q, p) (find-without s ks d)
-      | inr q ↦ rw (q, p) (find-without s ks d)
-    ]
-  ]
-
-  find-own : (x : KeptFrame) (ks : List KeptFrame) → is_of sid x ≡ true → find (is_of sid) (without sid ks ++ x ∷ []) ≡ Some x
-  find-own x [] p = rw p refl
-  find-own x (k ∷ ks) p = elim (cases_Bool (is_of sid k)) [
-    | inl q ↦ rw q (find-own x ks p)
-    | inr q ↦ rw (q, q) (find-own x ks p)
-  ]
-
-  find-over : (s : List ℕ) (k : KeptFrame) (ks : List KeptFrame) → is_of s k ≡ false → find (is_of sid) ks ≡ Some k → find (is_of sid) (map (over s) ks) ≡ Some k
-  find-over s k [] d f = absurd (let z : None ≡ Some k = f in cc)
-  find-over s k (x ∷ ks) d f = elim (cases_Bool (is_of sid x)) [
-    | inl p ↦ let n = rw p at f in
-        let same : x ≡ k = ap (λ (o : Option KeptFrame). unwrap_or o k) n in
-        rw (same, d, own k (x ∷ ks) f) refl
-    | inr p ↦ let n = rw p at f in elim (cases_Bool (is_of s x)) [
-      | inl q ↦ rw (q, p) (find-over s k ks d n)
-      | inr q ↦ rw (q, p) (find-over s k ks d n)
-    ]
-  ]
-
-  find-first_over : (k : KeptFrame) (ks : List KeptFrame) → k.live ≡ true → find (is_of sid) ks ≡ Some k → find (is_of sid) (without_first_over ks) ≡ Some k
-  find-first_over k [] l f = f
-  find-first_over k (x ∷ ks) l f = elim (cases_Bool (is_of sid x)) [
-    | inl p ↦ let n = rw p at f in
-        let same : x ≡ k = ap (λ (o : Option KeptFrame). unwrap_or o k) n in
-        let stays : x.live ≡ true = ap (λ (y : KeptFrame). y.live) same ∙ l in
-        let goal : find (is_of sid) (if not x.live then ks else x ∷ without_first_over ks) ≡ Some k = subst (λ (b : Bool). find (is_of sid) (if not b then ks else x ∷ without_first_over ks) ≡ Some k) (sym stays) (subst (λ (b : Bool). (if b then Some x else find (is_of sid) (without_first_over ks)) ≡ Some k) (sym p) n) in
-        goal
-    | inr p ↦ let n = rw p at f in by x.live p n (find-first_over k ks l n)
-  ]
-    where
-      by : (b : Bool) → is_of sid x ≡ false → find (is_of sid) ks ≡ Some k → find (is_of sid) (without_first_over ks) ≡ Some k → find (is_of sid) (if not b then ks else x ∷ without_first_over ks) ≡ Some k
-      by true p n rest = rw p rest
-      by false p n rest = n
-
-  find-limit : (k : KeptFrame) (ks : List KeptFrame) → k.live ≡ true → find (is_of sid) ks ≡ Some k → find (is_of sid) (within_limit ks) ≡ Some k
-  find-limit k ks l f = by (nat_lt most_over (length (filter is_over ks)))
-    where
-      by : (b : Bool) → find (is_of sid) (if b then without_first_over ks else ks) ≡ Some k
-      by true = find-first_over k ks l f
-      by false = f
-
-  lives-call : (c : Call) (live : Bool) (ks : List KeptFrame) → (live ≡ true → Lives ks) → live_after sid live c ≡ true → Lives (after_call ks c)
-  lives-call (Sends s f) live ks h l = elim (cases_Bool (bytes_eq sid s)) [
-    | inl p ↦ let same : sid ≡ s = (bytes_eq-Decides sid s).0 p in
-        let x : KeptFrame = record { session = s; frame = f; live = true } in
-        record { kept = x; there = subst (λ (t : List ℕ). find (is_of sid) (without t ks ++ x ∷ []) ≡ Some x) same (find-own x ks p); is_live = refl }
-    | inr p ↦ let was = rw p at l in
-        let before = h was in
-        lives-append (record { session = s; frame = f; live = true }) (without s ks) (record { kept = before.kept; there = find-without s ks p ∙ before.there; is_live = before.is_live })
-  ]
-  lives-call (Ends s) live ks h l = elim (cases_Bool (bytes_eq sid s)) [
-    | inl p ↦ let n = rw p at l in absurd (true≢false (sym n))
-    | inr p ↦ let was = rw p at l in
-        let before = h was in
-        record {
-          kept = before.kept;
-          there = find-limit before.kept (map (over s) ks) before.is_live (find-over s before.kept ks (of_other s before.kept (own before.kept ks before.there) p) before.there);
-          is_live = before.is_live;
-        }
-  ]
-
-  lives-calls : (cs : List Call) (live : Bool) (ks : List KeptFrame) → (live ≡ true → Lives ks) → fold (live_after sid) live cs ≡ true → Lives (fold after_call ks cs)
-  lives-calls [] live ks h l = h l
-  lives-calls (c ∷ cs) live ks h l = lives-calls cs (live_after sid live c) (after_call ks c) (lives-call c live ks h) l
-
--- the last frame of a session that is live is kept
 pub keeps_live : KeepsTheLive
-keeps_live calls sid l =
-    let there : Lives sid (kept_after calls) = lives-calls sid calls false [] (λ z. absurd (true≢false (sym z))) l in
-    let found : frame_of (kept_after calls) sid ≡ Some there.kept.frame = ap (λ (o : Option KeptFrame). option_map (λ (k : KeptFrame). k.frame) o) there.there in
-    elim (keeps_last calls sid) [
-      | inl e ↦ e
-      | inr n ↦ absurd (let z : None ≡ Some there.kept.frame = sym n ∙ found in cc)
-    ]
+keeps_live calls sid e = kept-calls sid calls None false no_frames (λ _. (no_frame sid, refl)) e
+
+pub keeps_few : KeepsFew
+keeps_few calls = few-calls calls no_frames (omega arith)

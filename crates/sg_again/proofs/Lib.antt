@@ -1,4 +1,2 @@
 pub mod Calls
-pub mod Entries
-pub mod Indexes
-pub mod Indices
+pub mod Kept

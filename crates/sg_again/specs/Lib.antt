@@ -1,3 +1,2 @@
-pub mod Invariant
 pub mod LastFrames
 pub mod Laws

@@ -1,15 +1,13 @@
 //! A frame that is kept.
-ghost use Rattle.std.specs.Prelude.{◌≡◌, true, false};
+ghost use Rattle.std.specs.Prelude.{◌≡◌, false};
 ghost use Rattle.sg_again.specs.LastFrames.{KeptFrame};
 
 use crate::LastFrame;
-use sg_base::Sid;
 use std::marker::Model;
 
 // A session's last frame, and whether the session is live.
 #[derive(Drop)]
 pub(crate) struct FrameEntry {
-    session: Sid,
     frame: LastFrame,
     live: bool,
 }
@@ -19,33 +17,22 @@ impl Model for FrameEntry {
 
     ghost Value = { KeptFrame };
 
-    ghost view = { λ k. record { session = k.session; frame = k.frame; live = k.live } };
+    ghost view = { λ k. record { frame = k.frame; live = k.live } };
 }
 
 impl FrameEntry {
-    // The frame of a live session.
-    pub fn new(session: Sid, frame: LastFrame) -> FrameEntry
-        ensures { result ≡ record { session = session; frame = frame; live = true } }
+    // A frame of a session that is live, or isn't.
+    pub fn new(frame: LastFrame, live: bool) -> FrameEntry
+        ensures { result ≡ record { frame = frame; live = live } }
     {
-        FrameEntry {
-            session,
-            frame,
-            live: true,
-        }
+        FrameEntry { frame, live }
     }
 
     // Says that the session is live no more.
     pub fn end(&mut self)
-        ensures { self.new ≡ record { session = self.old.session; frame = self.old.frame; live = false } }
+        ensures { self.new ≡ record { frame = self.old.frame; live = false } }
     {
         self.live = false;
-    }
-
-    // The session.
-    pub fn session(&self) -> Sid
-        ensures { result ≡ self.now.session }
-    {
-        self.session
     }
 
     // The frame.
@@ -53,5 +40,12 @@ impl FrameEntry {
         ensures { result.now ≡ self.now.frame }
     {
         &self.frame
+    }
+
+    // The session is live.
+    pub fn is_live(&self) -> bool
+        ensures { result ≡ self.now.live }
+    {
+        self.live
     }
 }

@@ -10,7 +10,7 @@ use std::marker::Model;
 /// that it goes to. A clause sees it as these.
 #[derive(Debug, Drop)]
 pub struct LastFrame {
-    number: u32,
+    number: u64,
     to: Name,
     at: Addr,
     bytes: Vec<u8>,
@@ -30,7 +30,7 @@ impl Model for LastFrame {
 
 impl LastFrame {
     /// The frame of these bytes. It takes no memory.
-    pub fn new(number: u32, to: Name, at: Addr, bytes: Vec<u8>) -> LastFrame
+    pub fn new(number: u64, to: Name, at: Addr, bytes: Vec<u8>) -> LastFrame
         requires some { 0 < length bytes.items }
         requires fits { length bytes.items ≤ most_frame_bytes }
         ensures { result ≡ record { number = number; to = to; at = at; bytes = bytes.items } }
@@ -44,7 +44,7 @@ impl LastFrame {
     }
 
     /// Its number.
-    pub fn number(&self) -> u32
+    pub fn number(&self) -> u64
         ensures { result ≡ self.now.number }
     {
         self.number

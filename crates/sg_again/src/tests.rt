@@ -13,7 +13,7 @@ fn send(
     frames: &mut LastFrames,
     alloc: Global,
     session: u32,
-    number: u32,
+    number: u64,
     to: Name,
 ) -> Result<(), OutOfMemory> {
     let at = Addr {
@@ -31,7 +31,7 @@ fn send_all(
     to: Name,
 ) -> Result<(), OutOfMemory> {
     for session in 1u32..=sessions {
-        send(frames, alloc, session, session, to)?;
+        send(frames, alloc, session, u64::from(session), to)?;
     }
     Ok(())
 }
@@ -44,7 +44,7 @@ fn end_all(frames: &mut LastFrames, sessions: u32) -> Result<(), OutOfMemory> {
 }
 
 // The number of the frame that is kept of a session, or 0.
-fn number_of(frames: &LastFrames, session: u32) -> u32 {
+fn number_of(frames: &LastFrames, session: u32) -> u64 {
     match frames.of(&sid_of(session)) {
         Some(frame) => frame.number(),
         None => 0,
@@ -68,6 +68,24 @@ fn the_first_of_4097_ended_sessions_is_gone(rt: HostRuntime) -> Result<(), OutOf
         number_of(&frames, 4_098),
     );
     assert!(rt; kept == (0, 2, 4_097, 4_098));
+    Ok(())
+}
+
+#[test]
+fn the_one_that_ended_first_leaves(rt: HostRuntime) -> Result<(), OutOfMemory> {
+    let Some(name) = Name::new(b"bob") else {
+        return Ok(());
+    };
+    let mut frames = LastFrames::new(rt.alloc());
+    send_all(&mut frames, rt.alloc(), 4_097, name)?;
+    frames.ended(&sid_of(4_097))?;
+    end_all(&mut frames, 4_096)?;
+    let kept = (
+        number_of(&frames, 1),
+        number_of(&frames, 4_096),
+        number_of(&frames, 4_097),
+    );
+    assert!(rt; kept == (1, 4_096, 0));
     Ok(())
 }
 
