@@ -5,7 +5,7 @@ use Rattle.sg_base.specs.Outside.{Appends}
 use Rattle.sg_play.specs.declared.fault.PlayFault.TheVariants.{LinkFailed, WriteFailed, OutOfMemory}
 use Rattle.sg_play.specs.Ends.{Outside, Whole}
 use Rattle.sg_play.specs.Played.{Play}
-use Rattle.sg_play.specs.Steps.{Step, frames_of, lines_of}
+use Rattle.sg_play.specs.Steps.{Step, counted, frames_of, lines_of}
 use Rattle.sg_play.proofs.Endings.{appends_none}
 use Rattle.sg_keep.specs.declared.fault.KeepFault.{KeepFault}
 use Rattle.sg_keep.specs.declared.fault.KeepFault.TheVariants.{Played, DiskFailed}
@@ -43,7 +43,7 @@ represents_silent k p h = record {
     choices = h.player.choices;
     names = h.player.names;
     steps = h.player.steps;
-    frames = h.player.frames ∙ ap (λ (fs : List (Addr × List ℕ)). length fs) (sym (same_frames p.steps));
+    frames = h.player.frames ∙ ap (λ (fs : List (Addr × List ℕ)). counted (length fs)) (sym (same_frames p.steps));
   };
   in_step = same_length p.steps ∙ h.in_step;
   sent = subst (AreOfJoins (joins_made p.past.calls)) (sym (same_frames p.steps)) h.sent;

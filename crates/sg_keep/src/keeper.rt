@@ -42,6 +42,7 @@ impl<'p> Keeper<'p> {
         ensures kept { KeepsBound L.Link O.Sink D.Disk link.old link.new out.old out.new disk.old disk.new result }
         ensures holds { OnOk result (HoldsJoins self.new (D.may_leave disk.new)) }
         ensures joins { OnOk result (self.new.ledger.joins ≡ self.old.player.node.joins) }
+        ensures programs { OnOk result (self.new.player.programs.now ≡ self.old.player.programs.now) }
         ensures any_moment { LeavesOnly D.moment D.left_since disk.old disk.new (RepresentsEither self.old.ledger.joins self.old.player.node.joins) }
         ensures progress { (p : Play) (c : Call) (start : Outside) → IsAsked self.old p c outcome.now → R.random fresh.old ≡ Some p.random
             → Whole start (record { written = O.written out.old; sent = L.sent link.old }) p.steps

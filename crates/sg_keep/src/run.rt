@@ -1,9 +1,10 @@
 //! A play over a ledger: the starts of a script, and then deliveries.
-ghost use Rattle.std.specs.Prelude.{◌≡◌, ◌≤◌, ℕ, List, Some, take, drop, length, OnOk, false};
+ghost use Rattle.std.specs.Prelude.{◌≡◌, ◌≤◌, ℕ, List, All, Some, take, drop, length, OnOk, false};
 ghost use Rattle.sg_ledger.specs.Disk.{LeavesOnly};
 ghost use Rattle.sg_play.specs.Ends.{Outside, Whole};
 ghost use Rattle.sg_play.specs.Played.{Play, all_deliveries, all_starts, played, starts, with_turn};
 ghost use Rattle.sg_protocol.specs.Calls.{Deliver};
+ghost use Rattle.sg_script.specs.Script.{IsScript, IsStart};
 ghost use Rattle.sg_keep.specs.Around.{KeepsBound};
 ghost use Rattle.sg_keep.specs.Faults.{CountsFaults};
 ghost use Rattle.sg_keep.specs.KeptRuns.{AllRepresent, HasKept, KeptThroughout, LeavesAtMost, RepresentsMore};
@@ -31,6 +32,7 @@ impl<'p> Keeper<'p> {
         disk: &mut D,
     ) -> Result<(), KeepFault>
         requires holds { HoldsJoins self.old (D.may_leave disk.old) }
+        requires starts { All (IsStart self.old.player.programs.now) starts.now }
         ensures kept { KeepsBound L.Link O.Sink D.Disk link.old link.new out.old out.new disk.old disk.new result }
         ensures holds { OnOk result (HoldsJoins self.new (D.may_leave disk.new)) }
         ensures more { OnOk result (HasMore self.old.ledger.joins self.new.ledger.joins) }
@@ -61,7 +63,9 @@ impl<'p> Keeper<'p> {
         disk: &mut D,
     ) -> Result<(), KeepFault>
         requires holds { HoldsJoins self.old (D.may_leave disk.old) }
+        requires start { IsStart self.old.player.programs.now start_of.now }
         ensures kept { KeepsBound L.Link O.Sink D.Disk link.old link.new out.old out.new disk.old disk.new result }
+        ensures programs { OnOk result (self.new.player.programs.now ≡ self.old.player.programs.now) }
         ensures holds { OnOk result (HoldsJoins self.new (D.may_leave disk.new)) }
         ensures more { OnOk result (HasMore self.old.ledger.joins self.new.ledger.joins) }
         ensures any_moment { LeavesOnly D.moment D.left_since disk.old disk.new (RepresentsMore self.old.ledger.joins) }
@@ -169,6 +173,7 @@ pub fn keep<'p, L: Link, R: Fresh, O: Sink, D: Disk>(
     requires keys { keys_of_node ≡ keys.now }
     requires working { ledger.failed ≡ false }
     requires represents { AllRepresent (D.may_leave disk.old) ledger.joins }
+    requires script { IsScript programs.now script }
     ensures link_bound { L.bound link.new ≡ L.bound link.old }
     ensures disk_bound { D.bound disk.new ≡ D.bound disk.old }
     ensures faults { CountsFaults (record { link = L.faults link.old; out = O.faults out.old; disk = D.faults disk.old })

@@ -12,7 +12,7 @@ use Rattle.sg_protocol.specs.NodeAfter.{node_after}
 use Rattle.sg_protocol.specs.Restarts.{AreLives, joined_by, reported_in_lives}
 use Rattle.sg_protocol.specs.Texts.{Hash, real}
 use Rattle.sg_protocol.proofs.ReportedLives.{reported_join_once}
-use Rattle.sg_lives.specs.LedgerRuns.{LedgerRun, AreRuns, reported_in_runs, RunsAreLives, RunsReportJoinsOnce}
+use Rattle.sg_lives.specs.LedgerRuns.{reported_in_runs, RunsAreLives, RunsReportJoinsOnce}
 use Rattle.sg_lives.proofs.NodeJoins.{joins_after_all}
 
 take_within : {A : Type 0} (n : ℕ) (xs ys : List A) → n ≤ length xs → take n (xs ++ ys) ≡ take n xs

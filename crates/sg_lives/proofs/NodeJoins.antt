@@ -7,7 +7,6 @@ use Rattle.sg_ledger.specs.Format.{Join}
 use Rattle.sg_model.specs.Last.{Map}
 use Rattle.sg_model.specs.Lists.{first_some}
 use Rattle.sg_model.specs.Values.{Value}
-use Rattle.sg_protocol.proofs.Paths.{flat_map-append}
 use Rattle.sg_protocol.specs.Acting.{answer, acted, rows_of_act, rows_of_start, sent, started}
 use Rattle.sg_protocol.specs.Calls as Protocol
 use Rattle.sg_protocol.specs.Calls.{Received, Call, Answer, Start, Act, Abandon, Deliver, NotStarted, NotActed, NotAbandoned, Refusal, StartFault, ActFault}

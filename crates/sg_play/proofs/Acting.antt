@@ -49,16 +49,16 @@ pub act_is : (sid : List ℕ) (c : Choice) (label : ℕ) (values : Map Value) (c
 act_is sid c label values count drawn random l v n w = let d = w ∙ ap (λ k. next_confounders k random) n in λ i. Act sid (l i) (v i) (d i)
 
 -- the player has acted
-pub has_acted : (old : Player) (n : NodeState) (table : List (Spot × List Choice)) (counted : ℕ) (p : Play) (sid : List ℕ) (graph : Name) (node : ℕ) (c : Choice) (call : Call) (o : Outcome) (frame : Option (Addr × (Name × List ℕ)))
-    (left : Option (List (List ℕ))) → RepresentsPlay old p → acted sid node p ≡ acted_in sid graph node p → find (is_ready graph node) p.choices ≡ Some c → call ≡ act_by sid c p.random → IsAskedWithFrames old.keys.now old.frames counted old.node n p.past call o frame
-    → HoldsChoices table (used graph node p.choices) → left ≡ Some (drop (length c.values) p.random) → HasActed (record old { node = n; choices = table; frames = counted }) left sid node p o (frames_made frame)
-has_acted old n table counted p sid graph node c call o frame left s in_graph first is_call is_asked holds random =
-    let came = subst (λ (k : Call). IsAskedWithFrames old.keys.now old.frames counted old.node n p.past k o frame) is_call is_asked in
+pub has_acted : (old : Player) (n : NodeState) (table : List (Spot × List Choice)) (frames : ℕ) (p : Play) (sid : List ℕ) (graph : Name) (node : ℕ) (c : Choice) (call : Call) (o : Outcome) (frame : Option (Addr × (Name × List ℕ)))
+    (left : Option (List (List ℕ))) → RepresentsPlay old p → acted sid node p ≡ acted_in sid graph node p → find (is_ready graph node) p.choices ≡ Some c → call ≡ act_by sid c p.random → IsAskedWithFrames old.keys.now old.frames frames old.node n p.past call o frame
+    → HoldsChoices table (used graph node p.choices) → left ≡ Some (drop (length c.values) p.random) → HasActed (record old { node = n; choices = table; frames = frames }) left sid node p o (frames_made frame)
+has_acted old n table frames p sid graph node c call o frame left s in_graph first is_call is_asked holds random =
+    let came = subst (λ (k : Call). IsAskedWithFrames old.keys.now old.frames frames old.node n p.past k o frame) is_call is_asked in
     record {
       graph = graph;
       choice = c;
       is_act = in_graph ∙ acted_first sid node p graph c first;
-      asked = asked_made (record old { choices = table }) n counted (chosen graph node c p) (act_by sid c p.random) o frame (by_choice old table p graph node c holds s) came;
+      asked = asked_made (record old { choices = table }) n frames (chosen graph node c p) (act_by sid c p.random) o frame (by_choice old table p graph node c holds s) came;
       random_left = random;
     }
 

@@ -27,7 +27,7 @@ use Rattle.sg_walk.specs.Model.{event_of}
 use Rattle.sg_protocol.specs.Run.{frame_in}
 use Rattle.sg_play.specs.Asking.{IsAsked, IsAskedWithFrames, addressed, sealed_in}
 use Rattle.sg_play.specs.Posting.{frames_made}
-use Rattle.sg_play.specs.Steps.{frames_in}
+use Rattle.sg_play.specs.Steps.{counted, frames_in}
 
 -- an answer that sends no frame has none that is sealed
 none_sealed : (a : Answer) → None ≡ frame_in a → None ≡ sealed_in a
@@ -64,9 +64,9 @@ is_addressed keys (Protocol.Sends e to f) = one_frame f to (addr_of keys to)
 is_addressed keys other = refl
 
 -- what comes of an act, with its frame
-pub results_made : (keys : Keyring) (frames counted : ℕ) (old new : NodeState) (past : Past) (call : Call) (number : ℕ) (o : Outcome) (sealed : Option (Name × List ℕ)) (frame : Option (Addr × (Name × List ℕ)))
-    → number ≡ frames + 1 → IsAsked number old new past call o sealed → frame ≡ addressed keys sealed → counted ≡ frames + length (frames_made frame) → IsAskedWithFrames keys frames counted old new past call o frame
-results_made keys frames counted old new past call number o sealed frame is_number h is_frame counted_so = record {
+pub results_made : (keys : Keyring) (frames frames' : ℕ) (old new : NodeState) (past : Past) (call : Call) (number : ℕ) (o : Outcome) (sealed : Option (Name × List ℕ)) (frame : Option (Addr × (Name × List ℕ)))
+    → number ≡ counted (frames + 1) → IsAsked number old new past call o sealed → frame ≡ addressed keys sealed → frames' ≡ counted (frames + length (frames_made frame)) → IsAskedWithFrames keys frames frames' old new past call o frame
+results_made keys frames frames' old new past call number o sealed frame is_number h is_frame counted_so = record {
   is_asked = record {
     range = h.range;
     is_reported = h.is_reported ∙ ap (λ k. reported_answer k (answer real (node_of past) call)) is_number;

@@ -14,6 +14,7 @@ use Rattle.sg_protocol.specs.NodeStates.{NodeState, RepresentsPast, state_after}
 use Rattle.sg_protocol.specs.Past.{Past, node_of, past_after}
 use Rattle.sg_protocol.specs.Texts.{real}
 use Rattle.sg_report.specs.declared.outcome.Outcome.{Outcome}
+use Rattle.sg_play.specs.Steps.{counted}
 use Rattle.sg_play.specs.Asking.{IsAsked, IsAskedWithFrames, sealed_in}
 use Rattle.sg_play.specs.Representation.{KeepsJoins}
 
@@ -43,11 +44,11 @@ keeps_by number old new c past o sealed its h none =
     (past_after real past c, h.goes_on.represents, pasts_go_on past c its h.range, ap (λ (n : NodeState). n.joins) h.goes_on.state ∙ none (answer real (node_of past) c))
 
 -- an act
-pub keeps_by_act : (keys : Keyring) (frames counted : ℕ) (old new : NodeState) (sid : List ℕ) (label : ℕ) (values : Map Value) (confounders : List (List ℕ)) (o : Outcome) (frame : Option (Addr × (Name × List ℕ)))
-    → ((past : Past) → RepresentsPast old past → IsAskedWithFrames keys frames counted old new past (Act sid label values confounders) o frame) → KeepsJoins old new
-keeps_by_act keys frames counted old new sid label values confounders o frame h past s its =
+pub keeps_by_act : (keys : Keyring) (frames frames' : ℕ) (old new : NodeState) (sid : List ℕ) (label : ℕ) (values : Map Value) (confounders : List (List ℕ)) (o : Outcome) (frame : Option (Addr × (Name × List ℕ)))
+    → ((past : Past) → RepresentsPast old past → IsAskedWithFrames keys frames frames' old new past (Act sid label values confounders) o frame) → KeepsJoins old new
+keeps_by_act keys frames frames' old new sid label values confounders o frame h past s its =
     let act = Act sid label values confounders in
-    keeps_by (frames + 1) old new act past o (sealed_in (answer real (node_of past) act)) its (h past s).is_asked (acts_join_none old sid label values confounders)
+    keeps_by (counted (frames + 1)) old new act past o (sealed_in (answer real (node_of past) act)) its (h past s).is_asked (acts_join_none old sid label values confounders)
 
 -- a leaving
 pub keeps_by_leaving : (number : ℕ) (old new : NodeState) (sid : List ℕ) (o : Outcome) (sealed : Option (Name × List ℕ))

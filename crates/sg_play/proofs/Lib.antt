@@ -1,4 +1,3 @@
-pub mod Numbers
 pub mod Endings
 pub mod Extends
 pub mod Coming
@@ -8,6 +7,7 @@ pub mod Turning
 pub mod Acting
 pub mod Sent
 pub mod Looping
+pub mod Casts
 pub mod Running
 pub mod Results
 pub mod Queues

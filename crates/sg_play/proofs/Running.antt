@@ -1,12 +1,13 @@
 -- A call and the turn that it gives, one after another.
-use Rattle.std.proofs.Common.{◌≡◌, ℕ, ◌+◌, ◌<◌, ◌≤◌, List, [], ◌∷◌, take, drop, length, get_or, Option, Some, Result, Ok, Err, sym, ap, ◌∙◌, subst}
+use Rattle.std.proofs.Common.{◌≡◌, ℕ, ◌+◌, ◌<◌, ◌≤◌, List, [], ◌∷◌, take, drop, length, get_or, Option, Some, Result, Ok, Err, sym, ap, ◌∙◌, subst, All}
 use Rattle.std.specs.Option.{option_map_or}
 use Rattle.std.proofs.lemmas.List.{take_all}
+use Rattle.std.proofs.lemmas.List.Elements.{All-get_or}
 use Rattle.sg_base.specs.declared.address.Addr.{Addr}
 use Rattle.sg_protocol.specs.Calls.{Call, Start, Deliver}
 use Rattle.sg_protocol.specs.Frame.{Cast}
 use Rattle.sg_protocol.specs.Keyring.{Keyring, Program}
-use Rattle.sg_script.specs.Script.{Start as ScriptStart, Script}
+use Rattle.sg_script.specs.Script.{Start as ScriptStart, Choice, IsScript, IsStart, Script}
 use Rattle.sg_play.specs.declared.fault.PlayFault.{PlayFault}
 use Rattle.sg_play.specs.declared.fault.PlayFault.TheVariants.{LinkFailed, OutOfMemory}
 use Rattle.sg_play.specs.declared.player.Player.{Player}
@@ -44,6 +45,15 @@ pub start_is : (p : Play) (s : ScriptStart) (programs : List Program) (nonce : L
 start_is p s programs nonce cast held next e = ap (λ (c : Cast). with_turn (without 1 p) (Start c)) (e ∙ (λ i. cast_of_start (sym held i) s (next i)))
 
 -- ---- starts
+
+-- one of a list that are starts of these programs
+pub start_held : (programs held : List Program) (ss : List ScriptStart) (i : ℕ) (s : ScriptStart) → All (IsStart programs) ss → held ≡ programs → i < length ss → s ≡ get_or ss i s → IsStart held s
+start_held programs held ss i s h same l e = subst (λ (ps : List Program). IsStart ps s) (sym same) (subst (IsStart programs) (sym e) (All-get_or (IsStart programs) ss i s l h))
+
+-- those of a script that was read beside them
+pub starts_held : (programs held : List Program) (script : Script) (ss : List ScriptStart) (cs : List Choice) → IsScript programs script → record { starts = ss; choices = cs } ≡ script → held ≡ programs → All (IsStart held) ss
+starts_held programs held script ss cs h is same =
+    subst (λ (ps : List Program). All (IsStart ps) ss) (sym same) (subst (λ (z : List ScriptStart). All (IsStart programs) z) (ap (λ (z : Script). z.starts) (sym is)) h.starts)
 
 module _ (start now : Outside) (pl : Player) (random : Option (List (List ℕ))) (p : Play) (ss : List ScriptStart) (i : ℕ) where
   -- one more

@@ -17,6 +17,7 @@ use Rattle.sg_report.specs.Outcome.{graph_in, outcome_of}
 use Rattle.sg_report.specs.Reported.{reported_answer}
 use Rattle.sg_report.specs.declared.outcome.Outcome.{Outcome}
 use Rattle.sg_play.specs.Posting.{frames_made}
+use Rattle.sg_play.specs.Steps.{counted}
 
 -- the frame that an answer sends: its receiver, and its bytes
 abbrev pub sealed_in : Answer → Option (Name × List ℕ)
@@ -36,7 +37,7 @@ abbrev pub addressed : Keyring → Option (Name × List ℕ) → Option (Addr ×
 addressed keys sealed = option_and_then (λ s. option_map (λ at. (at, s)) (addr_of keys s.0)) sealed
 
 -- so with the frame that is made, at its address: it has the next number after these, and is counted
-pub record IsAskedWithFrames (keys : Keyring) (frames counted : ℕ) (old new : NodeState) (past : Past) (call : Call) (outcome : Outcome) (frame : Option (Addr × (Name × List ℕ))) : Type 0 where
-  pub is_asked : IsAsked (frames + 1) old new past call outcome (sealed_in (answer real (node_of past) call))
+pub record IsAskedWithFrames (keys : Keyring) (frames frames' : ℕ) (old new : NodeState) (past : Past) (call : Call) (outcome : Outcome) (frame : Option (Addr × (Name × List ℕ))) : Type 0 where
+  pub is_asked : IsAsked (counted (frames + 1)) old new past call outcome (sealed_in (answer real (node_of past) call))
   pub is_frame : frame ≡ addressed keys (sealed_in (answer real (node_of past) call))
-  pub is_counted : counted ≡ frames + length (frames_made frame)
+  pub is_counted : frames' ≡ counted (frames + length (frames_made frame))

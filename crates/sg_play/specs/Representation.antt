@@ -18,7 +18,7 @@ use Rattle.sg_play.specs.declared.player.Player.{Player}
 use Rattle.sg_play.specs.Ends.{Outside, Whole, Ended}
 use Rattle.sg_play.specs.Played.{Play, answer_in, act_by, chosen}
 use Rattle.sg_play.specs.Queues.{HoldsChoices}
-use Rattle.sg_play.specs.Steps.{known_in, frames_in, frames_of}
+use Rattle.sg_play.specs.Steps.{counted, known_in, frames_in, frames_of}
 use Rattle.sg_play.specs.Turns.{acted, acted_by}
 
 -- the player has the play's node, keys and programs, its choices, and what its lines are written by
@@ -29,8 +29,8 @@ pub record RepresentsPlay (pl : Player) (p : Play) : Type 0 where
   pub programs : p.past.programs ≡ pl.programs.now
   pub choices : HoldsChoices pl.choices p.choices
   pub names : pl.names ≡ naming 115 (known_in p.past.calls)
-  pub steps : pl.steps ≡ length p.past.calls
-  pub frames : pl.frames ≡ length (frames_of p.steps)
+  pub steps : pl.steps ≡ counted (length p.past.calls)
+  pub frames : pl.frames ≡ counted (length (frames_of p.steps))
 
 -- the player has asked its node this call, and this is the outcome, which is not reported yet. These frames are counted
 pub record HasAsked (pl : Player) (p : Play) (c : Call) (outcome : Outcome) (made : List (Addr × List ℕ)) : Type 0 where
@@ -40,9 +40,9 @@ pub record HasAsked (pl : Player) (p : Play) (c : Call) (outcome : Outcome) (mad
   pub programs : p.past.programs ≡ pl.programs.now
   pub choices : HoldsChoices pl.choices p.choices
   pub names : pl.names ≡ naming 115 (known_in p.past.calls)
-  pub steps : pl.steps ≡ length p.past.calls
-  pub frames : pl.frames ≡ length (frames_of p.steps) + length made
-  pub is_reported : outcome_of outcome ≡ reported_answer (length (frames_of p.steps) + 1) (answer_in p c)
+  pub steps : pl.steps ≡ counted (length p.past.calls)
+  pub frames : pl.frames ≡ counted (length (frames_of p.steps) + length made)
+  pub is_reported : outcome_of outcome ≡ reported_answer (counted (length (frames_of p.steps) + 1)) (answer_in p c)
   pub is_graph : graph_in outcome ≡ graph_named (answer_in p c) (graph_of_call real (node_of p.past) c)
   pub is_made : made ≡ frames_in p.past.keys (answer_in p c)
 

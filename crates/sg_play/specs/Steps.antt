@@ -1,5 +1,5 @@
 -- The steps of one principal who plays: each is a call of its node, with the line that reports it and the frame that it sends.
-use Rattle.std.specs.Prelude.{ℕ, ◌+◌, List, [], ◌∷◌, map, flat_map, length}
+use Rattle.std.specs.Prelude.{ℕ, ◌+◌, ◌-◌, ◌^◌, min, List, [], ◌∷◌, map, flat_map, length}
 use Rattle.std.specs.Option.{option_map_or}
 use Rattle.sg_base.specs.declared.address.Addr.{Addr}
 use Rattle.sg_protocol.specs.Acting.{answer}
@@ -36,6 +36,10 @@ known_in calls = record { declared = []; events = map sid_of (flat_map (λ c. ev
 
 -- ---- a step
 
+-- a count of steps or frames, which stays at the greatest number that 64 bits hold
+abbrev pub counted : ℕ → ℕ
+counted n = min n (2 ^ 64 - 1)
+
 -- the frame of an answer, for the address that the keyring has for its receiver
 abbrev pub frames_in : Keyring → Answer → List (Addr × List ℕ)
 frames_in keys (Protocol.Sends e to f) = option_map_or (λ at. (at, spelling f) ∷ []) (addr_of keys to) []
@@ -44,9 +48,9 @@ frames_in keys other = []
 -- the line of a call before which `sent` frames were sent, by the graph of the session that the call is of
 abbrev pub line_of : Past → (sent : ℕ) → Call → List ℕ
 line_of past sent c =
-    let reported = reported_answer (sent + 1) (answer real (node_of past) c) in
+    let reported = reported_answer (counted (sent + 1)) (answer real (node_of past) c) in
     let calls = (past_after real past c).calls in
     line_text
     (option_map_or (session_name 115 (known_in calls)) (session_reported (sid_left c) reported) [])
     (graph_or_none (graph_of_call real (node_of past) c))
-    (length calls) past.keys.me reported
+    (counted (length calls)) past.keys.me reported

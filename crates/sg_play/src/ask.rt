@@ -6,6 +6,7 @@ ghost use Rattle.sg_protocol.specs.Past.{Past};
 ghost use Rattle.sg_walk.specs.Model.{values_of};
 ghost use Rattle.sg_play.specs.Asking.{IsAsked, IsAskedWithFrames, addressed};
 ghost use Rattle.sg_play.specs.Posting.{frames_made};
+ghost use Rattle.sg_play.specs.Steps.{counted};
 
 use crate::PlayFault;
 use crate::facts::facts_of_cast;
@@ -66,7 +67,7 @@ pub(crate) fn ask_act<'p>(
     alloc: Global,
     node: &mut Node<'p>,
     keys: &Keyring,
-    frames: &mut u32,
+    frames: &mut u64,
     sid: Sid,
     label: Label,
     values: &[(Var, Value)],
@@ -77,41 +78,40 @@ pub(crate) fn ask_act<'p>(
         → IfOk result (λ r. IsAskedWithFrames keys.now frames.old frames.new node.old node.new past (Act sid label (values_of values.now) confounders.now) r.0 r.1) }
     ensures memory { IfErr result (λ e. e ≡ PlayFault.OutOfMemory) }
 {
-    let number = next_frame(*frames)?;
+    let count = *frames;
+    let number = next_frame(count);
     let (outcome, sealed) = ask_numbered(alloc, node, sid, label, values, confounders, number)?;
-    let frame = addressed(keys, frames, sealed, number);
+    let frame = addressed(keys, sealed);
+    *frames = with_made(count, &frame);
     Ok((outcome, frame))
 }
 
-// The next frame's number, or `OutOfMemory` if a `u32` holds no more.
-fn next_frame(number: u32) -> Result<u32, PlayFault>
-    ensures next { IfOk result (λ n. n ≡ number + 1) }
-    ensures memory { IfErr result (λ e. e ≡ PlayFault.OutOfMemory) }
+// The next frame's number.
+fn next_frame(frames: u64) -> u64
+    ensures { result ≡ counted (frames + 1) }
 {
-    match number.checked_add(1) {
-        Some(next) => Ok(next),
-        None => Err(PlayFault::OutOfMemory),
+    frames.saturating_add(1)
+}
+
+// The count of frames with the one that was made, if one was.
+fn with_made(frames: u64, made: &Option<(Addr, Sealed)>) -> u64
+    ensures { result ≡ counted (frames + length (frames_made made.now)) }
+{
+    match made {
+        Some(_) => next_frame(frames),
+        None => frames,
     }
 }
 
-// A made frame for the address that the keyring has for its receiver. It has this number.
-fn addressed(
-    keys: &Keyring,
-    frames: &mut u32,
-    sealed: Option<Sealed>,
-    number: u32,
-) -> Option<(Addr, Sealed)>
-    ensures frame { result ≡ addressed keys.now sealed }
-    ensures count { number ≡ frames.old + 1 → frames.new ≡ frames.old + length (frames_made result) }
+// A made frame for the address that the keyring has for its receiver.
+fn addressed(keys: &Keyring, sealed: Option<Sealed>) -> Option<(Addr, Sealed)>
+    ensures { result ≡ addressed keys.now sealed }
 {
     let Some(sealed) = sealed else {
         return None;
     };
     match keys.addr(&sealed.to()) {
-        Some(at) => {
-            *frames = number;
-            Some((at, sealed))
-        }
+        Some(at) => Some((at, sealed)),
         None => {
             let _ = sealed.release();
             None
@@ -127,7 +127,7 @@ fn ask_numbered<'p>(
     label: Label,
     values: &[(Var, Value)],
     confounders: &[[u8; 16]],
-    number: u32,
+    number: u64,
 ) -> Result<(Outcome<'p>, Option<Sealed>), PlayFault>
     requires { length confounders.now ≡ length values.now }
     ensures is_asked { (past : Past) → RepresentsPast node.old past

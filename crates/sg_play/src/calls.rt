@@ -50,6 +50,7 @@ impl<'p> Player<'p> {
 
     /// Asks the node to abandon a session: the outcome. The step's line is still to be written, by `report`.
     pub fn ask_abandon(&mut self, sid: Sid) -> Outcome<'p>
+        ensures rest { self.new ≡ record self.old { node = self.new.node } }
         ensures asked { (p : Play) → RepresentsPlay self.old p
             → HasAsked self.new p (Abandon sid) result [] }
         ensures joins { KeepsJoins self.old.node self.new.node }

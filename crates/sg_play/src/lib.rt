@@ -25,7 +25,6 @@ mod facts;
 mod fault;
 mod player;
 mod post;
-mod reported;
 mod run;
 mod turn;
 

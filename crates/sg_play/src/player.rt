@@ -9,24 +9,26 @@ ghost use Rattle.sg_report.specs.Outcome.{graph_in, outcome_of};
 ghost use Rattle.sg_report.specs.Reported.{session_reported, sid_left};
 ghost use Rattle.sg_play.specs.Meeting.{known_more};
 ghost use Rattle.sg_play.specs.Posting.{frames_made};
+ghost use Rattle.sg_play.specs.Steps.{counted};
+ghost use Rattle.sg_script.specs.Script.{IsStart};
 
 use crate::PlayFault;
 use crate::ask::{ask_deliver, ask_start};
 use crate::choices::Choices;
 use crate::post::{OutputStep, let_go, post};
-use crate::reported::reported_line;
 use crate::run::cast_of;
 use sg_base::{Addr, Link, Name, Sealed, Seq, Sid, Sink};
 use sg_keys::Keyring;
 use sg_node::Node;
 use sg_program::Programs;
-use sg_report::{Outcome, sid_reported};
+use sg_report::{Outcome, report_line, sid_reported};
 use sg_script::{ScriptChoice, ScriptStart};
 use sg_text::SessionNames;
 use std::alloc::Global;
 
 /// One principal who plays a script: its node, the keys and programs that the node was made with, the choices with the uses that are
-/// left, and what its lines are written by: what sessions are called, and how many steps were taken and frames sent.
+/// left, and what its lines are written by: what sessions are called, and how many steps were taken and frames sent. A count stays at the
+/// greatest number that 64 bits hold.
 #[derive(Drop)]
 pub struct Player<'p> {
     pub(crate) alloc: Global,
@@ -36,7 +38,7 @@ pub struct Player<'p> {
     pub(crate) choices: Choices,
     pub(crate) names: SessionNames,
     pub(crate) steps: u64,
-    pub(crate) frames: u32,
+    pub(crate) frames: u64,
 }
 
 impl<'p> Player<'p> {
@@ -58,6 +60,7 @@ impl<'p> Player<'p> {
     ) -> Result<Player<'p>, PlayFault>
         ensures represents { IfOk result (λ pl. (first : List (List ℕ × ℕ)) (random : List (List ℕ)) → node.entry ≡ new_state keys.entry.now programs.entry.now first
             → RepresentsPlay pl (beginning keys.entry.now programs.entry.now first choices random)) }
+        ensures programs { IfOk result (λ pl. pl.programs.now ≡ programs.entry.now) }
         ensures memory { IfErr result (λ e. e ≡ PlayFault.OutOfMemory) }
     {
         let names = SessionNames::new(alloc, b's');
@@ -76,18 +79,26 @@ impl<'p> Player<'p> {
         }
     }
 
-    /// Asks the node for a start of a script, with this nonce: the outcome. It is to be given to the outside.
+    /// The programs that the node was made with. It takes no memory.
+    pub fn programs(&self) -> &'p Programs
+        ensures { result.now ≡ self.now.programs.now }
+    {
+        self.programs
+    }
+
+    /// Asks the node for a start of a script that was read beside the programs, with this nonce: the outcome. It is to be given to the outside.
     pub fn ask_start(
         &mut self,
         start_of: &ScriptStart,
         nonce: [u8; 16],
     ) -> Result<Outcome<'p>, PlayFault>
+        requires { IsStart self.old.programs.now start_of.now }
         ensures rest { OnOk result (self.new ≡ record self.old { node = self.new.node }) }
         ensures is_asked { (number : ℕ) (past : Past) → RepresentsPast self.old.node past
             → IfOk result (λ o. IsAsked number self.old.node self.new.node past (Start (cast_of_start self.old.programs.now start_of.now nonce)) o None) }
         ensures memory { IfErr result (λ e. e ≡ PlayFault.OutOfMemory) }
     {
-        let cast = cast_of(self.programs, start_of, nonce)?;
+        let cast = cast_of(self.programs, start_of, nonce);
         ask_start(self.alloc, &mut self.node, cast)
     }
 
@@ -116,6 +127,7 @@ impl<'p> Player<'p> {
             → Whole start (outside_of L.Link O.Sink link.old out.old) p.steps
             → ProgressedOnItsWay start (outside_of L.Link O.Sink link.new out.new) self.new (called p c) result }
         ensures node { OnOk result (self.new.node ≡ self.old.node) }
+        ensures programs { OnOk result (self.new.programs.now ≡ self.old.programs.now) }
     {
         match self.report(left, outcome) {
             Ok(line) => post(OutputStep { line, frame }, link, out),
@@ -128,13 +140,13 @@ impl<'p> Player<'p> {
 
     /// The line of the next step: of the outcome of a call, in the session that the call left, if it left one. It is to be written.
     pub fn report(&mut self, left: Option<Sid>, outcome: &Outcome<'p>) -> Result<Vec<u8>, PlayFault>
-        ensures rest { OnOk result (self.new ≡ record self.old { names = self.new.names; steps = self.old.steps + 1 }) }
+        ensures rest { OnOk result (self.new ≡ record self.old { names = self.new.names; steps = counted (self.old.steps + 1) }) }
         ensures reported { IfOk result (λ line. (p : Play) (c : Call) (made : List (Addr × List ℕ)) → HasAsked self.old p c outcome.now made → left ≡ sid_left c
             → (line.items ≡ (step_in p c).line) × RepresentsPlay self.new (called p c)) }
         ensures memory { IfErr result (λ e. e ≡ PlayFault.OutOfMemory) }
     {
         self.meet(outcome)?;
-        let number = next_step(self.steps)?;
+        let number = next_step(self.steps);
         let line = self.line(number, session_of(left, outcome), outcome)?;
         self.steps = number;
         Ok(line)
@@ -168,7 +180,10 @@ impl<'p> Player<'p> {
     {
         let who = self.keys.me();
         let name = self.name(sid);
-        reported_line(self.alloc, number, who, bytes_of(&name), outcome)
+        match report_line(self.alloc, number, who, bytes_of(&name), outcome) {
+            Ok(line) => Ok(line),
+            Err(_) => Err(PlayFault::OutOfMemory),
+        }
     }
 
     // The name of a session, if there is one.
@@ -192,15 +207,11 @@ fn bytes_of(name: &Option<Name>) -> &[u8]
     }
 }
 
-// One step more, or `OutOfMemory` if a `u64` holds no more: no principal lives to see it.
-fn next_step(number: u64) -> Result<u64, PlayFault>
-    ensures next { IfOk result (λ n. n ≡ number + 1) }
-    ensures memory { IfErr result (λ e. e ≡ PlayFault.OutOfMemory) }
+// The next step's number.
+fn next_step(steps: u64) -> u64
+    ensures { result ≡ counted (steps + 1) }
 {
-    match number.checked_add(1) {
-        Some(next) => Ok(next),
-        None => Err(PlayFault::OutOfMemory),
-    }
+    steps.saturating_add(1)
 }
 
 // The session that a line names: that of the outcome's event, or the one that was left.

@@ -1,5 +1,5 @@
 //! A play: the starts of a script, and then deliveries.
-ghost use Rattle.std.specs.Prelude.{◌≡◌, ◌≤◌, ℕ, List, [], Some, None, take, drop, OnOk, IfOk, IfErr};
+ghost use Rattle.std.specs.Prelude.{◌≡◌, ◌≤◌, ℕ, List, [], All, Some, None, take, drop, OnOk};
 ghost use Rattle.std.specs.Option.{option_map_or};
 ghost use Rattle.sg_play.specs.Faults.{CountsFaults};
 ghost use Rattle.sg_play.specs.Around.{KeepsLink, counts_of, outside_of};
@@ -9,6 +9,7 @@ ghost use Rattle.sg_play.specs.Ends.{Ended, Outside, Whole};
 ghost use Rattle.sg_play.specs.Played.{Play, all_deliveries, all_starts, cast_of_start, played, plays_on, starts, with_turn};
 ghost use Rattle.sg_play.specs.Representation.{HasAsked, KeepsJoins, Progressed, Progresses};
 ghost use Rattle.sg_report.specs.Reported.{sid_left};
+ghost use Rattle.sg_script.specs.Script.{IsScript, IsStart};
 
 use crate::{PlayFault, Player};
 use sg_base::{Fresh, Link, LinkFault, Sid, Sink};
@@ -29,6 +30,7 @@ impl<'p> Player<'p> {
         fresh: &mut R,
         out: &mut O,
     ) -> Result<(), PlayFault>
+        requires { All (IsStart self.old.programs.now) starts.now }
         ensures kept { KeepsLink L.Link O.Sink link.old link.new out.old out.new result }
         ensures progress { Progresses (λ p. all_starts p starts.now) self.old self.new (R.random fresh.old) (R.random fresh.new)
             (outside_of L.Link O.Sink link.old out.old) (outside_of L.Link O.Sink link.new out.new) result }
@@ -47,9 +49,11 @@ impl<'p> Player<'p> {
         fresh: &mut R,
         out: &mut O,
     ) -> Result<(), PlayFault>
+        requires { IsStart self.old.programs.now start_of.now }
         ensures kept { KeepsLink L.Link O.Sink link.old link.new out.old out.new result }
         ensures progress { Progresses (λ p. starts p start_of.now) self.old self.new (R.random fresh.old) (R.random fresh.new)
             (outside_of L.Link O.Sink link.old out.old) (outside_of L.Link O.Sink link.new out.new) result }
+        ensures programs { OnOk result (self.new.programs.now ≡ self.old.programs.now) }
     {
         let nonce = fresh.next();
         let outcome = self.ask_start(start_of, nonce)?;
@@ -114,6 +118,7 @@ impl<'p> Player<'p> {
             → Whole start (outside_of L.Link O.Sink link.old out.old) p.steps
             → Progressed start (outside_of L.Link O.Sink link.new out.new) self.new (R.random fresh.new) (with_turn p c) result }
         ensures joins { OnOk result (KeepsJoins self.old.node self.new.node) }
+        ensures programs { OnOk result (self.new.programs.now ≡ self.old.programs.now) }
     {
         self.give(None, outcome, None, link, out)?;
         self.play_if(sid_reported(outcome), link, fresh, out)
@@ -131,6 +136,7 @@ impl<'p> Player<'p> {
         ensures progress { Progresses (λ p. option_map_or (λ s. plays_on s p) sid p) self.old self.new (R.random fresh.old) (R.random fresh.new)
             (outside_of L.Link O.Sink link.old out.old) (outside_of L.Link O.Sink link.new out.new) result }
         ensures joins { OnOk result (KeepsJoins self.old.node self.new.node) }
+        ensures programs { OnOk result (self.new.programs.now ≡ self.old.programs.now) }
     {
         match sid {
             Some(sid) => self.play_turn(sid, link, fresh, out),
@@ -139,17 +145,13 @@ impl<'p> Player<'p> {
     }
 }
 
-// The cast of a start: of the first program of its graph's name, with this nonce. A script that was read beside these programs has it.
-pub(crate) fn cast_of(
-    programs: &Programs,
-    start: &ScriptStart,
-    nonce: [u8; 16],
-) -> Result<Cast, PlayFault>
-    ensures cast { IfOk result (λ c. c ≡ cast_of_start programs.now start.now nonce) }
-    ensures memory { IfErr result (λ e. e ≡ PlayFault.OutOfMemory) }
+// The cast of a start: of the first program of its graph's name, with this nonce.
+pub(crate) fn cast_of(programs: &Programs, start: &ScriptStart, nonce: [u8; 16]) -> Cast
+    requires { IsStart programs.now start.now }
+    ensures { result ≡ cast_of_start programs.now start.now nonce }
 {
     let Some(program) = programs.by_name(&start.graph) else {
-        return Err(PlayFault::OutOfMemory);
+        unreachable!()
     };
     match Cast::new(
         start.version,
@@ -157,8 +159,8 @@ pub(crate) fn cast_of(
         nonce,
         start.cast.as_slice(),
     ) {
-        Some(cast) => Ok(cast),
-        None => Err(PlayFault::OutOfMemory),
+        Some(cast) => cast,
+        None => unreachable!(),
     }
 }
 
@@ -177,6 +179,7 @@ pub fn play<'p, L: Link, R: Fresh, O: Sink>(
     fresh: &mut R,
     out: &mut O,
 ) -> Result<(), PlayFault>
+    requires { IsScript programs.now script }
     ensures link_bound { L.bound link.new ≡ L.bound link.old }
     ensures faults { CountsFaults (record { link = L.faults link.old; out = O.faults out.old }) (record { link = L.faults link.new; out = O.faults out.new }) result }
 

@@ -30,6 +30,7 @@ impl<'p> Player<'p> {
         ensures progress { Progresses (plays_on sid) self.old self.new (R.random fresh.old) (R.random fresh.new)
             (outside_of L.Link O.Sink link.old out.old) (outside_of L.Link O.Sink link.new out.new) result }
         ensures joins { OnOk result (KeepsJoins self.old.node self.new.node) }
+        ensures programs { OnOk result (self.new.programs.now ≡ self.old.programs.now) }
     {
         let Some(node) = self.node.turn(sid) else {
             return Ok(());
@@ -55,6 +56,7 @@ impl<'p> Player<'p> {
         ensures progress { (p : Play) (start : Outside) → RepresentsPlay self.old p → R.random fresh.old ≡ Some p.random → Whole start (outside_of L.Link O.Sink link.old out.old) p.steps
             → ProgressedActing start (outside_of L.Link O.Sink link.new out.new) self.new (R.random fresh.new) (acted sid node p) result }
         ensures joins { OnOk result (KeepsJoins self.old.node self.new.node) }
+        ensures programs { OnOk result (self.new.programs.now ≡ self.old.programs.now) }
     {
         match self.try_act(sid, node, fresh)? {
             Some((outcome, frame)) => {
@@ -77,6 +79,7 @@ impl<'p> Player<'p> {
             ((acted sid node p ≡ (p, false)) × (self.new ≡ self.old) × (R.random fresh.new ≡ R.random fresh.old))
             (λ a. HasActed self.new (R.random fresh.new) sid node p a.0 (frames_made a.1))) }
         ensures joins { OnOk result (KeepsJoins self.old.node self.new.node) }
+        ensures programs { OnOk result (self.new.programs.now ≡ self.old.programs.now) }
         ensures memory { IfErr result (λ e. e ≡ PlayFault.OutOfMemory) }
     {
         let Some(graph) = self.node.graph_of(&sid) else {

@@ -3,6 +3,7 @@ use Rattle.std.proofs.lemmas.Result.{on_ok_weaker}
 use Rattle.sg_protocol.specs.NodeStates.{new_state}
 use Rattle.sg_script.specs.Script.{Script, Start as ScriptStart}
 use Rattle.sg_play.proofs.Endings.{whole_none}
+use Rattle.sg_play.proofs.Running.{starts_held}
 use Rattle.sg_play.specs.Ends.{Outside}
 use Rattle.sg_play.specs.Played.{all_deliveries, all_starts, beginning, played}
 use Rattle.sg_keep.specs.KeptRuns.{HasKept, KeptThroughout}
@@ -31,9 +32,12 @@ returns-in-Err-clause-kept g c = λ deliveries random reported drawn.
 pub start_all-requires : goal.start_all-requires
 start_all-requires g c =
     let new = c.in-Ok.ensures.made ∙ (λ i. new_state (c.requires.keys i) c.args.programs.now (c.joins.ensures.joins i)) in
+    let starts = c.as_slice.result.now in
+    let is : record { starts = starts; choices = c.script.inside.choices } ≡ c.args.script = ap (λ (ss : List ScriptStart). record { starts = ss; choices = c.script.inside.choices }) c.as_slice.ensures ∙ c.script.view_is in
     record {
       holds = holds_first (record { player = c.in-Ok-new.player; ledger = c.args.ledger }) (g.D.Disk.may_leave c.args.disk.now) c.args.keys.now c.args.programs.now c.args.ledger.joins c.script.inside.choices
           (c.in-Ok-new.ensures.represents c.args.ledger.joins [] new) (λ i. record { joins = c.args.ledger.joins; failed = c.requires.working i }) c.requires.represents;
+      starts = starts_held c.args.programs.now c.in-Ok-new.player.programs.now c.args.script starts c.script.inside.choices c.requires.script is c.in-Ok-new.ensures.programs;
     }
 
 pub returns-in-Err-start_all-clause-kept : goal.returns-in-Err-start_all-clause-kept

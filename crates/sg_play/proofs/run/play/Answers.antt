@@ -8,7 +8,7 @@ use Rattle.sg_play.specs.Played.{all_starts, beginning, played}
 use Rattle.sg_play.proofs.Coming.{ended_so}
 use Rattle.sg_play.proofs.Counting.{counted_then, memory_counted, passed_on}
 use Rattle.sg_play.proofs.Endings.{whole_none}
-use Rattle.sg_play.proofs.Running.{not_begun, starts_failed}
+use Rattle.sg_play.proofs.Running.{not_begun, starts_failed, starts_held}
 use Rattle.sg_play.proofs.run.play.Goals as goal
 
 pub returns-in_err-player-clause-played : goal.returns-in_err-player-clause-played
@@ -66,3 +66,9 @@ returns-clause-link_bound g c = c.take_all.ensures.link_bound ∙ c.in_ok-start_
 
 pub returns-clause-at_most : goal.returns-clause-at_most
 returns-clause-at_most g c = λ deliveries reported. c.take_all.ensures.at_most deliveries (c.in_ok-start_all.ensures.kept.deliveries ∙ reported)
+
+pub start_all-requires : goal.start_all-requires
+start_all-requires g c =
+    let starts = c.as_slice.result.now in
+    let is : record { starts = starts; choices = c.script.inside.choices } ≡ c.args.script = ap (λ (ss : List ScriptStart). record { starts = ss; choices = c.script.inside.choices }) c.as_slice.ensures ∙ c.script.view_is in
+    starts_held c.args.programs.now c.in_ok-player.player.programs.now c.args.script starts c.script.inside.choices c.requires is c.in_ok-player.ensures.programs

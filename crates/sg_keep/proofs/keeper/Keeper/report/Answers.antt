@@ -25,6 +25,7 @@ returns-in-Ok-go_on g c =
       kept = record { link_bound = played.kept.bound; disk_bound = c.keep_join.ensures.disk_bound; deliveries = played.kept.deliveries; faults = counted_then (kept_counted kept.faults) (played_counted played.kept.faults) };
       holds = holds_on m (record m { player = c.go_on.new.self }) leaves kept.holds refl played.joins;
       joins = ap (λ (l : OpenLedger). l.joins) kept.holds.ledger ∙ ap (λ (pl : Player). pl.node.joins) c.keep_join.ensures.player;
+      programs = played.programs ∙ ap (λ (pl : Player). pl.programs.now) c.keep_join.ensures.player;
       any_moment = c.keep_join.ensures.any_moment;
       progress = λ p k start a w h.
           let old = c.args.self.now in

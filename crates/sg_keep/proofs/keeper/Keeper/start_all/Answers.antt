@@ -4,6 +4,7 @@ use Rattle.sg_script.specs.Script.{Start as ScriptStart}
 use Rattle.sg_play.specs.Ends.{Outside}
 use Rattle.sg_play.specs.Played.{Play, all_starts, starts}
 use Rattle.sg_play.proofs.Looping.{start_next}
+use Rattle.sg_play.proofs.Running.{start_held}
 use Rattle.sg_keep.specs.KeptRuns.{HasKept, LeavesAtMost}
 use Rattle.sg_keep.specs.Representation.{Progressed}
 use Rattle.sg_keep.proofs.Asking.{holds_all}
@@ -16,7 +17,7 @@ use Rattle.sg_keep.proofs.Silent.{represents_silent, silent, whole_silent, writt
 use Rattle.sg_keep.proofs.keeper.Keeper.start_all.Goals as goal
 
 pub loop-start-init : goal.loop-start-init
-loop-start-init g c = record { kept = none_kept tt; holds = c.requires.holds; more = more_none c.args.self.now.ledger.joins; any_moment = not_asked g.D.Disk.moment g.D.Disk.left_since c.args.disk.now (g.D.Disk.may_leave c.args.disk.now) (g.met.D.Disk.only_now c.args.disk.now) c.args.self.now.ledger.joins (all_held c.args.self.now (g.D.Disk.may_leave c.args.disk.now) c.requires.holds); leaves_at_most = λ p start s w h. not_asked_at_most g.D.Disk.moment g.D.Disk.left_since c.args.disk.now (g.D.Disk.may_leave c.args.disk.now) (g.met.D.Disk.only_now c.args.disk.now) p p (nothing p) (holds_all c.args.self.now (g.D.Disk.may_leave c.args.disk.now) p c.requires.holds s); progress = λ p start s w h. (s, h, w) }
+loop-start-init g c = record { kept = none_kept tt; holds = c.requires.holds; more = more_none c.args.self.now.ledger.joins; any_moment = not_asked g.D.Disk.moment g.D.Disk.left_since c.args.disk.now (g.D.Disk.may_leave c.args.disk.now) (g.met.D.Disk.only_now c.args.disk.now) c.args.self.now.ledger.joins (all_held c.args.self.now (g.D.Disk.may_leave c.args.disk.now) c.requires.holds); programs = refl; leaves_at_most = λ p start s w h. not_asked_at_most g.D.Disk.moment g.D.Disk.left_since c.args.disk.now (g.D.Disk.may_leave c.args.disk.now) (g.met.D.Disk.only_now c.args.disk.now) p p (nothing p) (holds_all c.args.self.now (g.D.Disk.may_leave c.args.disk.now) p c.requires.holds s); progress = λ p start s w h. (s, h, w) }
 
 pub loop-start-preserved : goal.loop-start-preserved
 loop-start-preserved g c =
@@ -27,6 +28,7 @@ loop-start-preserved g c =
       holds = one.holds;
       more = more_then c.args.self.now.ledger.joins c.loop-start.self.ledger.joins c.start_one.new.self.ledger.joins inv.more one.more;
       any_moment = more_on g.D.Disk.moment g.D.Disk.left_since c.args.disk.now c.loop-start.disk c.start_one.new.disk c.args.self.now.ledger.joins c.loop-start.self.ledger.joins inv.more inv.any_moment c.start_one.ensures.any_moment;
+      programs = one.programs ∙ inv.programs;
       leaves_at_most = λ p start s w h.
           let at = c.loop-start.start-index in
           let so_far : Play = all_starts p (take at c.args.starts.now) in
@@ -44,6 +46,14 @@ loop-start-preserved g c =
           let before = inv.progress p start s w h in
           to_same start now (g.D.Disk.may_leave c.start_one.new.disk) c.start_one.new.self (g.R.Fresh.random c.start_one.new.fresh) (starts so_far c.start-item.result) (all_starts p (take (at + 1) c.args.starts.now)) (Ok tt)
           (start_next p at c.args.starts.now c.start-item.result c.loop-start-test.true c.start-item.is) (one.progress so_far start before.0 before.2 before.1);
+    }
+
+pub start_one-requires : goal.start_one-requires
+start_one-requires g c =
+    let inv = c.loop-start.invariant in
+    record {
+      holds = inv.holds;
+      start = start_held c.args.self.now.player.programs.now c.loop-start.self.player.programs.now c.args.starts.now c.loop-start.start-index c.start-item.result c.requires.starts inv.programs c.loop-start-test.true c.start-item.is;
     }
 
 pub returns-in-Err-clause-kept : goal.returns-in-Err-clause-kept

@@ -13,6 +13,7 @@ invariant-loop-start g l = record {
   holds : HoldsJoins l.self (g.D.Disk.may_leave l.disk);
   more : HasMore l.initial.self.ledger.joins l.self.ledger.joins;
   any_moment : LeavesOnly g.D.Disk.moment g.D.Disk.left_since l.initial.disk l.disk (RepresentsMore l.initial.self.ledger.joins);
+  programs : l.self.player.programs.now ≡ l.initial.self.player.programs.now;
   leaves_at_most : (p : Play) (start : Outside) → RepresentsKept l.initial.self p → g.R.Fresh.random l.initial.fresh ≡ Some p.random → Whole start (record { written = g.O.Sink.written l.initial.out; sent = g.L.Link.sent l.initial.link }) p.steps
       → LeavesAtMost g.D.Disk.moment g.D.Disk.left_since l.initial.disk l.disk (all_starts p (take l.start-index l.starts)) (length (all_starts p (take l.start-index l.starts)).past.calls);
   progress : (p : Play) (start : Outside) → RepresentsKept l.initial.self p → g.R.Fresh.random l.initial.fresh ≡ Some p.random → Whole start (record { written = g.O.Sink.written l.initial.out; sent = g.L.Link.sent l.initial.link }) p.steps

@@ -1,7 +1,9 @@
-use Rattle.std.proofs.Common.{◌≡◌, length, refl, subst}
+use Rattle.std.proofs.Common.{◌≡◌, ◌∙◌, ap, length, refl, subst}
+use Rattle.std.proofs.lemmas.Result.{on_ok_weaker}
 use Rattle.sg_protocol.specs.Calls.{Start}
 use Rattle.sg_play.specs.Ends.{Outside}
 use Rattle.sg_play.specs.Played.{Play, cast_of_start, starts, with_turn, without}
+use Rattle.sg_play.specs.declared.player.Player.{Player}
 use Rattle.sg_play.proofs.Running.{start_is, without_some}
 use Rattle.sg_keep.specs.declared.keeper.Keeper.{Keeper}
 use Rattle.sg_keep.specs.KeptRuns.{LeavesAtMost}
@@ -73,3 +75,6 @@ pub returns-in-Err-clause-leaves_at_most : goal.returns-in-Err-clause-leaves_at_
 returns-in-Err-clause-leaves_at_most g c = λ p s w.
     let leaves = g.D.Disk.may_leave c.args.disk.now in
     not_asked_at_most g.D.Disk.moment g.D.Disk.left_since c.args.disk.now leaves (g.met.D.Disk.only_now c.args.disk.now) p (starts p c.args.start_of.now) (by_start p c.args.start_of.now) (holds_all c.args.self.now leaves p c.requires.holds s)
+
+pub returns-in-Ok-clause-programs : goal.returns-in-Ok-clause-programs
+returns-in-Ok-clause-programs g c = on_ok_weaker c.report.result (λ h. h ∙ ap (λ (pl : Player). pl.programs.now) c.in-Ok.ensures.rest) c.report.ensures.programs

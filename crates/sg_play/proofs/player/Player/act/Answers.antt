@@ -1,9 +1,9 @@
 use Rattle.sg_play.proofs.Keeping.{keeps_same, keeps_then}
-use Rattle.std.proofs.Common.{rules, ◌≡◌, ◌+◌, length, Err, refl}
+use Rattle.std.proofs.Common.{rules, ◌≡◌, ◌∙◌, ◌+◌, length, Err, refl}
 use Rattle.sg_play.specs.Ends.{Outside}
 use Rattle.sg_play.specs.Played.{act_by, answer_in, chosen}
 use Rattle.sg_play.specs.Posting.{frames_made}
-use Rattle.sg_play.specs.Steps.{frames_of}
+use Rattle.sg_play.specs.Steps.{counted, frames_of}
 use Rattle.sg_play.specs.Turns.{acted}
 use Rattle.sg_play.proofs.Acting.{act_failed, act_given, act_none, act_stopped, acting_adds}
 use Rattle.sg_play.proofs.Coming.{no_memory_by}
@@ -29,7 +29,7 @@ returns-in_ok-give-in-Some-clause-progress g c = λ p start s w h.
     act_given start (record { written = g.O.Sink.written c.give.new.out; sent = g.L.Link.sent c.give.new.link }) c.try_act.new.self c.give.new.self (g.R.Fresh.random c.try_act.new.fresh) c.args.sid c.args.node p
     c.in-Some.outcome (frames_made c.in-Some.frame) did c.was_sent.result
     (c.in_ok-give-in-Some.ensures.progress (chosen did.graph c.args.node did.choice p) (act_by c.args.sid did.choice p.random) start did.asked refl h)
-    (c.was_sent.ensures (length (frames_of p.steps) + 1) (answer_in p (act_by c.args.sid did.choice p.random)) did.asked.is_reported)
+    (c.was_sent.ensures (counted (length (frames_of p.steps) + 1)) (answer_in p (act_by c.args.sid did.choice p.random)) did.asked.is_reported)
 
 pub returns-in-None-clause-progress : goal.returns-in-None-clause-progress
 returns-in-None-clause-progress g c = λ p start s w h.
@@ -57,3 +57,6 @@ returns-in_ok-give-in-Some-clause-kept g c = kept_on _ c.in_ok-give-in-Some.ensu
 
 pub returns-in-None-clause-kept : goal.returns-in-None-clause-kept
 returns-in-None-clause-kept g c = none_kept _
+
+pub returns-in_ok-give-in-Some-clause-programs : goal.returns-in_ok-give-in-Some-clause-programs
+returns-in_ok-give-in-Some-clause-programs g c = c.in_ok-give-in-Some.ensures.programs ∙ c.in_ok-outcome.ensures.programs

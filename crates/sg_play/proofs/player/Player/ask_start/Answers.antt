@@ -6,4 +6,4 @@ use Rattle.sg_play.proofs.player.Player.ask_start.Goals as goal
 
 pub returns-clause-is_asked : goal.returns-clause-is_asked
 returns-clause-is_asked c = λ number past represents.
-    subst (λ (x : Cast). IfOk c.ask_start.result (λ o. IsAsked number c.args.self.now.node c.ask_start.new.node past (Start x) o None)) c.in_ok-cast.ensures.cast (c.ask_start.ensures.is_asked number past represents)
+    subst (λ (x : Cast). IfOk c.ask_start.result (λ o. IsAsked number c.args.self.now.node c.ask_start.new.node past (Start x) o None)) c.cast_of-cast.ensures (c.ask_start.ensures.is_asked number past represents)

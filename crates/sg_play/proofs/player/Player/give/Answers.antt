@@ -26,3 +26,6 @@ returns-in-Ok-clause-kept g c = record { bound = c.post.ensures.link_bound; deli
 
 pub returns-in-Err-clause-kept : goal.returns-in-Err-clause-kept
 returns-in-Err-clause-kept g c = memory_kept refl c.in-Err.ensures.memory
+
+pub returns-in-Ok-clause-programs : goal.returns-in-Ok-clause-programs
+returns-in-Ok-clause-programs g c = anyway c.post.result (c.report.new.self.programs.now ≡ c.args.self.now.programs.now) (ap (λ (pl : Player). pl.programs.now) c.in-Ok.ensures.rest)

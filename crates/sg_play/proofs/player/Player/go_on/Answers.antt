@@ -34,3 +34,6 @@ returns-in_err-give-clause-kept g c = let same : c.from_residual.result ≡ Err 
 
 pub returns-clause-kept : goal.returns-clause-kept
 returns-clause-kept g c = kept_then c.in_ok-give.ensures.kept c.play_if.ensures.kept
+
+pub returns-clause-programs : goal.returns-clause-programs
+returns-clause-programs g c = mapped c.play_if.result _ _ (λ h. h ∙ c.in_ok-give.ensures.programs) c.play_if.ensures.programs

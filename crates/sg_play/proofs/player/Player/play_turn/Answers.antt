@@ -1,10 +1,11 @@
 use Rattle.sg_play.specs.Representation.{KeepsJoins}
 use Rattle.sg_play.proofs.Results.{mapped}
 use Rattle.sg_play.proofs.Keeping.{keeps_same, keeps_then}
-use Rattle.std.proofs.Common.{rules, ◌≡◌, Err, Some, sym, ◌∙◌, refl}
+use Rattle.std.proofs.Common.{rules, ◌≡◌, Err, Some, ap, sym, ◌∙◌, refl}
 use Rattle.sg_protocol.specs.Calls.{Abandon}
 use Rattle.sg_protocol.specs.Past.{node_of}
 use Rattle.sg_protocol.specs.Turn.{turn_of}
+use Rattle.sg_play.specs.declared.player.Player.{Player}
 use Rattle.sg_play.specs.Around.{outside_of}
 use Rattle.sg_play.specs.Played.{abandons}
 use Rattle.sg_play.specs.Turns.{acted}
@@ -66,3 +67,6 @@ returns-then-branch-clause-kept g c = kept_on _ c.in_ok-act.ensures.kept
 
 pub returns-clause-kept : goal.returns-clause-kept
 returns-clause-kept g c = kept_then c.in_ok-act.ensures.kept c.give.ensures.kept
+
+pub returns-clause-programs : goal.returns-clause-programs
+returns-clause-programs g c = mapped c.give.result _ _ (λ h. h ∙ ap (λ (pl : Player). pl.programs.now) c.ask_abandon-outcome.ensures.rest ∙ c.in_ok-act.ensures.programs) c.give.ensures.programs

@@ -1,12 +1,12 @@
-use Rattle.std.proofs.Common.{rules, ◌≡◌, take, Err}
+use Rattle.std.proofs.Common.{rules, ◌≡◌, take, Err, refl, ◌∙◌}
 use Rattle.sg_play.specs.Ends.{Outside}
 use Rattle.sg_play.specs.Played.{Play, all_starts}
 use Rattle.sg_play.proofs.Counting.{kept_passed, kept_then, none_kept}
-use Rattle.sg_play.proofs.Running.{start_failed, start_more, starts_done}
+use Rattle.sg_play.proofs.Running.{start_failed, start_held, start_more, starts_done}
 use Rattle.sg_play.proofs.player.Player.start_all.Goals as goal
 
 pub loop-start-init : goal.loop-start-init
-loop-start-init g c = record { kept = none_kept tt; progress = λ p start s w h. ((s, h), w) }
+loop-start-init g c = record { kept = none_kept tt; progress = λ p start s w h. ((s, h), w); programs = refl }
 
 pub loop-start-preserved : goal.loop-start-preserved
 loop-start-preserved g c =
@@ -20,7 +20,12 @@ loop-start-preserved g c =
           let before = inv.progress p start s w h in
           start_more start now c.start_one.new.self (g.R.Fresh.random c.start_one.new.fresh) p c.args.starts.now c.loop-start.start-index c.start-item.result c.loop-start-test.true c.start-item.is
           (one.progress so_far start before.0.0 before.1 before.0.1);
+      programs = one.programs ∙ inv.programs;
     }
+
+pub start_one-requires : goal.start_one-requires
+start_one-requires g c =
+    start_held c.args.self.now.programs.now c.loop-start.self.programs.now c.args.starts.now c.loop-start.start-index c.start-item.result c.requires c.loop-start.invariant.programs c.loop-start-test.true c.start-item.is
 
 pub returns-in_err-start_one-clause-progress : goal.returns-in_err-start_one-clause-progress
 returns-in_err-start_one-clause-progress g c = let same : c.from_residual.result ≡ Err c.in_err-start_one.field-0.0 = search rules in λ p start s w h.

@@ -1,4 +1,4 @@
-use Rattle.std.proofs.Common.{rules, ◌≡◌, Err, refl, subst}
+use Rattle.std.proofs.Common.{rules, ◌≡◌, ◌∙◌, Err, ap, refl, subst}
 use Rattle.sg_protocol.specs.Calls.{Start}
 use Rattle.sg_play.specs.Around.{outside_of}
 use Rattle.sg_play.specs.Played.{Play, cast_of_start, starts, without}
@@ -7,6 +7,8 @@ use Rattle.sg_play.proofs.Coming.{failed, no_memory_by}
 use Rattle.sg_play.proofs.Counting.{memory_kept}
 use Rattle.sg_play.proofs.Extends.{by_start}
 use Rattle.sg_play.proofs.Reporting.{asked_by}
+use Rattle.sg_play.proofs.Results.{mapped}
+use Rattle.sg_play.specs.declared.player.Player.{Player}
 use Rattle.sg_play.proofs.Running.{start_is, without_some}
 use Rattle.sg_play.proofs.player.Player.start_one.Goals as goal
 
@@ -30,3 +32,7 @@ returns-clause-progress g c = λ p start s w h.
 pub returns-in_err-outcome-clause-kept : goal.returns-in_err-outcome-clause-kept
 returns-in_err-outcome-clause-kept g c = let same : c.from_residual.result ≡ Err c.in_err-outcome.field-0.0 = search rules in
     memory_kept same c.in_err-outcome.ensures.memory
+
+pub returns-clause-programs : goal.returns-clause-programs
+returns-clause-programs g c =
+    mapped c.go_on.result _ _ (λ h. h ∙ ap (λ (pl : Player). pl.programs.now) c.in_ok-outcome.ensures.rest) c.go_on.ensures.programs
