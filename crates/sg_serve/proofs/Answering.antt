@@ -1,22 +1,20 @@
 -- What a line came to, by the outcome of its request.
-use Rattle.std.proofs.Common.{◌≡◌, ◌⊎◌, ⊎_elim, inl, inr, ℕ, Bool, true, false, List, [], ◌∷◌, Option, Some, None, is_some, Result, Ok, Err, OnOk, refl, sym, ap, ◌∙◌, subst}
+use Rattle.std.proofs.Common.{◌≡◌, ⊎_elim, inl, inr, ℕ, Bool, true, false, List, [], ◌∷◌, Option, Some, None, Result, Ok, Err, OnOk, refl, sym, ap, ◌∙◌, subst}
 use Rattle.sg_base.specs.declared.address.Addr.{Addr}
-use Rattle.sg_base.specs.Outside.{HasRisen}
-use Rattle.sg_input.specs.Lines.{Line, Whole, TooLong}
+use Rattle.sg_input.specs.Lines.{Line}
 use Rattle.sg_keep.specs.KeptRuns.{AllRepresent}
 use Rattle.sg_ledger.specs.Format.{Represents}
 use Rattle.sg_play.specs.Steps.{Step}
-use Rattle.sg_request.specs.Request.{request_of}
 use Rattle.sg_request.specs.declared.request.Request.{Request}
 use Rattle.sg_request.specs.declared.request.Request.TheVariants as request
 use Rattle.sg_wait.specs.Waiting.{received}
 use Rattle.sg_wait.specs.declared.coming.Coming.{Coming}
 use Rattle.sg_serve.specs.declared.fault.ServeFault.{ServeFault}
 use Rattle.sg_serve.specs.declared.server.Server.{Server}
-use Rattle.sg_serve.specs.Lines.{Run, asked, asks_quit, given, gives, is_quit, receipt, receives, until_quit, with_line}
+use Rattle.sg_serve.specs.Lines.{Run, asked, asks_quit, given, gives, is_quit, receipt, receives, before_quit, with_line}
 use Rattle.sg_serve.specs.Served.{RepresentBetween, joins_of}
 use Rattle.sg_serve.specs.Serving.{Reply, Serving, replies, takes}
-use Rattle.sg_serve.specs.Representation.{ProgressedToAnswer, HasAnswer, HasReceived, HasReplied, Received, Replied, RepresentEither, some_ok}
+use Rattle.sg_serve.specs.Representation.{ProgressedToAnswer, Received, Replied, RepresentEither, some_ok}
 use Rattle.sg_serve.proofs.Giving.{goes_behind}
 
 -- all joins so far are kept
@@ -25,7 +23,7 @@ between_all images r [] all = all
 between_all images r (line ∷ lines) all = λ image left. inl (all image left)
 
 -- the joins of a line that came to this reply
-between_so : (images : List ℕ → Type 0) (r run : Run) (line : Line) (reply : Reply) (t : Bool) (later : List Line) → asks_quit line ≡ false → with_line t r line ≡ gives t run reply → RepresentEither images r.serving reply → RepresentBetween images r (until_quit (line ∷ later))
+between_so : (images : List ℕ → Type 0) (r run : Run) (line : Line) (reply : Reply) (t : Bool) (later : List Line) → asks_quit line ≡ false → with_line t r line ≡ gives t run reply → RepresentEither images r.serving reply → RepresentBetween images r (before_quit (line ∷ later))
 between_so images r run line reply t later goes e h = subst (RepresentBetween images r) (sym (goes_behind line later goes)) (λ image left.
     ⊎_elim (λ x. inl x) (λ x. inr (t, subst (λ (y : Run). Represents image (joins_of y.serving)) (sym e) x)) (h image left))
 

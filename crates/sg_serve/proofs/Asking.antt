@@ -1,26 +1,23 @@
 -- What a server holds before a call, once its node was asked, and once the join is kept.
-use Rattle.std.proofs.Common.{◌≡◌, ◌⊎◌, ⊎_elim, inl, inr, ℕ, List, [], true, false, Option, Some, None, is_some, IfSome, Result, Ok, Err, OnOk, refl, sym, ap, ◌∙◌, subst}
-use Rattle.sg_base.specs.declared.address.Addr.{Addr}
+use Rattle.std.proofs.Common.{◌≡◌, ◌⊎◌, ⊎_elim, inl, inr, ℕ, List, false, Option, Some, None, is_some, IfSome, sym, ap, ◌∙◌, subst}
 use Rattle.sg_keep.proofs.Asking.{answered_after, asked_once, joins_after, new_join, working}
 use Rattle.sg_keep.proofs.NewJoins.{joins_of_node}
 use Rattle.sg_keep.specs.Joins.{IsNew, join_reported, with_join}
 use Rattle.sg_keep.specs.KeptRuns.{AllRepresent}
 use Rattle.sg_ledger.specs.Format.{Join, OpenLedger, Represents}
-use Rattle.sg_model.specs.Names.{Name}
 use Rattle.sg_play.proofs.Reporting.{asked_by}
-use Rattle.sg_play.specs.Asking.{IsAsked, addressed, sealed_in}
-use Rattle.sg_play.specs.Played.{Play, answer_in, called}
-use Rattle.sg_play.specs.Representation.{HasAsked, KeepsJoins, RepresentsPlay}
+use Rattle.sg_play.specs.Asking.{IsAsked, addressed}
+use Rattle.sg_play.specs.Representation.{KeepsJoins}
 use Rattle.sg_play.specs.declared.player.Player.{Player}
 use Rattle.sg_protocol.specs.Calls.{Call}
-use Rattle.sg_protocol.specs.Past.{Past, node_of, past_after}
+use Rattle.sg_protocol.specs.Past.{node_of, past_after}
 use Rattle.sg_protocol.specs.Texts.{real}
 use Rattle.sg_report.specs.Outcome.{outcome_of}
 use Rattle.sg_report.specs.declared.outcome.Outcome.{Outcome}
 use Rattle.sg_serve.specs.declared.server.Server.{Server}
 use Rattle.sg_serve.specs.Served.{images_if, joins_kept, joins_of}
-use Rattle.sg_serve.specs.Serving.{Serving, Reply}
-use Rattle.sg_serve.specs.Representation.{HasAskedNode, HasCalled, HoldsJoins, LedgerHas, RepresentEither, RepresentsServing}
+use Rattle.sg_serve.specs.Serving.{Serving}
+use Rattle.sg_serve.specs.Representation.{HasAskedNode, HasCalled, HoldsJoins, LedgerHas, RepresentsServing}
 
 -- ---- the node was asked
 
@@ -37,7 +34,6 @@ has_called sv pl s c o h is is_asked = record {
   asked = asked_by sv.player pl s.play c o h.player is is_asked;
   answered_before = h.player.answered;
   is_frame = ap (addressed s.play.past.keys) (is_asked 0).is_sealed;
-  programs = h.programs;
   graphs = h.graphs;
   enough = h.enough;
   last = h.last;

@@ -39,7 +39,6 @@ called_made sv pl s c o frame st asked is = record {
   asked = asked;
   answered_before = st.player.answered;
   is_frame = is;
-  programs = st.programs;
   graphs = st.graphs;
   enough = st.enough;
   last = st.last;
@@ -66,7 +65,7 @@ abandoned sv new pl n sid o (Err f) at asked h = tt
 
 -- the random bytes that are left are no part of what is represented
 pub less_represents : (sv : Server) (n : ℕ) (s : Serving) → RepresentsServing sv s → RepresentsServing sv (less n s)
-less_represents sv n s st = record { player = without_some n sv.player s.play st.player; programs = st.programs; graphs = st.graphs; enough = st.enough; last = st.last }
+less_represents sv n s st = record { player = without_some n sv.player s.play st.player; graphs = st.graphs; enough = st.enough; last = st.last }
 
 -- ---- an act
 
@@ -121,9 +120,9 @@ no_start s start now None e none is = ap (λ (o : Option Program). option_map_or
 no_start s start now (Some p) e none is = absurd (cc)
 
 -- there is one
-pub starts_is : (s : Serving) (start : ScriptStart) (now pl_now : List Program) (nonce : List ℕ) (found : Option (Bor Program)) → option_copied found ≡ find (is_named start.graph) now → is_some found ≡ true → s.play.past.programs ≡ now → s.play.past.programs ≡ pl_now
-    → nonce ≡ next_random s.play.random → calls (less 1 s) (Start (cast_of_start pl_now start nonce)) ≡ starts s start
-starts_is s start now pl_now nonce None e some is pl_is w = absurd (cc)
-starts_is s start now pl_now nonce (Some p) e some is pl_is w =
-    (λ i. calls (less 1 s) (Start (cast_of_start (sym pl_is i) start (w i))))
+pub starts_is : (s : Serving) (start : ScriptStart) (now : List Program) (nonce : List ℕ) (found : Option (Bor Program)) → option_copied found ≡ find (is_named start.graph) now → is_some found ≡ true → s.play.past.programs ≡ now
+    → nonce ≡ next_random s.play.random → calls (less 1 s) (Start (cast_of_start now start nonce)) ≡ starts s start
+starts_is s start now nonce None e some is w = absurd (cc)
+starts_is s start now nonce (Some p) e some is w =
+    (λ i. calls (less 1 s) (Start (cast_of_start (sym is i) start (w i))))
     ∙ ap (λ (o : Option Program). option_map_or (λ p. calls (less 1 s) (Start (cast_of_start s.play.past.programs start (next_random s.play.random)))) o (says s (wrong_text Unknown))) (e ∙ ap (find (is_named start.graph)) (sym is))

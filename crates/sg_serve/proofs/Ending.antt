@@ -1,17 +1,17 @@
 -- A line that was answered, and where a run ended.
-use Rattle.std.proofs.Common.{◌≡◌, ◌≤◌, ◌⊎◌, inl, inr, ℕ, Bool, true, false, List, [], ◌∷◌, drop, Option, is_some, Result, Ok, Err, refl, sym, ap, ◌∙◌, subst}
+use Rattle.std.proofs.Common.{◌≡◌, ◌≤◌, ℕ, Bool, true, false, List, [], ◌∷◌, drop, Option, is_some, Ok, Err, sym, ap, subst}
 use Rattle.sg_input.specs.Lines.{Line}
 use Rattle.sg_keep.specs.KeptRuns.{AllRepresent}
 use Rattle.sg_play.specs.Steps.{Step}
 use Rattle.sg_serve.specs.declared.fault.ServeFault.{ServeFault}
-use Rattle.sg_serve.specs.declared.fault.ServeFault.TheVariants.{InputFailed, WriteFailed, DiskFailed, OutOfMemory}
+use Rattle.sg_serve.specs.declared.fault.ServeFault.TheVariants.{InputFailed, WriteFailed, OutOfMemory}
 use Rattle.sg_serve.specs.declared.server.Server.{Server}
-use Rattle.sg_serve.specs.Lines.{Run, asks_quit, until_quit, with_line, with_lines}
-use Rattle.sg_serve.specs.Served.{Agrees, EndedAt, Gave, Outside, Served, RepresentBetween, images_if, joins_of}
-use Rattle.sg_serve.specs.Representation.{Answered, AnswerIsOut, HasAnswer, HasEnded, HoldsJoins, Serves, RepresentsServing}
+use Rattle.sg_serve.specs.Lines.{Run, before_quit, with_lines}
+use Rattle.sg_serve.specs.Served.{Agrees, EndedAt, Gave, Outside, Served, images_if, joins_of}
+use Rattle.sg_serve.specs.Representation.{Answered, AnswerIsOut, HasAnswer, HoldsJoins, Serves, RepresentsServing}
 use Rattle.sg_serve.proofs.Answering.{between_all}
 use Rattle.sg_serve.proofs.Asking.{holds_all}
-use Rattle.sg_serve.proofs.Giving.{agrees, begun, ends_behind, gave_on}
+use Rattle.sg_serve.proofs.Giving.{agrees, begun, ends_behind}
 use Rattle.sg_serve.proofs.Running.{served_at, serves_more}
 
 -- ---- a line
@@ -24,7 +24,7 @@ went_on start old mid new random images sv r line step gave written sent falls a
 -- a prefix of it was written
 pub wrote_part : (start old mid new : Outside) (random : Option (List (List ℕ))) (images : List ℕ → Type 0) (sv : Server) (r : Run) (line : Line) (step : Step) → Gave start old r → mid.written ≡ old.written → mid.sent ≡ old.sent → old.failed ≤ mid.failed
     → (a : HasAnswer sv random mid.coming old.failed mid.failed r line step) → (f : ServeFault) → f ≡ WriteFailed → AllRepresent images (joins_of a.reply.0) → AnswerIsOut mid new step (Err f) → Answered start new random images sv r line (Err f)
-wrote_part start old mid new random images sv r line step gave written sent falls a f e all given = λ later. subst (λ (x : ServeFault). EndedAt start new random images r (until_quit (line ∷ later)) (Err x)) (sym e)
+wrote_part start old mid new random images sv r line step gave written sent falls a f e all given = λ later. subst (λ (x : ServeFault). EndedAt start new random images r (before_quit (line ∷ later)) (Err x)) (sym e)
     (begun start old mid new random sv r line step gave written sent falls a (Err f) given images all later given.prefix)
 
 -- ---- a line of a run
@@ -62,7 +62,7 @@ module _ (start now : Outside) (random : Option (List (List ℕ))) (sv has : Ser
 
   -- all were answered
   pub no_line : left ≡ [] → Served start now random images first all (Ok tt)
-  no_line e = served_at start now now random random images sv first all left (Ok tt) h (ap until_quit e, h.agrees, all_represent)
+  no_line e = served_at start now now random random images sv first all left (Ok tt) h (ap before_quit e, h.agrees, all_represent)
 
   -- the input failed
   pub input_ended : (f : ServeFault) → f ≡ InputFailed → Served start now random images first all (Err f)
@@ -71,4 +71,4 @@ module _ (start now : Outside) (random : Option (List (List ℕ))) (sv has : Ser
   -- memory ran out
   pub memory_ended : (f : ServeFault) → f ≡ OutOfMemory → Served start now random images first all (Err f)
   memory_ended f e = subst (λ (x : ServeFault). Served start now random images first all (Err x)) (sym e)
-      (served_at start now now random random images sv first all left (Err OutOfMemory) h (record { gave = h.agrees.gave; kept = between_all images (with_lines first h.prefix) (until_quit left) all_represent }))
+      (served_at start now now random random images sv first all left (Err OutOfMemory) h (record { gave = h.agrees.gave; kept = between_all images (with_lines first h.prefix) (before_quit left) all_represent }))

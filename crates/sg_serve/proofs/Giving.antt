@@ -1,5 +1,5 @@
 -- What is given of an answer, and what the outside has got then.
-use Rattle.std.proofs.Common.{◌≡◌, ◌≤◌, ◌⊎◌, ⊎_elim, inl, inr, ℕ, ◌+◌, Bool, true, false, if◌then◌else◌, List, [], ◌∷◌, ◌++◌, take, length, Option, Some, Result, Ok, Err, refl, sym, ap, ◌∙◌, subst, append_assoc, le_trans, arith}
+use Rattle.std.proofs.Common.{◌≡◌, ◌≤◌, ◌⊎◌, ⊎_elim, inl, inr, ℕ, Bool, true, false, if◌then◌else◌, List, [], ◌∷◌, ◌++◌, take, Option, Some, Result, refl, sym, ap, ◌∙◌, subst, append_assoc, le_trans, arith}
 use Rattle.std.proofs.lemmas.List.{append-nil}
 use Rattle.sg_base.specs.declared.address.Addr.{Addr}
 use Rattle.sg_base.specs.Outside.{Appends, AppendsPrefix, HasRisen}
@@ -10,7 +10,7 @@ use Rattle.sg_play.proofs.Rising.{risen_last}
 use Rattle.sg_play.specs.Steps.{Step, lines_of, frames_of}
 use Rattle.sg_serve.specs.declared.fault.ServeFault.{ServeFault}
 use Rattle.sg_serve.specs.declared.server.Server.{Server}
-use Rattle.sg_serve.specs.Lines.{Run, asks_quit, failures_after, given, gives, until_quit, with_line}
+use Rattle.sg_serve.specs.Lines.{Run, asks_quit, failures_after, given, gives, before_quit, with_line}
 use Rattle.sg_serve.specs.Served.{Agrees, Gave, HasBegun, Outside, RoseBy, joins_of}
 use Rattle.sg_serve.specs.Representation.{AnswerIsOut, HasAnswer, RepresentsServing}
 use Rattle.sg_serve.proofs.Rising.{rose_on, rose_more}
@@ -30,11 +30,11 @@ risen_first old mid new (inl h) l = inl (omega (arith, h, l))
 risen_first old mid new (inr h) l = inr h
 
 -- the lines that go on behind one that doesn't ask for the end
-pub goes_behind : (line : Line) (later : List Line) → asks_quit line ≡ false → until_quit (line ∷ later) ≡ line ∷ until_quit later
-goes_behind line later e = ap (λ (b : Bool). if b then [] else (line ∷ until_quit later)) e
+pub goes_behind : (line : Line) (later : List Line) → asks_quit line ≡ false → before_quit (line ∷ later) ≡ line ∷ before_quit later
+goes_behind line later e = ap (λ (b : Bool). if b then [] else (line ∷ before_quit later)) e
 
-pub ends_behind : (line : Line) (later : List Line) → asks_quit line ≡ true → until_quit (line ∷ later) ≡ []
-ends_behind line later e = ap (λ (b : Bool). if b then [] else (line ∷ until_quit later)) e
+pub ends_behind : (line : Line) (later : List Line) → asks_quit line ≡ true → before_quit (line ∷ later) ≡ []
+ends_behind line later e = ap (λ (b : Bool). if b then [] else (line ∷ before_quit later)) e
 
 -- ---- nothing was given
 
@@ -92,11 +92,11 @@ module _ (start old mid new : Outside) (random : Option (List (List ℕ))) (sv :
   )
 
   -- a prefix of it
-  pub begun : (images : List ℕ → Type 0) → AllRepresent images (joins_of a.reply.0) → (later : List Line) → AppendsPrefix mid.written new.written (given g.took step).line → HasBegun start new images r (until_quit (line ∷ later))
+  pub begun : (images : List ℕ → Type 0) → AllRepresent images (joins_of a.reply.0) → (later : List Line) → AppendsPrefix mid.written new.written (given g.took step).line → HasBegun start new images r (before_quit (line ∷ later))
   begun images all later h = record {
     line = line;
     took = way.0;
-    later = until_quit later;
+    later = before_quit later;
     is_next = goes_behind line later a.goes_on;
     begun = record {
       step = given g.took step;

@@ -11,7 +11,7 @@ use Rattle.sg_keep.specs.KeptRuns.{AllRepresent}
 use Rattle.sg_model.specs.Lists.{first_some}
 use Rattle.sg_play.specs.Faults.{CountsFaultAlone}
 use Rattle.sg_play.specs.Steps.{Step, frames_in}
-use Rattle.sg_protocol.specs.Calls.{Abandon, Event, Refusal}
+use Rattle.sg_protocol.specs.Calls.{Event, Refusal}
 use Rattle.sg_protocol.specs.Frame.{Frame}
 use Rattle.sg_protocol.specs.Keyring.{Keyring}
 use Rattle.sg_protocol.specs.Past.{node_of}
@@ -26,9 +26,9 @@ use Rattle.sg_wait.specs.declared.coming.Coming.{Coming}
 use Rattle.sg_serve.specs.declared.fault.ServeFault.{ServeFault}
 use Rattle.sg_serve.specs.declared.fault.ServeFault.TheVariants.{DiskFailed}
 use Rattle.sg_serve.specs.declared.server.Server.{Server}
-use Rattle.sg_serve.specs.Lines.{Run, asked, asks_quit, gives, is_quit, receipt, until_quit, with_line}
+use Rattle.sg_serve.specs.Lines.{Run, asked, asks_quit, gives, is_quit, receipt, before_quit, with_line}
 use Rattle.sg_serve.specs.Served.{RepresentBetween, images_if, joins_of}
-use Rattle.sg_serve.specs.Serving.{Reply, Serving, calls, of_session, repeats, replies, says, sends_again, sids_of, takes}
+use Rattle.sg_serve.specs.Serving.{Reply, Serving, of_session, repeats, replies, says, sends_again, sids_of, takes}
 use Rattle.sg_serve.specs.Representation.{ProgressedToAnswer, HasReplied, HoldsJoins, Received, Replied, RepresentEither, RepresentsServing, some_ok}
 use Rattle.sg_serve.proofs.Answering.{asked_plain, between_all, not_quit, plain, waited}
 use Rattle.sg_serve.proofs.Asking.{holds_all}
@@ -139,8 +139,8 @@ asked_other images sv random coming old new r bytes q res e not_end not_wait w c
     (λ took. ap (λ (o : Option Request). option_map_or (asked took r) o (gives took r (says r.serving (wrong_text Form)))) (sym e) ∙ asked_plain took r q not_wait) w c h
 
 -- the line couldn't be read
-pub unread : (images : List ℕ → Type 0) (r : Run) (line : Line) (later : List Line) → AllRepresent images (joins_of r.serving) → RepresentBetween images r (until_quit (line ∷ later))
-unread images r line later all = between_all images r (until_quit (line ∷ later)) all
+pub unread : (images : List ℕ → Type 0) (r : Run) (line : Line) (later : List Line) → AllRepresent images (joins_of r.serving) → RepresentBetween images r (before_quit (line ∷ later))
+unread images r line later all = between_all images r (before_quit (line ∷ later)) all
 
 -- ---- an answer that there is
 

@@ -1,9 +1,9 @@
 -- The past of a run is that of a node, line by line.
-use Rattle.std.proofs.Common.{◌≡◌, ◌⊎◌, ⊎_elim, inl, inr, ℕ, Bool, true, false, if◌then◌else◌, List, [], ◌∷◌, ◌++◌, length, find, position, slice_get, bytes_eq, Option, Some, None, is_some, refl, sym, ap, ◌∙◌, subst}
+use Rattle.std.proofs.Common.{◌≡◌, ◌⊎◌, inl, inr, ℕ, Bool, true, false, if◌then◌else◌, List, [], ◌∷◌, ◌++◌, find, position, slice_get, bytes_eq, Option, Some, None, is_some, refl, sym, ap, ◌∙◌, subst}
 use Rattle.std.specs.Prelude.{◌-◌}
 use Rattle.std.specs.Option.{option_map_or}
 use Rattle.sg_again.specs.LastFrames.{frame_of}
-use Rattle.sg_answers.specs.Answers.{id_text, nothing_text, unknown_text}
+use Rattle.sg_answers.specs.Answers.{nothing_text, unknown_text}
 use Rattle.sg_input.specs.Lines.{Line, Whole, TooLong}
 use Rattle.sg_ledger.specs.Format.{Join}
 use Rattle.sg_model.specs.Names.{Name}
@@ -14,7 +14,7 @@ use Rattle.sg_protocol.specs.Graph.{Graph}
 use Rattle.sg_protocol.specs.Keyring.{Keyring, Program}
 use Rattle.sg_protocol.specs.Node.{Node}
 use Rattle.sg_protocol.specs.NodeAfter.{node_after}
-use Rattle.sg_protocol.specs.Past.{AreAnswers, AnsweredCall, Past, new_node, node_after_all, node_of, past_after}
+use Rattle.sg_protocol.specs.Past.{AreAnswers, AnsweredCall, Past, new_node, node_after_all, past_after}
 use Rattle.sg_protocol.specs.Texts.{Hash, real}
 use Rattle.sg_sched_text.specs.Adding.{is_twice, known_values}
 use Rattle.sg_request.specs.Request.{request_of}
@@ -25,9 +25,9 @@ use Rattle.sg_sched.specs.Format.LineContents.{Assignment}
 use Rattle.sg_script.specs.Script.{Start as ScriptStart}
 use Rattle.sg_wait.specs.Waiting.{received}
 use Rattle.sg_serve.specs.Laws.{AgainChangesNothing, IsOfNode, RunsAreOfNodes}
-use Rattle.sg_serve.specs.Lines.{Run, asked, gives, receives, with_line, with_lines}
+use Rattle.sg_serve.specs.Lines.{Run, asked, receives, with_line, with_lines}
 use Rattle.sg_serve.specs.Served.{opening}
-use Rattle.sg_serve.specs.Serving.{Reply, Serving, acts_by, acts_if, calls, graph_at, of_session, repeats, replies, says, sends_again, sids_of, starts, takes, turn_line}
+use Rattle.sg_serve.specs.Serving.{Reply, Serving, acts_by, acts_if, graph_at, of_session, repeats, replies, says, sends_again, sids_of, starts}
 
 -- one call more, or none
 abbrev pub Goes : Past → Past → Type 0

@@ -1,7 +1,5 @@
 -- What a request came to, by what came of its parts.
-use Rattle.std.proofs.Common.{◌≡◌, ◌⊎◌, ⊎_elim, inl, inr, ℕ, true, List, [], Option, Some, None, is_some, option_and_then, IfOk, OnOk, Result, Ok, Err, refl, sym, ap, ◌∙◌, subst}
-use Rattle.std.specs.Prelude.{IfErr}
-use Rattle.std.specs.Option.{option_map_or}
+use Rattle.std.proofs.Common.{◌≡◌, ◌⊎◌, ⊎_elim, inl, inr, ℕ, true, List, [], Option, Some, None, is_some, IfOk, Result, Ok, Err, refl, sym, ap, ◌∙◌, subst}
 use Rattle.sg_keep.proofs.NewJoins.{joins_of_node}
 use Rattle.sg_keep.specs.KeptRuns.{AllRepresent}
 use Rattle.sg_ledger.specs.Format.{Join, OpenLedger, Represents}
@@ -65,4 +63,4 @@ module _ (sv : Server) (may_leave : List ℕ → Type 0) (s : Serving) (c : Call
 
   -- the server with another ledger has called the same
   pub called_with : (m : Server) → m ≡ record sv { ledger = m.ledger } → HasCalled m s c o frame
-  called_with m rest = subst (λ (x : Server). HasCalled x s c o frame) (sym rest) (record { asked = h.asked; answered_before = h.answered_before; is_frame = h.is_frame; programs = h.programs; graphs = h.graphs; enough = h.enough; last = h.last })
+  called_with m rest = subst (λ (x : Server). HasCalled x s c o frame) (sym rest) (record { asked = h.asked; answered_before = h.answered_before; is_frame = h.is_frame; graphs = h.graphs; enough = h.enough; last = h.last })

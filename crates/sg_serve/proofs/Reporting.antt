@@ -4,7 +4,7 @@ use Rattle.std.proofs.lemmas.Bool.{le-ltb, lt-ltb}
 use Rattle.std.proofs.lemmas.Bool.Decides.{nat_tests}
 use Rattle.std.proofs.lemmas.List.{length-append}
 use Rattle.std.specs.Option.{option_map_or}
-use Rattle.sg_again.specs.LastFrames.{KeptFrame, SentFrame, sent, ended}
+use Rattle.sg_again.specs.LastFrames.{LastFrames, SentFrame}
 use Rattle.sg_base.specs.declared.address.Addr.{Addr}
 use Rattle.sg_model.specs.Lists.{has_text}
 use Rattle.sg_model.specs.Names.{Name}
@@ -17,7 +17,7 @@ use Rattle.sg_play.specs.Meeting.{known_more}
 use Rattle.sg_play.specs.Played.{Play, answer_in, called, step_in}
 use Rattle.sg_play.specs.Posting.{frames_made}
 use Rattle.sg_play.specs.Representation.{RepresentsPlay}
-use Rattle.sg_play.specs.Steps.{Step, frames_in, frames_of, known_in}
+use Rattle.sg_play.specs.Steps.{Step, counted, frames_of, known_in}
 use Rattle.sg_play.specs.declared.player.Player.{Player}
 use Rattle.sg_protocol.specs.Calls as Protocol
 use Rattle.sg_protocol.specs.Calls.{Answer, Call, Event, sid_of}
@@ -34,7 +34,7 @@ use Rattle.sg_report.specs.Reported as Report
 use Rattle.sg_report.specs.Reported.{Reported, event_reported, session_reported, sid_left, sid_reported, reported_answer}
 use Rattle.sg_serve.specs.declared.server.Server.{Server}
 use Rattle.sg_serve.specs.Posted.{posted}
-use Rattle.sg_serve.specs.Serving.{Serving, as_sent, calls, frame_made, graphs_after, graphs_with, is_live, last_of, last_with, session_in, sids_of}
+use Rattle.sg_serve.specs.Serving.{Serving, as_sent, calls, frame_made, graphs_after, graphs_with, last_of, session_in, sids_of}
 use Rattle.sg_serve.specs.Representation.{HasCalled, HasReplied}
 use Rattle.sg_text.proofs.Naming.{naming-known_again, naming-known_new}
 use Rattle.sg_text.specs.Sessions.{KnownSessions, Naming, all_sids, naming, numbered, sids_known, undeclared, with_event}
@@ -137,7 +137,7 @@ posted_made n (Some f) = refl
 module _ (sv : Server) (pl : Player) (s : Serving) (c : Call) (o : Outcome) (frame : Option (Addr × (Name × List ℕ))) (left : Option (List ℕ)) (h : HasCalled sv s c o frame) (leaves : left ≡ sid_left c) where
   -- the number of a frame
   abbrev next : ℕ
-  next = length (frames_of s.play.steps) + 1
+  next = counted (length (frames_of s.play.steps) + 1)
 
   pub session_is : (session : Option (List ℕ)) → session ≡ session_reported left (outcome_of o) → session ≡ session_in s.play c
   session_is session e =
@@ -147,12 +147,11 @@ module _ (sv : Server) (pl : Player) (s : Serving) (c : Call) (o : Outcome) (fra
   made_is number is = frame_is s.play.past.keys next number (answer_in s.play c) (outcome_of o) frame h.asked.is_reported is h.is_frame
 
   -- the line, the frame, the graphs and the last frames make the reply
-  pub replied : (line : List ℕ) (kept copy : Option SentFrame) (gs : List (Option Graph)) (session : Option (List ℕ)) (last : List KeptFrame) (step : Step) → (line ≡ (step_in s.play c).line) × RepresentsPlay pl (called s.play c) → kept ≡ frame_made s.play c → copy ≡ kept
+  pub replied : (line : List ℕ) (kept copy : Option SentFrame) (gs : List (Option Graph)) (session : Option (List ℕ)) (last : LastFrames) (step : Step) → (line ≡ (step_in s.play c).line) × RepresentsPlay pl (called s.play c) → kept ≡ frame_made s.play c → copy ≡ kept
       → gs ≡ graphs_with (called s.play c) (graph_of_event o) sv.graphs → session ≡ session_in s.play c → last ≡ last_of (called s.play c) session kept sv.last → step ≡ record { line = line; frames = posted copy } → (new : Server) → new ≡ record sv { player = pl; graphs = gs; last = last } → HasReplied new step (calls s c)
   replied line kept copy gs session last step t k e g ss l is new new_is = subst (λ (x : Server). HasReplied x step (calls s c)) (sym new_is) (record {
     represents = record {
       player = t.1;
-      programs = h.programs;
       graphs = g ∙ graphs_so s.play c next o sv.graphs h.asked.is_reported h.asked.is_graph h.enough ∙ ap (graphs_after s.play c) h.graphs;
       enough = subst (λ (l : List (Option Graph)). length (sids_of (called s.play c)) ≤ length l) (sym g) (enough_with (called s.play c) (graph_of_event o) sv.graphs (let grow = sids_grow s.play c next in omega (arith, grow, h.enough)));
       last = l ∙ (λ i. last_of (called s.play c) (ss i) (k i) (h.last i));

@@ -1,8 +1,5 @@
 -- What holds of a result, by what holds of it already.
-use Rattle.std.proofs.Common.{◌≡◌, ◌⊎◌, inl, inr, IfOk, OnOk, Result, Ok, Err, refl, sym, ap, ◌∙◌}
-use Rattle.std.specs.Prelude.{IfErr}
-use Rattle.sg_serve.specs.declared.fault.ServeFault.{ServeFault}
-use Rattle.sg_serve.specs.declared.fault.ServeFault.TheVariants.{DiskFailed, OutOfMemory}
+use Rattle.std.proofs.Common.{IfOk, OnOk, Result, Ok, Err}
 
 -- what follows of the value
 pub applied : {T E : Type 0} (r : Result T E) (P Q : T → Type 0) → ((t : T) → P t → Q t) → IfOk r P → IfOk r Q

@@ -1,5 +1,5 @@
 -- How far a run has come, line by line.
-use Rattle.std.proofs.Common.{◌≡◌, ℕ, Bool, true, false, List, [], ◌∷◌, ◌++◌, map, Option, Some, None, is_some, IfSome, Result, Ok, Err, refl, sym, ap, ◌∙◌, subst, append_assoc}
+use Rattle.std.proofs.Common.{◌≡◌, ◌-◌, ◌+◌, ◌<◌, arith, suc, zero, drop, take, ℕ, Bool, false, List, [], ◌∷◌, ◌++◌, map, Option, Some, None, is_some, IfSome, Result, Err, refl, sym, ap, ◌∙◌, subst, append_assoc}
 use Rattle.std.proofs.lemmas.List.{append-nil, map-append}
 use Rattle.sg_input.specs.Lines.{Line}
 use Rattle.sg_keep.specs.KeptRuns.{AllRepresent}
@@ -9,7 +9,7 @@ use Rattle.sg_wait.specs.declared.coming.Coming.{Coming}
 use Rattle.sg_serve.specs.declared.fault.ServeFault.{ServeFault}
 use Rattle.sg_serve.specs.declared.fault.ServeFault.TheVariants.{OutOfMemory}
 use Rattle.sg_serve.specs.declared.server.Server.{Server}
-use Rattle.sg_serve.specs.Lines.{Run, asks_quit, until_quit, with_line, with_lines}
+use Rattle.sg_serve.specs.Lines.{Run, asks_quit, before_quit, until_quit, with_line, with_lines}
 use Rattle.sg_serve.specs.Served.{Agrees, EndedAt, Gave, Outside, Served, images_if, joins_kept, joins_of, opening}
 use Rattle.sg_serve.specs.Representation.{HoldsJoins, Serves, RepresentsServing}
 use Rattle.sg_serve.proofs.Answering.{between_all}
@@ -27,16 +27,38 @@ pub serves_more : (start old new : Outside) (random0 random : Option (List (List
 serves_more start old new random0 random sv0 sv first all left line h goes x = record {
   prefix = h.prefix ++ (line, x.0) ∷ [];
   is = h.is ∙ ap (λ (ls : List Line). map (λ (y : Line × Bool). y.0) h.prefix ++ ls) (goes_behind line left goes)
-      ∙ sym (append_assoc (map (λ (y : Line × Bool). y.0) h.prefix) (line ∷ []) (until_quit left))
-      ∙ ap (λ (ls : List Line). ls ++ until_quit left) (sym (map-append (λ (y : Line × Bool). y.0) h.prefix ((line, x.0) ∷ [])));
+      ∙ sym (append_assoc (map (λ (y : Line × Bool). y.0) h.prefix) (line ∷ []) (before_quit left))
+      ∙ ap (λ (ls : List Line). ls ++ before_quit left) (sym (map-append (λ (y : Line × Bool). y.0) h.prefix ((line, x.0) ∷ [])));
   represents = subst (λ (r : Run). RepresentsServing sv r.serving) (sym (lines_both first h.prefix ((line, x.0) ∷ []))) x.1;
   agrees = subst (λ (r : Run). Agrees start new random r) (sym (lines_both first h.prefix ((line, x.0) ∷ []))) x.2;
 }
 
+-- the next of the lines that may be answered
+pub next_taken : (n : ℕ) (left : List Line) (line : Line) → 0 < n → left ≡ line ∷ drop 1 left → take n left ≡ line ∷ drop 1 (take n left)
+next_taken zero left line p e = absurd (omega (arith, p))
+next_taken (suc n) left line p e = subst (λ (ls : List Line). take (suc n) ls ≡ line ∷ drop 1 (take (suc n) ls)) (sym e) refl
+
+pub take_none : (n : ℕ) → take {A = Line} n [] ≡ []
+take_none zero = refl
+take_none (suc n) = refl
+
+one_off : (n : ℕ) → n ≡ suc n - 1
+one_off n = omega arith
+
+-- those behind it
+pub taken_on : (n : ℕ) (left : List Line) → drop 1 (take n left) ≡ take (n - 1) (drop 1 left)
+taken_on zero left = refl
+taken_on (suc n) [] = sym (take_none (suc n - 1))
+taken_on (suc n) (l ∷ ls) = ap (λ (m : ℕ). take m ls) (one_off n)
+
+-- as many as are left
+pub one_fewer : (m n : ℕ) → m - n - 1 ≡ m - (n + 1)
+one_fewer m n = omega arith
+
 -- the run ended there
 pub served_at : (start old new : Outside) (random0 random : Option (List (List ℕ))) (images : List ℕ → Type 0) (sv : Server) (first : Run) (all left : List Line) (result : Result (Unit {0}) ServeFault) (h : Serves start old random0 sv first all left)
-    → EndedAt start new random images (with_lines first h.prefix) (until_quit left) result → Served start new random images first all result
-served_at start old new random0 random images sv first all left result h e = record { prefix = h.prefix; rest = until_quit left; is = h.is; ended = e }
+    → EndedAt start new random images (with_lines first h.prefix) (before_quit left) result → Served start new random images first all result
+served_at start old new random0 random images sv first all left result h e = record { prefix = h.prefix; rest = before_quit left; is = h.is; ended = e }
 
 -- ---- a run begins
 

@@ -1,5 +1,5 @@
 -- What an answer that makes no call comes to, in each state that the server represents.
-use Rattle.std.proofs.Common.{◌≡◌, ℕ, ◌-◌, ◌<◌, ◌≤◌, Bool, true, false, if◌then◌else◌, List, [], ◌++◌, length, map, get_or, Option, Some, None, is_some, option_map, IfOk, OnOk, OnErr, Result, Ok, Err, Bor, refl, sym, ap, ◌∙◌, subst}
+use Rattle.std.proofs.Common.{◌≡◌, ℕ, ◌-◌, ◌<◌, ◌≤◌, Bool, true, false, List, [], ◌++◌, length, map, get_or, Option, Some, None, is_some, option_map, IfOk, OnOk, OnErr, Result, Ok, Err, Bor, refl, sym, ap, ◌∙◌, subst}
 use Rattle.std.specs.Prelude.{IsOk, slice_get, unwrap_or}
 use Rattle.std.specs.Option.{option_copied, option_map_or}
 use Rattle.std.proofs.lemmas.Option.{slice_get-map, slice_get-get_or, slice_get_past}
@@ -7,14 +7,16 @@ use Rattle.sg_again.specs.LastFrames.{SentFrame, frame_of}
 use Rattle.sg_answers.specs.Answers.{unknown_text, nothing_text, turn_text, waits_text, over_text, unsent_text}
 use Rattle.sg_play.specs.Steps.{Step}
 use Rattle.sg_protocol.specs.Graph.{Graph}
+use Rattle.sg_protocol.specs.Keyring.{Program}
+use Rattle.sg_protocol.specs.Named.{live_with}
 use Rattle.sg_protocol.specs.Past.{node_of}
+use Rattle.sg_protocol.specs.Session.{Session}
 use Rattle.sg_protocol.specs.Turn.{turn_of}
-use Rattle.sg_report.specs.Lines.{graph_or_none}
 use Rattle.sg_serve.specs.declared.fault.ServeFault.{ServeFault}
 use Rattle.sg_serve.specs.declared.server.Server.{Server}
 use Rattle.sg_serve.specs.Lines.{given, unsent_line}
 use Rattle.sg_serve.specs.Posted.{posted}
-use Rattle.sg_serve.specs.Serving.{Reply, Serving, graph_at, is_live, of_session, repeats, says, sends_again, sids_of, turn_line}
+use Rattle.sg_serve.specs.Serving.{Reply, Serving, of_session, repeats, says, sends_again, sids_of, turn_line}
 use Rattle.sg_serve.specs.Representation.{HasReplied, RepresentsServing}
 
 -- ---- a text
@@ -79,18 +81,26 @@ frame_again s n sid f is e = ap (λ (o : Option SentFrame). option_map_or (repea
 
 -- ---- where it is
 
-abbrev waiting : Serving → ℕ → List ℕ → List ℕ
-waiting s n sid = if is_live s.play sid then waits_text n else over_text n
+module _ (s : Serving) (n : ℕ) (sid : List ℕ) (graph : Option Graph) (is : graph ≡ option_map (λ (x : Program × Session). x.0.graph) (live_with (node_of s.play.past) sid)) where
+  -- where it is by the graph that it has if it is live
+  abbrev line_by : Option Graph → List ℕ
+  line_by o = option_map_or (λ (g : Graph). option_map_or (turn_text n g) (turn_of (node_of s.play.past) sid) (waits_text n)) o (over_text n)
 
-pub at_turn : (s : Serving) (n node : ℕ) (sid : List ℕ) (g : Graph) → turn_of (node_of s.play.past) sid ≡ Some node → graph_at s n ≡ Some g → turn_text n g node ≡ turn_line s n sid
-at_turn s n node sid g t is =
-    ap (λ (x : Option Graph). turn_text n (graph_or_none x) node) (sym is) ∙ ap (λ (o : Option ℕ). option_map_or (turn_text n (graph_or_none (graph_at s n))) o (waiting s n sid)) (sym t)
+  by_graph : line_by graph ≡ turn_line s n sid
+  by_graph = ap line_by is ∙ by (live_with (node_of s.play.past) sid)
+    where
+      by : (o : Option (Program × Session)) → line_by (option_map (λ (x : Program × Session). x.0.graph) o) ≡ option_map_or (λ (x : Program × Session). option_map_or (turn_text n x.0.graph) (turn_of (node_of s.play.past) sid) (waits_text n)) o (over_text n)
+      by None = refl
+      by (Some x) = refl
 
-pub waits : (s : Serving) (n : ℕ) (sid : List ℕ) → turn_of (node_of s.play.past) sid ≡ None → is_live s.play sid ≡ true → waits_text n ≡ turn_line s n sid
-waits s n sid t live = ap (λ (b : Bool). if b then waits_text n else over_text n) (sym live) ∙ ap (λ (o : Option ℕ). option_map_or (turn_text n (graph_or_none (graph_at s n))) o (waiting s n sid)) (sym t)
+  pub at_turn : (g : Graph) (node : ℕ) → graph ≡ Some g → turn_of (node_of s.play.past) sid ≡ Some node → turn_text n g node ≡ turn_line s n sid
+  at_turn g node live t = ap (λ (o : Option ℕ). option_map_or (turn_text n g) o (waits_text n)) (sym t) ∙ ap line_by (sym live) ∙ by_graph
 
-pub is_over : (s : Serving) (n : ℕ) (sid : List ℕ) → turn_of (node_of s.play.past) sid ≡ None → is_live s.play sid ≡ false → over_text n ≡ turn_line s n sid
-is_over s n sid t live = ap (λ (b : Bool). if b then waits_text n else over_text n) (sym live) ∙ ap (λ (o : Option ℕ). option_map_or (turn_text n (graph_or_none (graph_at s n))) o (waiting s n sid)) (sym t)
+  pub waits : (g : Graph) → graph ≡ Some g → turn_of (node_of s.play.past) sid ≡ None → waits_text n ≡ turn_line s n sid
+  waits g live t = ap (λ (o : Option ℕ). option_map_or (turn_text n g) o (waits_text n)) (sym t) ∙ ap line_by (sym live) ∙ by_graph
+
+  pub is_over : graph ≡ None → over_text n ≡ turn_line s n sid
+  is_over none = ap line_by (sym none) ∙ by_graph
 
 -- ---- in each state
 

@@ -1,5 +1,5 @@
 -- What holds of each run, in the subject's terms.
-use Rattle.std.specs.Prelude.{◌≡◌, ℕ, Bool, List, Some, Contains}
+use Rattle.std.specs.Prelude.{◌≡◌, ℕ, Bool, List, Some}
 use Rattle.sg_input.specs.Lines.{Line, Whole}
 use Rattle.sg_ledger.specs.Format.{Join}
 use Rattle.sg_protocol.specs.Keyring.{Keyring, Program}

@@ -1,5 +1,4 @@
 pub mod Posted
-pub mod Requests
 pub mod Serving
 pub mod Lines
 pub mod Served

@@ -1,5 +1,5 @@
 -- What each line of the input does, and what is given to the outside.
-use Rattle.std.specs.Prelude.{◌≡◌, ℕ, ◌+◌, ◌≤◌, ◌-◌, ◌^◌, ◌⊎◌, Bool, true, false, if◌then◌else◌, List, [], ◌∷◌, ◌++◌, Option, Some, None, is_some}
+use Rattle.std.specs.Prelude.{ℕ, ◌+◌, ◌-◌, ◌^◌, Bool, true, false, if◌then◌else◌, List, [], ◌∷◌, ◌++◌, take, is_some}
 use Rattle.std.specs.Option.{option_map_or}
 use Rattle.sg_answers.specs.Answers.{wrong_text, failed_text, unsent_text}
 use Rattle.sg_answers.specs.declared.line.Wrong.TheVariants.{Form}
@@ -80,6 +80,14 @@ asks_quit TooLong = false
 asks_quit (Whole bytes) = option_map_or is_quit (request_of bytes) false
 
 -- the lines up to that one
+abbrev pub before_quit : List Line → List Line
+before_quit [] = []
+before_quit (l ∷ ls) = if asks_quit l then [] else (l ∷ before_quit ls)
+
+-- no more lines are answered: 18,446,744,073,709,551,615
+abbrev pub most_lines : ℕ
+most_lines = 2 ^ 64 - 1
+
+-- the lines that are answered: up to that one, and no more than these
 abbrev pub until_quit : List Line → List Line
-until_quit [] = []
-until_quit (l ∷ ls) = if asks_quit l then [] else (l ∷ until_quit ls)
+until_quit lines = before_quit (take most_lines lines)

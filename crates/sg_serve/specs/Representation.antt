@@ -10,7 +10,7 @@ use Rattle.sg_ledger.specs.declared.disk.Disk as Disk
 use Rattle.sg_model.specs.Names.{Name}
 use Rattle.sg_node.specs.Answers.{IsAnsweredPast}
 use Rattle.sg_play.specs.Asking.{addressed, sealed_in}
-use Rattle.sg_play.specs.Played.{Play, answer_in}
+use Rattle.sg_play.specs.Played.{answer_in}
 use Rattle.sg_play.specs.Faults.{CountsFaultAlone}
 use Rattle.sg_play.specs.Posting.{frames_made}
 use Rattle.sg_play.specs.Representation.{HasAsked, RepresentsPlay}
@@ -22,7 +22,7 @@ use Rattle.sg_report.specs.declared.outcome.Outcome.{Outcome}
 use Rattle.sg_serve.specs.declared.fault.ServeFault.{ServeFault}
 use Rattle.sg_serve.specs.declared.fault.ServeFault.TheVariants.{DiskFailed, OutOfMemory}
 use Rattle.sg_serve.specs.declared.server.Server.{Server}
-use Rattle.sg_serve.specs.Lines.{Run, asks_quit, given, gives, receipt, until_quit, with_line, with_lines}
+use Rattle.sg_serve.specs.Lines.{Run, asks_quit, before_quit, given, gives, receipt, until_quit, with_line, with_lines}
 use Rattle.sg_serve.specs.Served.{Outside, Agrees, EndedAt, RepresentBetween, images_if, joins_of}
 use Rattle.sg_wait.specs.declared.coming.Coming.{Coming}
 use Rattle.sg_serve.specs.Serving.{Serving, Reply, sids_of}
@@ -30,7 +30,6 @@ use Rattle.sg_serve.specs.Serving.{Serving, Reply, sids_of}
 -- the server has the player of the state, its graphs and its last frames
 pub record RepresentsServing (sv : Server) (s : Serving) : Type 0 where
   pub player : RepresentsPlay sv.player s.play
-  pub programs : s.play.past.programs ≡ sv.programs.now
   pub graphs : sv.graphs ≡ s.graphs
   -- each session that had an event has one
   pub enough : length (sids_of s.play) ≤ length sv.graphs
@@ -68,7 +67,6 @@ pub record HasCalled (sv : Server) (s : Serving) (c : Call) (outcome : Outcome) 
   pub asked : HasAsked sv.player s.play c outcome (frames_made frame)
   pub answered_before : IsAnsweredPast s.play.past
   pub is_frame : frame ≡ addressed s.play.past.keys (sealed_in (answer_in s.play c))
-  pub programs : s.play.past.programs ≡ sv.programs.now
   pub graphs : sv.graphs ≡ s.graphs
   -- each session that had an event has one
   pub enough : length (sids_of s.play) ≤ length sv.graphs
@@ -151,17 +149,17 @@ some_ok (Err fault) = Err fault
 abbrev pub ProgressedToAnswer : (images : List ℕ → Type 0) → Server → (random : Option (List (List ℕ))) → (coming : Option (List Coming)) → (old new : ℕ) → Run → Line → Result (Option Step) ServeFault → Type 0
 ProgressedToAnswer images sv random coming old new r line (Ok (Some step)) = HasAnswer sv random coming old new r line step
 ProgressedToAnswer images sv random coming old new r line (Ok None) = HasEnded sv random coming r line
-ProgressedToAnswer images sv random coming old new r line (Err fault) = (later : List Line) → RepresentBetween images r (until_quit (line ∷ later))
+ProgressedToAnswer images sv random coming old new r line (Err fault) = (later : List Line) → RepresentBetween images r (before_quit (line ∷ later))
 
 -- a line was answered, or it asks for the end; or the run ended at it, whatever lines were to follow
 abbrev pub Answered : (start now : Outside) → (random : Option (List (List ℕ))) → (images : List ℕ → Type 0) → Server → Run → Line → Result Bool ServeFault → Type 0
 Answered start now random images sv r line (Ok true) = (asks_quit line ≡ false) × ((t : Bool) × RepresentsServing sv (with_line t r line).serving × Agrees start now random (with_line t r line))
 Answered start now random images sv r line (Ok false) = (asks_quit line ≡ true) × RepresentsServing sv r.serving × Agrees start now random r
-Answered start now random images sv r line (Err fault) = (later : List Line) → EndedAt start now random images r (until_quit (line ∷ later)) (Err fault)
+Answered start now random images sv r line (Err fault) = (later : List Line) → EndedAt start now random images r (before_quit (line ∷ later)) (Err fault)
 
--- the server has answered the first of these lines, and these are left
+-- the server has answered the first of these lines, and these are left of those that it may answer
 pub record Serves (start now : Outside) (random : Option (List (List ℕ))) (sv : Server) (first : Run) (all left : List Line) : Type 0 where
   pub prefix : List (Line × Bool)
-  pub is : until_quit all ≡ map (λ x. x.0) prefix ++ until_quit left
+  pub is : until_quit all ≡ map (λ x. x.0) prefix ++ before_quit left
   pub represents : RepresentsServing sv (with_lines first prefix).serving
   pub agrees : Agrees start now random (with_lines first prefix)

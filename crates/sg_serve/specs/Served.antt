@@ -1,6 +1,7 @@
 -- What a run has given the outside and what it has kept, where it ended.
 use Rattle.std.specs.Prelude.{◌≡◌, ℕ, ◌+◌, ◌-◌, ◌^◌, ◌≤◌, ◌⊎◌, IsTrue, Bool, List, [], ◌∷◌, ◌++◌, map, take, Option, Some, Result, Ok, Err}
 use Rattle.std.specs.Option.{option_map_or}
+use Rattle.sg_again.specs.LastFrames.{no_frames}
 use Rattle.sg_base.specs.declared.address.Addr.{Addr}
 use Rattle.sg_base.specs.Outside.{Appends}
 use Rattle.sg_input.specs.Lines.{Line}
@@ -96,7 +97,7 @@ EndedAt old new random images r rest (Err OutOfMemory) = HasStopped old new imag
 -- a node with these keys and programs, which joined these pairs before, and nothing answered yet
 abbrev pub opening : Keyring → List Program → (first : List Join) → List Coming → (random : List (List ℕ)) → Run
 opening keys programs first coming random = record {
-  serving = record { play = beginning keys programs first [] random; graphs = []; last = [] };
+  serving = record { play = beginning keys programs first [] random; graphs = []; last = no_frames };
   coming = coming;
   answers = [];
   failures = 0;

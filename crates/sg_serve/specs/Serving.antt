@@ -1,7 +1,7 @@
 -- What one principal does that serves an application: what each request does to its state, and what is answered.
-use Rattle.std.specs.Prelude.{ℕ, ◌+◌, ◌-◌, nat_lt, Bool, if◌then◌else◌, List, [], ◌∷◌, ◌++◌, length, find, position, bytes_eq, slice_get, unwrap_or, Option, Some, None, is_some, option_map}
+use Rattle.std.specs.Prelude.{ℕ, ◌+◌, ◌-◌, nat_lt, Bool, if◌then◌else◌, List, [], ◌∷◌, ◌++◌, length, find, position, bytes_eq, slice_get, unwrap_or, Option, None, is_some, option_map}
 use Rattle.std.specs.Option.{option_map_or}
-use Rattle.sg_again.specs.LastFrames.{KeptFrame, SentFrame, sent, ended, frame_of}
+use Rattle.sg_again.specs.LastFrames.{LastFrames, SentFrame, sent, ended, frame_of}
 use Rattle.sg_base.specs.declared.address.Addr.{Addr}
 use Rattle.sg_answers.specs.Answers.{unknown_text, wrong_text, quiet_text, again_text, nothing_text, turn_text, waits_text, over_text, id_text}
 use Rattle.sg_answers.specs.declared.line.Wrong.TheVariants.{Unknown, Twice}
@@ -11,7 +11,7 @@ use Rattle.sg_model.specs.Names.{Name}
 use Rattle.sg_model.specs.Values.{Value}
 use Rattle.sg_play.specs.Asking.{addressed, sealed_in}
 use Rattle.sg_play.specs.Played.{Play, answer_in, called, cast_of_start, next_confounders, step_in, without, next_random}
-use Rattle.sg_play.specs.Steps.{Step, frames_of, known_in}
+use Rattle.sg_play.specs.Steps.{Step, counted, frames_of, known_in}
 use Rattle.sg_program.specs.Together.{is_named}
 use Rattle.sg_protocol.specs.Calls.{Call, Start, Act, Abandon, Deliver}
 use Rattle.sg_protocol.specs.Graph.{Graph}
@@ -20,7 +20,6 @@ use Rattle.sg_protocol.specs.Texts.{real}
 use Rattle.sg_protocol.specs.Named.{graph_of_call, live_with}
 use Rattle.sg_protocol.specs.Turn.{turn_of}
 use Rattle.sg_sched_text.specs.Adding.{known_values, is_twice}
-use Rattle.sg_report.specs.Lines.{graph_or_none}
 use Rattle.sg_report.specs.Reported.{session_reported, sid_left, reported_answer}
 use Rattle.sg_request.specs.declared.request.Request.{Request}
 use Rattle.sg_request.specs.declared.request.Request.TheVariants as request
@@ -32,7 +31,7 @@ use Rattle.sg_script.specs.Script.{Start as ScriptStart}
 pub record Serving : Type 0 where
   pub play : Play
   pub graphs : List (Option Graph)
-  pub last : List KeptFrame
+  pub last : LastFrames
 
 -- ---- what a request comes to
 
@@ -82,22 +81,22 @@ as_sent number x = record { number = number; to = x.1.0; at = x.0; bytes = x.1.1
 
 -- the frame that a call makes, which has the next number
 abbrev pub frame_made : Play → Call → Option SentFrame
-frame_made p c = option_map (as_sent (length (frames_of p.steps) + 1)) (addressed p.past.keys (sealed_in (answer_in p c)))
+frame_made p c = option_map (as_sent (counted (length (frames_of p.steps) + 1))) (addressed p.past.keys (sealed_in (answer_in p c)))
 
 -- the session that the line of a call names
 abbrev pub session_in : Play → Call → Option (List ℕ)
-session_in p c = session_reported (sid_left c) (reported_answer (length (frames_of p.steps) + 1) (answer_in p c))
+session_in p c = session_reported (sid_left c) (reported_answer (counted (length (frames_of p.steps) + 1)) (answer_in p c))
 
 -- the last frames after a session may have sent one: it is the session's last frame, and a session that is not live any more has ended
-abbrev pub last_with : (live : Bool) → (sid : List ℕ) → Option SentFrame → List KeptFrame → List KeptFrame
+abbrev pub last_with : (live : Bool) → (sid : List ℕ) → Option SentFrame → LastFrames → LastFrames
 last_with live sid frame last = let after = option_map_or (sent last sid) frame last in if live then after else ended after sid
 
 -- so of the session of a line, if there is one, in the play after it
-abbrev pub last_of : Play → Option (List ℕ) → Option SentFrame → List KeptFrame → List KeptFrame
+abbrev pub last_of : Play → Option (List ℕ) → Option SentFrame → LastFrames → LastFrames
 last_of p session frame last = option_map_or (λ sid. last_with (is_live p sid) sid frame last) session last
 
 -- so after a call
-abbrev pub last_after : Play → Call → List KeptFrame → List KeptFrame
+abbrev pub last_after : Play → Call → LastFrames → LastFrames
 last_after p c last = last_of (called p c) (session_in p c) (frame_made p c) last
 
 -- the node is asked a call: the step's line is the answer, and its frame is to go out
@@ -134,9 +133,9 @@ takes s found = option_map_or (λ bytes. calls s (Deliver bytes)) found (says s 
 abbrev pub sends_again : Serving → (n : ℕ) → (sid : List ℕ) → Reply
 sends_again s n sid = option_map_or (repeats s) (frame_of s.last sid) (says s (nothing_text n))
 
--- where session n is: at its turn, waiting, or live no more
+-- where session n is: at its turn at a node of its graph, waiting, or live no more
 abbrev pub turn_line : Serving → (n : ℕ) → (sid : List ℕ) → List ℕ
-turn_line s n sid = option_map_or (turn_text n (graph_or_none (graph_at s n))) (turn_of (node_of s.play.past) sid) (if is_live s.play sid then waits_text n else over_text n)
+turn_line s n sid = option_map_or (λ x. option_map_or (turn_text n x.0.graph) (turn_of (node_of s.play.past) sid) (waits_text n)) (live_with (node_of s.play.past) sid) (over_text n)
 
 -- ---- a request
 

@@ -1,6 +1,7 @@
 //! The requests that call the node: a start, an act, a leaving, and a delivery.
 ghost use Rattle.std.specs.Prelude.{◌≡◌, List, ℕ, Some, option_map, IfErr, IfOk, IsTrue, OnOk, is_some};
 ghost use Rattle.std.specs.List.{list_all};
+ghost use Rattle.sg_request.specs.Request.{is_request};
 ghost use Rattle.sg_request.specs.declared.request.Request.TheVariants as request;
 ghost use Rattle.sg_sched.specs.Format.Forms.{is_assignment};
 ghost use Rattle.sg_serve.specs.Served.{images_if};
@@ -32,12 +33,13 @@ impl<'p> Server<'p> {
         disk: &mut D,
     ) -> Result<Reply, ServeFault>
         requires holds { HoldsJoins self.old (D.may_leave disk.old) }
+        requires asked { IsTrue (is_request (request.Start start_of.now.graph start_of.now.version start_of.now.cast)) }
         ensures kept { KeepsLedger D.Disk self.old.ledger disk.old disk.new self.new result }
         ensures random { OnOk result ((s : Serving) → RepresentsServing self.old s → R.random fresh.old ≡ Some s.play.random → R.random fresh.new ≡ Some (starts s start_of.now).0.play.random) }
         ensures replied { (s : Serving) → RepresentsServing self.old s → R.random fresh.old ≡ Some s.play.random
             → Replied (images_if (is_some self.old.ledger) (D.may_leave disk.new)) s self.new (starts s start_of.now) result }
     {
-        if self.programs.by_name(&start_of.graph).is_none() {
+        if self.player.programs().by_name(&start_of.graph).is_none() {
             return say_wrong(self.alloc, Wrong::Unknown);
         }
         let nonce = fresh.next();

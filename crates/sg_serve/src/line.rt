@@ -1,10 +1,10 @@
 //! What a line of the input is answered, before it is given.
-ghost use Rattle.std.specs.Prelude.{◌≡◌, ◌≤◌, List, ℕ, Some, OnOk, is_some};
+ghost use Rattle.std.specs.Prelude.{◌≡◌, ◌≤◌, List, ℕ, Some, IsTrue, OnOk, is_some};
 ghost use Rattle.std.specs.Option.{option_copied};
 ghost use Rattle.sg_serve.specs.Lines.{Run};
 ghost use Rattle.sg_serve.specs.Served.{images_if};
 ghost use Rattle.sg_serve.specs.Serving.{Serving, replies};
-ghost use Rattle.sg_serve.specs.Requests.{AreAssigned};
+ghost use Rattle.sg_request.specs.Request.{is_request};
 ghost use Rattle.sg_serve.specs.Representation.{ProgressedToAnswer, HoldsJoins, KeepsLedger, Received, Replied, RepresentsServing, found_line, some_ok};
 
 use crate::ServeFault;
@@ -14,6 +14,7 @@ use crate::server::Server;
 use sg_answers::Wrong;
 use sg_base::{Fresh, LinkFault};
 use sg_ledger::Disk;
+use sg_request::laws::words_ask;
 use sg_request::{Request, read_request};
 use sg_script::ScriptStart;
 use sg_wait::TimedLink;
@@ -38,6 +39,7 @@ impl<'p> Server<'p> {
         let Some(bytes) = line else {
             return some_reply(say_wrong(self.alloc, Wrong::Form));
         };
+        words_ask();
         match read_request(self.alloc, bytes) {
             Ok(Some(Request::Quit)) => Ok(None),
             Ok(Some(Request::Receive(within))) => some_reply(self.receive(within, link, disk)),
@@ -77,7 +79,7 @@ impl<'p> Server<'p> {
         disk: &mut D,
     ) -> Result<Reply, ServeFault>
         requires holds { HoldsJoins self.old (D.may_leave disk.old) }
-        requires assigned { AreAssigned request }
+        requires asked { IsTrue (is_request request) }
         ensures kept { KeepsLedger D.Disk self.old.ledger disk.old disk.new self.new result }
         ensures random { OnOk result ((s : Serving) → RepresentsServing self.old s → R.random fresh.old ≡ Some s.play.random → R.random fresh.new ≡ Some (replies s request.entry).0.play.random) }
         ensures replied { (s : Serving) → RepresentsServing self.old s → R.random fresh.old ≡ Some s.play.random

@@ -168,7 +168,7 @@ fn session_of(left: &Option<Sid>, outcome: &Outcome<'_>) -> Option<Sid>
 }
 
 // The number of the frame that an outcome has, or 0 if it has none.
-fn number_of(outcome: &Outcome<'_>) -> u32
+fn number_of(outcome: &Outcome<'_>) -> u64
     ensures { (e : Event) (to : Name) (number : ℕ) → outcome_of outcome.now ≡ Sends e to number → result ≡ number }
 {
     match outcome {
@@ -178,7 +178,7 @@ fn number_of(outcome: &Outcome<'_>) -> u32
 }
 
 // A made frame of this number. It takes no memory.
-fn opened(number: u32, frame: Option<(Addr, Sealed)>) -> Option<LastFrame>
+fn opened(number: u64, frame: Option<(Addr, Sealed)>) -> Option<LastFrame>
     ensures { result ≡ option_map (as_sent number) frame }
 {
     match frame {

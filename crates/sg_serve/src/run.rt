@@ -23,7 +23,7 @@ use sg_wait::TimedLink;
 use std::alloc::Global;
 
 impl<'p> Server<'p> {
-    // Answers each line of an input in order, up to that which asks for the end or the end of the input.
+    // Answers each line of an input in order, up to that which asks for the end or the end of the input, and no more than `u64::MAX` lines.
     fn serve_all<I: Input, L: TimedLink, R: Fresh, O: Sink, D: Disk>(
         &mut self,
         reader: &mut LineReader,
@@ -65,7 +65,7 @@ impl<'p> Server<'p> {
                 Err(InputFault::OutOfMemory) => return Err(ServeFault::OutOfMemory),
             }
         }
-        Err(ServeFault::OutOfMemory)
+        Ok(())
     }
 
     // Answers a line, given without its line feed, or as nothing if it is too long, and says whether it is another than one that asks for
@@ -104,10 +104,10 @@ impl<'p> Server<'p> {
 }
 
 /// Serves an application over a link: answers each line of its input in order, each before it reads the next one, up to the line that asks
-/// for the end or the end of the input. The node was made with these keys and programs, and with the joins of the ledger, if there is one,
-/// which was opened from this disk; it was not asked anything yet. Each pair that it joins is added to the ledger before anything of it is
-/// written or sent. It ends early if the input fails, an answer is not written whole, the disk fails or memory runs out; a link that fails is an
-/// answer.
+/// for the end or the end of the input, and 18,446,744,073,709,551,615 lines at most. The node was made with these keys and programs, and
+/// with the joins of the ledger, if there is one, which was opened from this disk; it was not asked anything yet. Each pair that it joins
+/// is added to the ledger before anything of it is written or sent. It ends early if the input fails, an answer is not written whole, the
+/// disk fails or memory runs out; a link that fails is an answer.
 pub fn serve<'p, I: Input, L: TimedLink, R: Fresh, O: Sink, D: Disk>(
     alloc: Global,
     node: Node<'p>,

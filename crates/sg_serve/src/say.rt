@@ -156,16 +156,12 @@ impl<'p> Server<'p> {
         ensures text { IfOk result (λ r. (s : Serving) → RepresentsServing self.now s → r ≡ record { line = turn_line s number sid; frames = [] }) }
         ensures memory { IfErr result (λ e. e ≡ ServeFault.OutOfMemory) }
     {
-        if let Some(node) = self.player.turn(sid) {
-            return match self.graph(number) {
-                Some(graph) => say_turn(self.alloc, number, graph, node),
-                None => Err(ServeFault::OutOfMemory),
-            };
-        }
-        if self.is_live(&sid) {
-            say_waits(self.alloc, number)
-        } else {
-            say_over(self.alloc, number)
+        let Some(graph) = self.player.graph_of(&sid) else {
+            return say_over(self.alloc, number);
+        };
+        match self.player.turn(sid) {
+            Some(node) => say_turn(self.alloc, number, graph, node),
+            None => say_waits(self.alloc, number),
         }
     }
 

@@ -1,7 +1,7 @@
 //! One principal who serves an application.
 ghost use Rattle.std.specs.Prelude.{◌≡◌, ℕ, ◌-◌, List, [], None, IfErr, IfOk, OnOk, is_some, option_map, slice_get, unwrap_or};
 ghost use Rattle.std.specs.Option.{option_copied, option_map_or};
-ghost use Rattle.sg_again.specs.LastFrames.{frame_of};
+ghost use Rattle.sg_again.specs.LastFrames.{no_frames};
 ghost use Rattle.sg_ledger.specs.Format.{Join, OpenLedger};
 ghost use Rattle.sg_protocol.specs.NodeStates.{new_state};
 
@@ -17,12 +17,11 @@ use sg_play::Player;
 use sg_program::Programs;
 use std::alloc::Global;
 
-// One principal who serves an application: its player, the programs that the player was made with, the graph of each session that had an
-// event, the last frames of sessions, and the ledger of its joins, if it has one.
+// One principal who serves an application: its player, the graph of each session that had an event, the last frames of sessions, and the
+// ledger of its joins, if it has one.
 #[derive(Drop)]
 pub(crate) struct Server<'p> {
     pub(crate) alloc: Global,
-    pub(crate) programs: &'p Programs,
     pub(crate) player: Player<'p>,
     pub(crate) graphs: Graphs<'p>,
     pub(crate) last: LastFrames,
@@ -46,7 +45,7 @@ impl<'p> Server<'p> {
         ledger: Option<Ledger>,
     ) -> Result<Server<'p>, ServeFault>
         requires { node ≡ new_state keys.now programs.now (joins_kept ledger) }
-        ensures represents { IfOk result (λ sv. (random : List (List ℕ)) → RepresentsServing sv (record { play = beginning keys.entry.now programs.entry.now (joins_kept ledger) [] random; graphs = []; last = [] })) }
+        ensures represents { IfOk result (λ sv. (random : List (List ℕ)) → RepresentsServing sv (record { play = beginning keys.entry.now programs.entry.now (joins_kept ledger) [] random; graphs = []; last = no_frames })) }
         ensures ledger { IfOk result (λ sv. sv.ledger ≡ ledger) }
         ensures memory { IfErr result (λ e. e ≡ ServeFault.OutOfMemory) }
     {
@@ -55,7 +54,6 @@ impl<'p> Server<'p> {
         };
         Ok(Server {
             alloc,
-            programs,
             player,
             graphs: Graphs::new(alloc),
             last: LastFrames::new(alloc),

@@ -1,8 +1,7 @@
-use Rattle.std.proofs.Common.{inr, rules, ◌≡◌, ℕ, List, [], Bool, Some, Err, refl, sym, ap, ◌∙◌, subst}
+use Rattle.std.proofs.Common.{inr, rules, ◌≡◌, [], Bool, Err, refl, sym, ap, ◌∙◌, subst}
 use Rattle.std.specs.Prelude.{is_some}
 use Rattle.sg_input.specs.Lines.{lines_left, lines_of}
 use Rattle.sg_input.specs.Model.{Reading}
-use Rattle.sg_ledger.specs.Format.{OpenLedger}
 use Rattle.sg_serve.specs.Served.{Outside, Served, images_if, joins_kept, opening}
 use Rattle.sg_serve.proofs.Running.{gave_none, holds_first, not_begun}
 use Rattle.sg_serve.proofs.Counting.{none_failed}

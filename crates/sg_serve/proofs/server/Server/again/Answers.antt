@@ -1,6 +1,6 @@
-use Rattle.std.proofs.Common.{◌∙◌, List, [], Some, ap, sym}
+use Rattle.std.proofs.Common.{◌∙◌, [], Some, ap, sym}
 use Rattle.std.specs.Option.{option_copied}
-use Rattle.sg_again.specs.LastFrames.{KeptFrame, frame_of}
+use Rattle.sg_again.specs.LastFrames.{LastFrames, frame_of}
 use Rattle.sg_answers.specs.Answers.{again_text, nothing_text, unknown_text}
 use Rattle.sg_serve.proofs.Saying.{frame_again, nothing_again, of_none, replied_each}
 use Rattle.sg_serve.specs.Posted.{posted}
@@ -19,11 +19,11 @@ returns-in-Some-of-clause-replied c =
     let sid = c.in-Some.sid in
     let f = c.in-Some-of.frame.now in
     replied_each c.args.self.now (record { line = again_text f.number f.to; frames = posted (Some f) }) (λ s. of_session s n (sends_again s n)) c.repeated.result
-    (λ s st. frame_again s n sid f (sym (c.sid.ensures s.play st.player) ∙ c.in-Some.is) (ap (λ (l : List KeptFrame). frame_of l sid) (sym st.last) ∙ sym c.of.ensures ∙ ap option_copied c.in-Some-of.is)) c.repeated.ensures.frame
+    (λ s st. frame_again s n sid f (sym (c.sid.ensures s.play st.player) ∙ c.in-Some.is) (ap (λ (l : LastFrames). frame_of l sid) (sym st.last) ∙ sym c.of.ensures ∙ ap option_copied c.in-Some-of.is)) c.repeated.ensures.frame
 
 pub returns-in-None-clause-replied : goal.returns-in-None-clause-replied
 returns-in-None-clause-replied c =
     let n = c.args.number in
     let sid = c.in-Some.sid in
     replied_each c.args.self.now (record { line = nothing_text n; frames = [] }) (λ s. of_session s n (sends_again s n)) c.say_nothing.result
-    (λ s st. nothing_again s n sid (sym (c.sid.ensures s.play st.player) ∙ c.in-Some.is) (ap (λ (l : List KeptFrame). frame_of l sid) (sym st.last) ∙ sym c.of.ensures ∙ ap option_copied c.in-None.is)) c.say_nothing.ensures.text
+    (λ s st. nothing_again s n sid (sym (c.sid.ensures s.play st.player) ∙ c.in-Some.is) (ap (λ (l : LastFrames). frame_of l sid) (sym st.last) ∙ sym c.of.ensures ∙ ap option_copied c.in-None.is)) c.say_nothing.ensures.text

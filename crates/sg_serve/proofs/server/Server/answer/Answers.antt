@@ -5,7 +5,6 @@ use Rattle.sg_serve.specs.Served.{images_if}
 use Rattle.sg_serve.specs.Representation.{found_line, some_ok}
 use Rattle.sg_serve.proofs.Asking.{holds_all}
 use Rattle.sg_serve.proofs.Lining.{asked_other, asked_wait, came_as, mapped_ok, no_request, same_falls, unread, wrong_form}
-use Rattle.sg_serve.proofs.Requests.{assigned_read}
 use Rattle.sg_serve.proofs.Keeping.{ran_out, some_kept, unasked}
 use Rattle.sg_serve.proofs.server.Server.answer.Goals as goal
 
@@ -23,7 +22,7 @@ returns-in_default-clause-answered g c = λ r st w co.
 pub reply-requires : goal.reply-requires
 reply-requires g c = record {
   holds = c.requires.holds;
-  assigned = assigned_read c.in-Some.bytes.now c.in-Ok-Some.request (sym c.in-Ok-Some.ensures ∙ c.in-Ok-Some.field-0-is);
+  asked = ((c.words_ask.ensures c.in-Some.bytes.now c.in-Ok-Some.request).0 (sym c.in-Ok-Some.ensures ∙ c.in-Ok-Some.field-0-is)).indices;
 }
 
 pub returns-in-Ok-Some-Receive-clause-answered : goal.returns-in-Ok-Some-Receive-clause-answered

@@ -1,6 +1,5 @@
 use Rattle.std.proofs.Common.{◌≡◌, ◌∙◌, None, is_some, refl, ap}
 use Rattle.sg_play.specs.Steps.{Step}
-use Rattle.sg_serve.specs.Served.{images_if}
 use Rattle.sg_serve.specs.Serving.{calls}
 use Rattle.sg_serve.specs.Representation.{HasReplied, HoldsJoins}
 use Rattle.sg_play.proofs.Keeping.{keeps_same}

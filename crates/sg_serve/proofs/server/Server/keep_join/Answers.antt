@@ -1,7 +1,4 @@
-use Rattle.std.proofs.Common.{◌≡◌, ◌⊎◌, ◌∙◌, ℕ, List, Some, Err, is_some, option_and_then, inl, inr, ⊎_elim, sym, ap, subst, refl}
-use Rattle.sg_ledger.specs.Format.{OpenLedger, Represents}
-use Rattle.sg_keep.specs.Joins.{join_reported}
-use Rattle.sg_serve.specs.Served.{joins_kept}
+use Rattle.std.proofs.Common.{Err, ap, refl}
 use Rattle.sg_serve.proofs.Asking.{holds_after, holds_none, is_new, unkept}
 use Rattle.sg_play.proofs.Counting.{alone_as, alone_same, no_fault}
 use Rattle.sg_serve.proofs.server.Server.keep_join.Goals as goal

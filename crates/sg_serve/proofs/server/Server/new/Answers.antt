@@ -1,4 +1,4 @@
-use Rattle.std.proofs.Common.{List, refl, subst, arith}
+use Rattle.std.proofs.Common.{List, subst, arith}
 use Rattle.sg_play.specs.Played.{beginning}
 use Rattle.sg_play.specs.Representation.{RepresentsPlay}
 use Rattle.sg_script.specs.Script.{Choice}
@@ -8,7 +8,6 @@ use Rattle.sg_serve.proofs.server.Server.new.Goals as goal
 pub returns-clause-represents : goal.returns-clause-represents
 returns-clause-represents c = λ random. record {
   player = subst (λ (l : List Choice). RepresentsPlay c.in-Ok.player (beginning c.args.keys.now c.args.programs.now (joins_kept c.args.ledger) l random)) c.new.ensures (c.in-Ok.ensures.represents (joins_kept c.args.ledger) random c.requires);
-  programs = refl;
   graphs = c.new-3.ensures;
   enough = omega arith;
   last = c.new-4.ensures;

@@ -1,17 +1,27 @@
-use Rattle.std.proofs.Common.{◌≡◌, ◌∙◌, List, Some, is_some, IfOk, sym, ap, subst, refl}
+use Rattle.std.proofs.Common.{◌≡◌, ◌∙◌, List, Some, is_some, IfOk, sym, ap, subst}
 use Rattle.sg_answers.specs.Answers.{id_text}
 use Rattle.sg_play.specs.Steps.{Step}
 use Rattle.sg_protocol.specs.Calls.{Abandon}
+use Rattle.std.specs.Prelude.{IsTrue}
+use Rattle.std.specs.List.{list_all}
+use Rattle.sg_request.specs.Request.{is_request}
 use Rattle.sg_request.specs.declared.request.Request.{Request}
-use Rattle.sg_request.specs.declared.request.Request.TheVariants as request
+use Rattle.sg_sched.specs.Format.Forms.{is_assignment}
 use Rattle.sg_sched.specs.Format.LineContents.{Assignment}
 use Rattle.sg_serve.specs.Served.{images_if}
 use Rattle.sg_serve.specs.Serving.{acts_by, calls, graph_at, of_session, replies, says, sends_again, turn_line}
 use Rattle.sg_serve.specs.Representation.{HasReplied, Replied}
 use Rattle.sg_serve.proofs.Lining.{of_again, of_says, on_ok, replied_plain}
 use Rattle.sg_serve.proofs.Results.{applied}
+use Rattle.sg_serve.proofs.Requests.{are_assigned}
 use Rattle.sg_serve.proofs.Keeping.{unasked, unasked_by}
 use Rattle.sg_serve.proofs.server.Server.reply.Goals as goal
+
+pub start-requires : goal.start-requires
+start-requires g c = record { holds = c.requires.holds; asked = subst (λ (q : Request). IsTrue (is_request q)) c.in-Start.is c.requires.asked }
+
+pub act-requires : goal.act-requires
+act-requires g c = record { assigned = subst (λ (vs : List Assignment). IsTrue (list_all is_assignment vs)) (sym c.as_slice.ensures) (are_assigned c.in-Act.session c.in-Act.label c.in-Act.values (subst (λ (q : Request). IsTrue (is_request q)) c.in-Act.is c.requires.asked)) }
 
 pub returns-in-Act-clause-replied : goal.returns-in-Act-clause-replied
 returns-in-Act-clause-replied g c = λ s st w.

@@ -1,9 +1,9 @@
-use Rattle.std.proofs.Common.{◌≡◌, ◌≤◌, ℕ, List, Some, Ok}
+use Rattle.std.proofs.Common.{◌≡◌, ◌≤◌, ◌-◌, take, List, Some, Ok}
 use Rattle.std.specs.Prelude.{IsNone, is_some}
 use Rattle.sg_input.specs.Lines.{Line, lines_left}
 use Rattle.sg_serve.specs.Faults.{CountsFaults}
-use Rattle.sg_serve.specs.Lines.{Run}
-use Rattle.sg_serve.specs.Served.{Agrees, Outside}
+use Rattle.sg_serve.specs.Lines.{Run, most_lines}
+use Rattle.sg_serve.specs.Served.{Agrees}
 use Rattle.sg_serve.specs.Representation.{HoldsJoins, Serves, RepresentsServing}
 use Rattle.sg_serve.proofs.server.Server.serve_all.Given as goal
 
@@ -21,5 +21,5 @@ invariant-loop-line g l = record {
       (record { written = g.O.Sink.written l.initial.out; sent = g.L.Link.sent l.initial.link; coming = g.L.TimedLink.coming l.initial.link; failed = g.L.Link.faults l.initial.link }) (g.R.Fresh.random l.initial.fresh) r
       → (left : List Line) × (lines_left l.reader.unread (g.I.Input.coming l.input) ≡ Some left)
       × Serves (record { written = g.O.Sink.written l.initial.out; sent = g.L.Link.sent l.initial.link; coming = g.L.TimedLink.coming l.initial.link; failed = g.L.Link.faults l.initial.link })
-      (record { written = g.O.Sink.written l.out; sent = g.L.Link.sent l.link; coming = g.L.TimedLink.coming l.link; failed = g.L.Link.faults l.link }) (g.R.Fresh.random l.fresh) l.self r lines left;
+      (record { written = g.O.Sink.written l.out; sent = g.L.Link.sent l.link; coming = g.L.TimedLink.coming l.link; failed = g.L.Link.faults l.link }) (g.R.Fresh.random l.fresh) l.self r lines (take (most_lines - l._line) left);
 }

@@ -12,6 +12,7 @@ use Rattle.sg_serve.proofs.Asking.{asked_node, has_called, holds_all, ledger_has
 use Rattle.sg_serve.proofs.Calling.{less_represents, no_start, starts_is}
 use Rattle.sg_serve.proofs.Replying.{none_called, replied_as, replied_so, said_as}
 use Rattle.sg_serve.proofs.Keeping.{ran_out, unasked}
+use Rattle.sg_serve.proofs.Requests.{is_start}
 use Rattle.sg_serve.proofs.server.Server.start.Goals as goal
 
 pub returns-then-is_none-clause-replied : goal.returns-then-is_none-clause-replied
@@ -20,8 +21,12 @@ returns-then-is_none-clause-replied g c = λ s st w.
     let leaves = g.D.Disk.may_leave c.args.disk.now in
     let images = images_if (is_some sv.ledger) leaves in
     let reply = starts s c.args.start_of.now in
-    replied_so images s sv reply c.say_wrong.result (said_as sv s (wrong_text Unknown) reply c.say_wrong.result st (no_start s c.args.start_of.now sv.programs.now c.by_name.result (c.by_name.ensures ∙ ap (λ (x : ScriptStart). find (is_named x.graph) sv.programs.now) c.start_of.view_is) (c.is_none.ensures ∙ ap not c.if-is_none.true) st.programs) c.say_wrong.ensures.text)
+    replied_so images s sv reply c.say_wrong.result (said_as sv s (wrong_text Unknown) reply c.say_wrong.result st (no_start s c.args.start_of.now sv.player.programs.now c.by_name.result (c.by_name.ensures ∙ ap (λ (x : ScriptStart). find (is_named x.graph) c.programs.result.now) c.start_of.view_is ∙ ap (find (is_named c.args.start_of.now.graph)) c.programs.ensures) (c.is_none.ensures ∙ ap not c.if-is_none.true) st.player.programs) c.say_wrong.ensures.text)
     (none_called images s reply (holds_all sv sv leaves s refl c.requires.holds st))
+
+pub ask_start-requires : goal.ask_start-requires
+ask_start-requires g c =
+    is_start c.args.self.now.player.programs.now c.args.start_of.now c.by_name.result (c.by_name.ensures ∙ ap (λ (x : ScriptStart). find (is_named x.graph) c.programs.result.now) c.start_of.view_is ∙ ap (find (is_named c.args.start_of.now.graph)) c.programs.ensures) (c.is_none.ensures ∙ ap not c.if-is_none.false) c.requires.asked
 
 pub join-requires : goal.join-requires
 join-requires g c =
@@ -40,7 +45,7 @@ returns-in-Ok-clause-replied g c = λ s st w.
     let lst = less_represents sv 1 s st in
     let called = has_called sv c.ask_start.new.self (less 1 s) k c.in-Ok.outcome lst c.in-Ok.ensures.rest (λ number. c.in-Ok.ensures.is_asked number s.play.past st.player.node) in
     replied_as images (less 1 s) s c.join.new.self (calls (less 1 s) k) (starts s start) c.join.result refl
-    (starts_is s start sv.programs.now sv.player.programs.now c.next-nonce.result c.by_name.result (c.by_name.ensures ∙ ap (λ (x : ScriptStart). find (is_named x.graph) sv.programs.now) c.start_of.view_is) (c.is_none.ensures ∙ ap not c.if-is_none.false) st.programs st.player.programs (c.next-nonce.ensures.drawn s.play.random w))
+    (starts_is s start sv.player.programs.now c.next-nonce.result c.by_name.result (c.by_name.ensures ∙ ap (λ (x : ScriptStart). find (is_named x.graph) c.programs.result.now) c.start_of.view_is ∙ ap (find (is_named c.args.start_of.now.graph)) c.programs.ensures) (c.is_none.ensures ∙ ap not c.if-is_none.false) st.player.programs (c.next-nonce.ensures.drawn s.play.random w))
     (c.join.ensures.replied (less 1 s) k called (ledger_has sv (g.D.Disk.may_leave c.args.disk.now) (less 1 s) c.requires.holds lst) refl)
 
 pub returns-in-Err-clause-replied : goal.returns-in-Err-clause-replied
