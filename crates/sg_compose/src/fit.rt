@@ -1,5 +1,5 @@
 //! Whether a use can be expanded.
-ghost use Rattle.std.specs.Prelude.{◌≡◌, ◌+◌, ◌<◌, ◌&&◌, nat_lt, length, IfErr, IfOk};
+ghost use Rattle.std.specs.Prelude.{◌≡◌, ◌+◌, ◌<◌, ◌&&◌, nat_lt, false, length, IfErr, IfOk};
 ghost use Rattle.std.specs.List.{list_any};
 ghost use Rattle.sg_model.specs.Lists.{has_text};
 ghost use Rattle.sg_protocol.specs.Graph.{node_name};
@@ -75,7 +75,7 @@ fn has_long_edge(inner: &Graph, used: &Use) -> bool
     false
 }
 
-// A new name is there in its kind.
+// A new name is there in its kind. None is too long.
 pub fn clashes(
     alloc: Global,
     graph: &Graph,
@@ -83,6 +83,7 @@ pub fn clashes(
     used: &Use,
     end: NodeId,
 ) -> Result<bool, ComposeFault>
+    requires { has_long inner.now used.now end ≡ false }
     ensures answer { IfOk result (λ b. b ≡ clashes graph.now inner.now used.now end) }
     ensures memory { IfErr result (λ e. e ≡ ComposeFault.OutOfMemory) }
 {
@@ -93,6 +94,7 @@ pub fn clashes(
 }
 
 fn has_var(alloc: Global, graph: &Graph, inner: &Graph, used: &Use) -> Result<bool, ComposeFault>
+    requires { list_any (λ v. is_long (inner_name used.now v.name)) inner.now.variables ≡ false }
     ensures answer { IfOk result (λ b. b ≡ list_any (λ v. has_text (inner_name used.now v.name) (variable_names graph.now)) inner.now.variables) }
     ensures memory { IfErr result (λ e. e ≡ ComposeFault.OutOfMemory) }
 {
@@ -112,6 +114,7 @@ fn has_node(
     used: &Use,
     end: NodeId,
 ) -> Result<bool, ComposeFault>
+    requires { list_any (λ x. is_long (inner_name used.now (node_name inner.now x))) (inside inner.now end) ≡ false }
     ensures answer { IfOk result (λ b. b ≡ list_any (λ x. has_text (inner_name used.now (node_name inner.now x)) (node_names graph.now)) (inside inner.now end)) }
     ensures memory { IfErr result (λ e. e ≡ ComposeFault.OutOfMemory) }
 {
@@ -133,7 +136,8 @@ fn is_there(
     end: NodeId,
     node: NodeId,
 ) -> Result<bool, ComposeFault>
-    requires { node < length inner.now.nodes }
+    requires there { node < length inner.now.nodes }
+    requires short { (is_inside end node && is_long (inner_name used.now (node_name inner.now node))) ≡ false }
     ensures answer { IfOk result (λ b. b ≡ (is_inside end node && has_text (inner_name used.now (node_name inner.now node)) (node_names graph.now))) }
     ensures memory { IfErr result (λ e. e ≡ ComposeFault.OutOfMemory) }
 {
@@ -163,6 +167,7 @@ fn names_edge(graph: &Graph, name: &Name) -> bool
 }
 
 fn has_edge(alloc: Global, graph: &Graph, inner: &Graph, used: &Use) -> Result<bool, ComposeFault>
+    requires { list_any (λ e. is_long (inner_name used.now e.name)) inner.now.edges ≡ false }
     ensures answer { IfOk result (λ b. b ≡ list_any (λ e. has_text (inner_name used.now e.name) (edge_names graph.now)) inner.now.edges) }
     ensures memory { IfErr result (λ e. e ≡ ComposeFault.OutOfMemory) }
 {

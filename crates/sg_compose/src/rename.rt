@@ -1,7 +1,7 @@
 //! The names, roles, variables and nodes that a use gives to those of the graph that it uses.
-ghost use Rattle.std.specs.Prelude.{◌≡◌, ℕ, ◌+◌, ◌-◌, ◌<◌, ◌≤◌, false, length, IfErr, IfOk};
+ghost use Rattle.std.specs.Prelude.{◌≡◌, ℕ, ◌+◌, ◌-◌, ◌<◌, ◌≤◌, false, length, IfErr, IfOk, IsTrue};
 ghost use Rattle.sg_model.specs.Lists.{has_text};
-ghost use Rattle.sg_model.specs.Names.{reserved};
+ghost use Rattle.sg_model.specs.Names.{is_name, reserved};
 ghost use Rattle.sg_protocol.specs.Graph.{AreNumbers};
 ghost use Rattle.sg_compose.specs.Expansion.{inner_name, is_inside, is_long, player, players, shifted, replaced};
 
@@ -20,6 +20,7 @@ pub fn is_long(used: &Use, name: &Name) -> bool
 
 // The name with the use's in front, which isn't too long.
 pub fn inner_name(alloc: Global, used: &Use, name: &Name) -> Result<Name, ComposeFault>
+    requires { is_long (inner_name used.now name.now) ≡ false }
     ensures name { IfOk result (λ n. n ≡ inner_name used.now name.now) }
     ensures free { IfOk result (λ n. has_text n reserved ≡ false) }
     ensures memory { IfErr result (λ e. e ≡ ComposeFault.OutOfMemory) }
@@ -29,12 +30,14 @@ pub fn inner_name(alloc: Global, used: &Use, name: &Name) -> Result<Name, Compos
     };
     match Name::new(bytes.as_slice()) {
         Some(name) => Ok(name),
-        None => Err(ComposeFault::OutOfMemory),
+        None => unreachable!(),
     }
 }
 
 fn inner_bytes(alloc: Global, used: &Use, name: &Name) -> Result<Vec<u8>, sg_base::OutOfMemory>
-    ensures { IfOk result (λ bytes. bytes.items ≡ inner_name used.now name.now) }
+    requires { is_long (inner_name used.now name.now) ≡ false }
+    ensures bytes { IfOk result (λ bytes. bytes.items ≡ inner_name used.now name.now) }
+    ensures name { IfOk result (λ bytes. IsTrue (is_name bytes.items)) }
 {
     let mut out = ByteOut::new(alloc);
     out.bytes(used.name.as_bytes())?;

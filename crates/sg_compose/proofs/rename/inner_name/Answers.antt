@@ -5,7 +5,7 @@ use Rattle.sg_compose.specs.Expansion as Expansion
 use Rattle.sg_compose.proofs.Renaming.{inner-free}
 use Rattle.sg_compose.proofs.rename.inner_name.Goals as goal
 
-pub returns-in-Some-clause-free : goal.returns-in-Some-clause-free
-returns-in-Some-clause-free c =
+pub returns-clause-free : goal.returns-clause-free
+returns-clause-free c =
     let e : c.in-Some.name ≡ Expansion.inner_name c.args.used.now c.args.name.now = search rules in
     subst (λ n. has_text n reserved ≡ false) (sym e) (inner-free c.args.used.now.name c.args.name.now)
