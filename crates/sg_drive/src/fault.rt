@@ -8,7 +8,7 @@ pub enum GenerateFault {
     #[error("a record of {bytes} bytes")]
     RecordFull {
         /// The bytes that the record holds.
-        bytes: u64,
+        bytes: u128,
     },
     /// Out of memory.
     #[error("out of memory")]

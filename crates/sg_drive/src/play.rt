@@ -1,16 +1,18 @@
 //! How a session begins, and how a principal plays at a node.
-ghost use Rattle.std.specs.Prelude.{◌≡◌, ◌<◌, ◌≤◌, ◌++◌, true, length, IfErr, IfOk, OnOk, Option, Some, option_map};
+ghost use Rattle.std.specs.Prelude.{◌≡◌, ◌<◌, ◌≤◌, ◌++◌, true, length, IfErr, IfOk, IfSome, OnOk, Option, Some, option_map};
 ghost use Rattle.std.specs.Fmt.{decimal};
 ghost use Rattle.std.specs.List.{AllByRecursion};
 ghost use Rattle.sg_base.specs.Model.{value_of};
 ghost use Rattle.sg_graph.specs.Edges.{leaving_from};
 ghost use Rattle.sg_graph.specs.Parts.{kind_of_type};
 ghost use Rattle.sg_model.specs.Bytes.{IsBytes};
+ghost use Rattle.sg_model.specs.Limits.{most_steps};
 ghost use Rattle.sg_model.specs.Lists.{has_text};
 ghost use Rattle.sg_protocol.specs.Frame.{IsValue};
 ghost use Rattle.sg_protocol.specs.Graph.{writes};
 ghost use Rattle.sg_report.specs.Outcome.{outcome_of};
 ghost use Rattle.sg_walk.specs.Model.{values_of};
+ghost use Rattle.sg_world.specs.FrameNumbers.{HasNumberUpTo};
 ghost use Rattle.sg_drive.specs.Faults.{IsStopped};
 ghost use Rattle.sg_drive.specs.Draws.{if_in};
 ghost use Rattle.sg_drive.specs.Generated.{begin, chosen, number_sent, play, play_along, player_at, value_drawn, values_drawn, with_sent};
@@ -135,10 +137,11 @@ impl<'g, 'p> Generator<'g, 'p> {
 
 // The number of the frame that was sent, if this came of the last step.
 fn number_sent(outcome: Option<&Outcome<'_>>) -> Option<u32>
+    requires { IfSome outcome (λ o. HasNumberUpTo most_steps (outcome_of o.now)) }
     ensures { result ≡ number_sent (option_map (λ o. outcome_of o.now) outcome.entry) }
 {
     match outcome {
-        Some(Outcome::Sent { frame, .. }) => Some(*frame),
+        Some(Outcome::Sent { frame, .. }) => Some(*frame as u32),
         _ => None,
     }
 }

@@ -27,3 +27,4 @@ mod StepLaws
 pub mod EntryCalls
 pub mod Passing
 mod ShownSteps
+mod Numbered

@@ -32,7 +32,7 @@ use Rattle.sg_world.proofs.Pasts.{Named, names, in_names}
 use Rattle.sg_world.proofs.Zipped.{zip_length}
 
 -- a step records one frame at most
-few_framed : (ls : List Logged) → length (filter_map (λ (l : Logged). l.frame) ls) ≤ length ls
+pub few_framed : (ls : List Logged) → length (filter_map (λ (l : Logged). l.frame) ls) ≤ length ls
 few_framed [] = omega arith
 few_framed (l ∷ ls) = by l.frame (few_framed ls)
   where

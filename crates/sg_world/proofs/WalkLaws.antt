@@ -22,13 +22,13 @@ use Rattle.sg_model.specs.Lists.{has_text}
 use Rattle.sg_protocol.proofs.RealHash.{real_hash}
 use Rattle.sg_protocol.specs.Calls.{Event, sid_of}
 use Rattle.sg_protocol.specs.Frame.{Cast}
-use Rattle.sg_protocol.specs.Graph.{Graph, IsGraph}
+use Rattle.sg_protocol.specs.Graph.{Graph}
 use Rattle.sg_protocol.specs.IsSchedule.{AreCompiled, IsSchedule}
 use Rattle.sg_protocol.specs.Keyring.{Program}
 use Rattle.sg_protocol.specs.Run.{run, events_of}
 use Rattle.sg_protocol.specs.Schedule.{Schedule, graph_with, honest_role}
-use Rattle.sg_protocol.specs.Texts.{real, graph_digest}
-use Rattle.sg_protocol.specs.Walk.{StoredStep, IsStoredWalk, OnePath}
+use Rattle.sg_protocol.specs.Texts.{real}
+use Rattle.sg_protocol.specs.Walk.{StoredStep, OnePath}
 use Rattle.sg_report.specs.Lines.{graph_or_none}
 use Rattle.sg_report.specs.Report.{known_sessions}
 use Rattle.sg_walk.specs.Model.{steps_of}
@@ -36,8 +36,6 @@ use Rattle.sg_walk.specs.declared.stored.StoredWalk.{StoredWalk}
 use Rattle.sg_world.specs.Account.{account, cast_met, graph_of, honest_in}
 use Rattle.sg_world.specs.Replay.{Replay, run_of}
 use Rattle.sg_world.specs.Walked.{CanWalkAll, IsPath, Path, PremisesHold, WalksAreMade, WalksAreWritten, path_at, path_of_trace, path_line, sid_and_steps, sid_and_walk, steps_of_trace}
-use Rattle.sg_model.proofs.Members.{all_in}
-use Rattle.sg_model.proofs.Finding.{found_in}
 
 -- ---- events
 
@@ -121,23 +119,8 @@ module _ {X : Type 0} (path_of : List ℕ × X → Path) (is_of : (sid : List �
 -- ---- the steps of a walk
 
 -- the graph of a session has the steps of a walk that explains it
-pub has_its_steps : (r : Replay) → IsSchedule real r.schedule → (p : Path) → IsPath r p → HasSteps p.graph p.steps
-has_its_steps r s p h =
-    subst (λ (g : Graph). HasSteps g p.steps) (sym h.graph)
-    (by (option_and_then (λ (c : Cast). graph_with real r.schedule.graphs c.graph) (cast_met r p.sid)) refl p.steps h.path.walk)
-  where
-    there : (c : Option Cast) (g : Graph) → option_and_then (λ (c : Cast). graph_with real r.schedule.graphs c.graph) c ≡ Some g → IsGraph g
-    there None g q = absurd (cc)
-    there (Some c) g q = all_in IsGraph r.schedule.graphs g s.are_graphs (found_in (λ (g : Graph). bytes_eq (graph_digest real g) c.graph) r.schedule.graphs g q)
-
-    none : (steps : List StoredStep) → IsStoredWalk (graph_or_none None) steps → HasSteps (graph_or_none None) steps
-    none [] w = tt
-    none (x ∷ xs) w = absurd (let l = w.walk.0 in omega (arith, l))
-
-    by : (o : Option Graph) → option_and_then (λ (c : Cast). graph_with real r.schedule.graphs c.graph) (cast_met r p.sid) ≡ o → (steps : List StoredStep) → IsStoredWalk (graph_or_none (option_and_then (λ (c : Cast). graph_with real r.schedule.graphs c.graph) (cast_met r p.sid))) steps
-        → HasSteps (graph_or_none (option_and_then (λ (c : Cast). graph_with real r.schedule.graphs c.graph) (cast_met r p.sid))) steps
-    by None q steps w = subst (λ (o : Option Graph). HasSteps (graph_or_none o) steps) (sym q) (none steps (subst (λ (o : Option Graph). IsStoredWalk (graph_or_none o) steps) q w))
-    by (Some g) q steps w = subst (λ (o : Option Graph). HasSteps (graph_or_none o) steps) (sym q) (HasSteps-IsStoredWalk g (there (cast_met r p.sid) g q) steps (subst (λ (o : Option Graph). IsStoredWalk (graph_or_none o) steps) q w))
+pub has_its_steps : (r : Replay) (p : Path) → IsPath r p → HasSteps p.graph p.steps
+has_its_steps r p h = subst (λ (g : Graph). HasSteps g p.steps) (sym h.graph) (HasSteps-IsStoredWalk (graph_of r p.sid) p.steps h.path.walk)
 
 -- ---- walks that are made
 
@@ -174,7 +157,7 @@ module _ (r : Replay) (compiled : AreCompiled real r.schedule.graphs r.programs)
 
   have_steps : (es : List (List ℕ × Trace)) → AllByRecursion (λ (e : List ℕ × Trace). IsPath r (path_of_trace e)) es → AllByRecursion (λ (e : List ℕ × Trace). HasSteps e.1.graph (steps_of_trace e.1)) es
   have_steps [] h = tt
-  have_steps (e ∷ es) h = (has_its_steps r schedule (path_of_trace e) h.0, have_steps es h.1)
+  have_steps (e ∷ es) h = (has_its_steps r (path_of_trace e) h.0, have_steps es h.1)
 
   pub can_walk : (c : Traces) → AreTraces r.programs r.schedule (run_of r).log c → CanWalkAll c
   can_walk c are = have_steps c (trace_paths c are)

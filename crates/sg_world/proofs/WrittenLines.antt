@@ -9,7 +9,7 @@ use Rattle.sg_protocol.specs.Graph.{Graph}
 use Rattle.sg_protocol.specs.Schedule.{who_of}
 use Rattle.sg_node.specs.declared.refusal.ActRefusal.{ActRefusal}
 use Rattle.sg_node.specs.declared.refusal.ActRefusal.TheVariants.{BadValues}
-use Rattle.sg_report.proofs.NamedAnswers.{reported-anywhere, text-anywhere}
+use Rattle.sg_report.proofs.NamedAnswers.{text-anywhere}
 use Rattle.sg_report.specs.Lines.{by_whom, graph_or_none, line_text, reported_text}
 use Rattle.sg_report.specs.Outcome.{graph_in, outcome_of}
 use Rattle.sg_report.specs.Report.{StepLine, line, lines_from, name_in}
@@ -52,19 +52,12 @@ module _ (gs : List Graph) (o : Outcome) where
   abbrev by_line : Option Graph
   by_line = graph_reported gs (graph_in o) (outcome_of o)
 
-  -- an outcome that isn't renamed has its names in its own graph, if its line has them, and the text of its line
-  pub own_names : IsRenamed gs o None → CanBeReported by_line (outcome_of o) → CanBeReported (graph_in o) (outcome_of o)
-  own_names (inl same) can = subst (λ g. CanBeReported g (outcome_of o)) same can
-  own_names (inr none) can = reported-anywhere (graph_in o) (outcome_of o) (subst (λ g. CanBeReported g (outcome_of o)) none can)
-
+  -- an outcome that isn't renamed has the text of its line, if the line has its names
   pub own_text : IsRenamed gs o None → CanBeReported by_line (outcome_of o) → (session : List ℕ) → reported_text session (graph_or_none (graph_in o)) (outcome_of o) ≡ reported_text session (graph_or_none by_line) (outcome_of o)
   own_text (inl same) can session = ap (λ g. reported_text session (graph_or_none g) (outcome_of o)) (sym same)
   own_text (inr none) can session = text-anywhere session (graph_or_none (graph_in o)) (graph_or_none by_line) (outcome_of o) (subst (λ g. CanBeReported g (outcome_of o)) none can)
 
-  -- so has the one that it is renamed to
-  pub other_names : (other : Outcome) → IsRenamed gs o (Some other) → CanBeReported by_line (outcome_of o) → CanBeReported (graph_in other) (outcome_of other)
-  other_names other is can = subst (λ t. CanBeReported (graph_in other) t) (sym is.0) (subst (λ g. CanBeReported g (outcome_of o)) (sym is.1) can)
-
+  -- and the one that it is renamed to has it
   pub other_text : (other : Outcome) → IsRenamed gs o (Some other) → (session : List ℕ) → reported_text session (graph_or_none (graph_in other)) (outcome_of o) ≡ reported_text session (graph_or_none by_line) (outcome_of o)
   other_text other is session = ap (λ g. reported_text session (graph_or_none g) (outcome_of o)) is.1
 

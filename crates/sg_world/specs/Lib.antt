@@ -19,3 +19,4 @@ pub mod KeptLines
 pub mod PremiseFaults
 pub mod Walked
 pub mod Laws
+pub mod FrameNumbers

@@ -73,11 +73,11 @@ pub(crate) fn call<'p>(
 }
 
 /// The number that the next recorded frame has.
-pub(crate) fn next_frame(recorded: &[Seq<u8>]) -> u32
+pub(crate) fn next_frame(recorded: &[Seq<u8>]) -> u64
     requires { length recorded.now + 1 < 2 ^ 32 }
     ensures { result ≡ length recorded.now + 1 }
 {
-    recorded.len() as u32 + 1
+    recorded.len() as u64 + 1
 }
 
 // Starts a session.
@@ -100,7 +100,7 @@ fn start<'p>(
 // Sends a step, whose frame is to have this number.
 fn act<'p>(
     node: &mut Node<'p>,
-    frame: u32,
+    frame: u64,
     sid: Sid,
     label: Label,
     values: &[(Var, Value)],

@@ -15,7 +15,7 @@ pub enum StepFault {
     #[error("a record of {bytes} bytes")]
     RecordFull {
         /// The bytes that it holds.
-        bytes: u64,
+        bytes: u128,
     },
     /// Out of memory.
     #[error("out of memory")]

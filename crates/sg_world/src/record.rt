@@ -90,7 +90,7 @@ pub(crate) struct Record<'p> {
     entries: Vec<TakenStep<'p>>,
     notes: Vec<Notes>,
     frames: Vec<Seq<u8>>,
-    size: u64,
+    size: u128,
 }
 
 impl<'p> Model for Record<'p> {
@@ -107,7 +107,7 @@ impl<'p> Model for Record<'p> {
 
 impl<'p> Record<'p> {
     /// The record of a replay of which no step was taken, of this size. There is room for so many steps, so that it isn't copied as it grows.
-    pub fn new(alloc: Global, steps: usize, size: u64) -> Result<Record<'p>, OutOfMemory>
+    pub fn new(alloc: Global, steps: usize, size: u128) -> Result<Record<'p>, OutOfMemory>
         ensures blank { IfOk result (λ r. r.done ≡ record { entries = []; notes = []; frames = []; size = size }) }
         ensures room { IfOk result (λ r. steps ≤ r.room) }
     {
@@ -148,7 +148,7 @@ impl<'p> Record<'p> {
     }
 
     /// The size in bytes.
-    pub fn size(&self) -> u64
+    pub fn size(&self) -> u128
         ensures { result ≡ self.now.done.size }
     {
         self.size
@@ -181,7 +181,7 @@ impl<'p> Record<'p> {
         requires size { self.old.done.size + added_size step_result < 2 ^ 64 }
         ensures { self.new.done ≡ with_result self.old.done (step_of step) honest step_result.entry }
     {
-        self.size += added(&step_result);
+        self.size += added(&step_result) as u128;
         let StepResult {
             outcome,
             cast: _,

@@ -15,7 +15,7 @@ use sg_crypt::{Cast, Hashed};
 use sg_graph::Graph;
 use sg_program::{Program, Programs};
 use sg_sched::{NamedSession, Schedule};
-use std::alloc::{AllocError, Global};
+use std::alloc::Global;
 use std::marker::Model;
 
 /// The programs and what is declared, with the identifiers of the sessions and the texts under the digests of the graphs.
@@ -131,9 +131,9 @@ impl<'p> Setting<'p> {
         }
     }
 
-    /// The number of bytes of the texts under the graphs' digests, or `OutOfMemory` if a `u64` can't count them.
-    pub fn size(&self) -> Result<u64, OutOfMemory>
-        ensures { IfOk result (λ n. n ≡ sum_by (λ g. length (graph_text_of g)) self.now.graphs) }
+    /// The number of bytes of the texts under the graphs' digests. It takes no memory.
+    pub fn size(&self) -> u128
+        ensures { result ≡ sum_by (λ g. length (graph_text_of g)) self.now.graphs }
     {
         total(self.texts.as_slice())
     }
@@ -146,16 +146,13 @@ fn first_program<'p>(programs: &'p Programs, digest: &[u8; 32]) -> Option<&'p Pr
     programs.find(digest, Role(0))
 }
 
-// The bytes of these texts together.
-fn total(texts: &[Hashed]) -> Result<u64, OutOfMemory>
-    ensures { IfOk result (λ n. n ≡ sum_by (λ t. length t) texts.now) }
+// The bytes of these texts together, which a `u128` counts whatever they are.
+fn total(texts: &[Hashed]) -> u128
+    ensures { result ≡ sum_by (λ t. length t) texts.now }
 {
-    let mut size: u64 = 0;
+    let mut size: u128 = 0;
     for text in texts {
-        let Some(sum) = size.checked_add(text.len() as u64) else {
-            return Err(AllocError);
-        };
-        size = sum;
+        size += text.len() as u128;
     }
-    Ok(size)
+    size
 }

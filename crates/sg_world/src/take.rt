@@ -26,7 +26,7 @@ use sg_sched::Step;
 use std::alloc::Global;
 
 // The most bytes that the record may hold as a step begins.
-const MOST_BYTES: u64 = 264_241_152;
+const MOST_BYTES: u128 = 264_241_152;
 
 /// The index of the node whose step it is, or `None` for a craft. The principal has a node, and the record has room.
 pub(crate) fn admit<'p>(

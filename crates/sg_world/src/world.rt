@@ -1,5 +1,5 @@
 //! A replay.
-ghost use Rattle.std.specs.Prelude.{◌≡◌, ◌<◌, ◌≤◌, All, length, map, slice_get, Some, IfOk, IfErr, OnOk, OnErr, option_map};
+ghost use Rattle.std.specs.Prelude.{◌≡◌, ◌<◌, ◌≤◌, All, length, map, slice_get, Some, IfOk, IfErr, IfSome, OnOk, OnErr, option_map};
 ghost use Rattle.sg_model.specs.Last.{last};
 ghost use Rattle.sg_model.specs.Limits.{most_record_bytes, most_steps};
 ghost use Rattle.sg_protocol.specs.IsSchedule.{AreCompiled, IsSchedule};
@@ -8,6 +8,7 @@ ghost use Rattle.sg_sched.specs.Format.StepsHeld.{step_of};
 ghost use Rattle.sg_report.specs.Outcome.{outcome_of};
 ghost use Rattle.sg_report.specs.Reported.{reported_log};
 ghost use Rattle.sg_world.specs.Faults.{IsStepFault, IsAdmitted};
+ghost use Rattle.sg_world.specs.FrameNumbers.{HasNumberUpTo};
 ghost use Rattle.sg_world.specs.Laws.{HasPrograms, RunLaws};
 ghost use Rattle.sg_sched.specs.Steps.{CanBeTaken};
 ghost use Rattle.sg_world.specs.Replay.{without_steps, with_taken, run_of, size_of, stepped};
@@ -70,7 +71,7 @@ impl<'p> World<'p> {
             schedule.keys.as_slice(),
             schedule.honest.as_slice(),
         )?;
-        let size = setting.size()?;
+        let size = setting.size();
         let history = Record::new(alloc, schedule.steps.len(), size)?;
         Ok(World {
             alloc,
@@ -106,9 +107,10 @@ impl<'p> World<'p> {
         &entry.outcome
     }
 
-    /// The outcome of the last step, or `None` if none was taken. It takes no memory.
+    /// The outcome of the last step, or `None` if none was taken. A frame that it sent has at most the number 200,000. It takes no memory.
     pub fn last(&self) -> Option<&Outcome<'p>>
-        ensures { option_map (λ o. outcome_of o.now) result ≡ last (reported_log (run_of self.now).log) }
+        ensures reported { option_map (λ o. outcome_of o.now) result ≡ last (reported_log (run_of self.now).log) }
+        ensures number { IfSome result (λ o. HasNumberUpTo most_steps (outcome_of o.now)) }
     {
         self.history.last()
     }

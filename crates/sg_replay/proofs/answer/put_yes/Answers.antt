@@ -11,7 +11,7 @@ use Rattle.sg_replay.proofs.Answered.{reply_and_walk}
 use Rattle.sg_replay.proofs.answer.put_yes.Goals as goal
 
 pub put_walk-requires : goal.put_walk-requires
-put_walk-requires c = HasSteps-IsStoredWalk c.args.graph.now c.roles-roles.ensures.graph (steps_of c.args.walk.now) c.requires.walk
+put_walk-requires c = HasSteps-IsStoredWalk c.args.graph.now (steps_of c.args.walk.now) c.requires.walk
 
 pub returns : goal.returns
 returns c =

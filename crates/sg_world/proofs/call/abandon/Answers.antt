@@ -1,5 +1,4 @@
 use Rattle.std.proofs.Common.{sym, ap}
-use Rattle.sg_protocol.specs.Acting.{answer}
 use Rattle.sg_protocol.specs.Calls.{Abandon}
 use Rattle.sg_protocol.specs.Past.{node_of}
 use Rattle.sg_protocol.specs.Run.{frame_in}

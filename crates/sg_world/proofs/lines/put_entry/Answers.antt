@@ -8,22 +8,10 @@ use Rattle.sg_report.specs.Reported.{Reported}
 use Rattle.sg_sched.specs.Format.StepsHeld.{step_of}
 use Rattle.sg_world.specs.KeptLines.{CanBeWritten, IsRenamed, line_kept}
 use Rattle.sg_world.specs.RecordModel.{TakenStep}
-use Rattle.sg_world.proofs.WrittenLines.{entry_written, other_names, other_text, own_names, own_text}
+use Rattle.sg_world.proofs.WrittenLines.{entry_written, other_text, own_text}
 use Rattle.sg_world.proofs.lines.put_entry.Goals as goal
 
--- renamed: the other outcome has the line's names and its text
-pub put_line-requires : goal.put_line-requires
-put_line-requires c =
-    let can = subst (CanBeWritten c.args.setting.now) (sym c.entry.view_is) c.requires in
-    let is = subst (λ (gs : List Graph). IsRenamed gs c.entry.inside.outcome (Some c.in-Some.outcome)) c.graphs.ensures c.in-Some.ensures in
-    other_names c.args.setting.now.graphs c.entry.inside.outcome c.in-Some.outcome is can
-
-pub put_line-requires-in-None : goal.put_line-requires-in-None
-put_line-requires-in-None c =
-    let can = subst (CanBeWritten c.args.setting.now) (sym c.entry.view_is) c.requires in
-    let is = subst (λ (gs : List Graph). IsRenamed gs c.entry.inside.outcome None) c.graphs.ensures c.in-None.ensures in
-    own_names c.args.setting.now.graphs c.entry.inside.outcome is can
-
+-- renamed: the other outcome has the text of the line
 pub returns-in-Some : goal.returns-in-Some
 returns-in-Some c = λ m e.
     let kept : TakenStep = record { step = step_of c.entry.inside.step; outcome = c.entry.inside.outcome; honest = c.entry.inside.honest } in
@@ -33,7 +21,7 @@ returns-in-Some c = λ m e.
     (entry_written c.put_line.result m c.args.setting.now c.args.number kept c.who-caller.result c.session_for-sid.result c.bytes_of.result.now c.bytes_of-in-Some.result.now (graph_in c.in-Some.outcome) c.args.out.now c.put_line.new.out
     c.who-caller.ensures c.bytes_of.ensures c.session_for-sid.ensures (c.bytes_of-in-Some.ensures ∙ c.name_in-session.ensures m e) (other_text c.args.setting.now.graphs c.entry.inside.outcome c.in-Some.outcome is) written)
 
--- the outcome itself has them
+-- the outcome itself has it
 pub returns-in-None : goal.returns-in-None
 returns-in-None c = λ m e.
     let kept : TakenStep = record { step = step_of c.entry.inside.step; outcome = c.entry.inside.outcome; honest = c.entry.inside.honest } in

@@ -1,6 +1,5 @@
-use Rattle.std.proofs.Common.{ap, ◌∙◌, ◌++◌, arith, length}
-use Rattle.std.specs.Prelude.{filter_map, flat_map}
-use Rattle.sg_text.specs.Sessions.{Naming, all_sids, naming, session_name}
+use Rattle.std.proofs.Common.{ap, arith, length}
+use Rattle.sg_text.specs.Sessions.{Naming, all_sids}
 use Rattle.sg_world.specs.Walked.{path_at, path_line}
 use Rattle.sg_world.proofs.WalkLaws.{all_walks, walk_more}
 use Rattle.sg_world.proofs.report.put_walks.Goals as goal

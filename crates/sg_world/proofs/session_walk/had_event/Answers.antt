@@ -1,7 +1,4 @@
-use Rattle.std.proofs.Common.{◌≡◌, ◌∙◌, ap, sym, arith, length, take}
-use Rattle.std.specs.Prelude.{filter_map}
-use Rattle.sg_model.specs.Lists.{has_text}
-use Rattle.sg_world.specs.KeptLines.{sid_kept}
+use Rattle.std.proofs.Common.{◌∙◌, sym}
 use Rattle.sg_world.proofs.NamesMore.{had_event, no_event}
 use Rattle.sg_world.proofs.session_walk.had_event.Goals as goal
 
