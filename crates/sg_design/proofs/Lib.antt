@@ -6,6 +6,5 @@ pub mod SomeEnding
 pub mod Answered
 pub mod NeverMemory
 pub mod SomeClaims
-pub mod Renamed
 pub mod Expanded
 pub mod SomeCompose

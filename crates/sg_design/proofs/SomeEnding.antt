@@ -1,5 +1,5 @@
 -- A command on one file of a graph always has an ending.
-use Rattle.std.proofs.Common.{◌≡◌, ℕ, zero, suc, ◌+◌, ◌<◌, inl, inr, Bool, true, false, List, [], ◌∷◌, ◌++◌, length, get_or, Option, Some, None, Err, refl, sym, subst, arith, add-one}
+use Rattle.std.proofs.Common.{◌≡◌, ℕ, zero, suc, ◌+◌, ◌<◌, if◌then◌else◌, inl, inr, Bool, true, false, List, [], ◌∷◌, ◌++◌, length, get_or, Option, Some, None, Err, refl, sym, subst, arith, add-one}
 use Rattle.std.specs.Prelude.{IsTrue, ◌↔◌, bytes_eq}
 use Rattle.std.specs.Fmt.{decimal}
 use Rattle.std.proofs.lemmas.Bool.{cases_Bool}
@@ -7,7 +7,7 @@ use Rattle.std.proofs.lemmas.Slice.Eq.{bytes_eq-Decides}
 use Rattle.sg_claims.specs.Dominators.{IsNearest, IsNearestOf}
 use Rattle.sg_claims.specs.Suggestions.{AreFor, AreSuggested, Adds, bars_itself, can_be_named, itself, needs_nearest}
 use Rattle.sg_claims.specs.declared.claim.NamedClaim.{NamedClaim}
-use Rattle.sg_claims.proofs.Suggesting.{adds_none, adds_on, adds_one, named_for, suggests_next, suggests_none, unnamed_for}
+use Rattle.sg_claims.proofs.Suggesting.{adds_none, adds_on, adds_one, are_for, suggests_next, suggests_none}
 use Rattle.sg_claims_text.specs.Written.{written}
 use Rattle.sg_claims_text.proofs.Suggested.{suggestion-spells}
 use Rattle.sg_compile.specs.Laws.{Surely}
@@ -136,10 +136,7 @@ module _ (g : Graph) where
   for_label a =
       so (nearest a)
       (λ near. so (bars a)
-      (λ once. elim (cases_Bool (can_be_named g a)) [
-        | inl y ↦ sure (needs_nearest g a near.0 ++ itself a once.0, named_for g a near.0 once.0 near.1 once.1 y)
-        | inr z ↦ sure ([], unnamed_for g a near.0 once.0 near.1 once.1 z)
-      ]))
+      (λ once. sure ((if can_be_named g a then needs_nearest g a near.0 ++ itself a once.0 else []), are_for g a (can_be_named g a) near.0 once.0 near.1 once.1 refl)))
 
   -- the claims are added, each under the next name
   add_all : (claims : List Claim) (old : List NamedClaim) → (new : List NamedClaim) × Adds old new claims

@@ -2,6 +2,7 @@
 //! one principal whose joins are kept (`sg_keep`).
 ghost use Rattle.std.specs.Prelude.{◌≡◌, ◌⊎◌, Err, Some, false};
 ghost use Rattle.sg_keep.specs.KeptRuns.{AllRepresent};
+ghost use Rattle.sg_script.specs.Script.{IsScript};
 ghost use Rattle.sg_ending.specs.Model.{ending_held};
 ghost use Rattle.sg_setup.specs.Setup.{waits_at};
 ghost use Rattle.sg_principal.specs.Ledgers.{CanHaveKept, EndsOver, KeepsRun, KeepsSetup, ending_of_keep};
@@ -52,7 +53,8 @@ fn keep_setup<O: Sink, L: Link, R: Fresh, D: Disk>(
     stage: Stage<'_, O, L, R>,
     disk: &mut D,
 ) -> Ending<'static>
-    requires { setup.keys_of_node ≡ setup.keys }
+    requires keys { setup.keys_of_node ≡ setup.keys }
+    requires script { IsScript setup.programs setup.script }
     ensures keeps { KeepsSetup file.now (setup_held setup) most
         (stage_of O.Sink L.Link R.Fresh (stage_at_call stage.entry)) (stage_of O.Sink L.Link R.Fresh (stage_at_return stage.exit))
         (disk_of D.Disk disk.old) (disk_of D.Disk disk.new) (ending_held result) }
@@ -74,6 +76,7 @@ fn play_over<O: Sink, L: Link, R: Fresh, D: Disk>(
     disk: &mut D,
 ) -> Result<(), KeepFault>
     requires keys { setup.keys_of_node ≡ setup.keys }
+    requires script { IsScript setup.programs setup.script }
     requires working { ledger.failed ≡ false }
     requires represents { AllRepresent (D.may_leave disk.old) ledger.joins }
     ensures bound { D.bound disk.new ≡ D.bound disk.old }

@@ -3,6 +3,7 @@
 //! What is played is a function of the keys, the programs, the script, the first deliveries of the link and the random bytes
 //! (`sg_play`): each call that it makes is a step of a node, so what holds of every run holds of it.
 ghost use Rattle.std.specs.Prelude.{◌≡◌, ◌⊎◌, Err, Some};
+ghost use Rattle.sg_script.specs.Script.{IsScript};
 ghost use Rattle.sg_ending.specs.Model.{ending_held};
 ghost use Rattle.sg_setup.specs.Setup.{waits_at};
 ghost use Rattle.sg_principal.specs.Model.{run_files_held, setup_held};
@@ -45,7 +46,8 @@ fn play_setup<O: Sink, L: Link, R: Fresh>(
     most: u32,
     stage: Stage<'_, O, L, R>,
 ) -> Result<(), PlayFault>
-    requires { setup.keys_of_node ≡ setup.keys }
+    requires keys { setup.keys_of_node ≡ setup.keys }
+    requires script { IsScript setup.programs setup.script }
     ensures waits { (L.bound (stage_at_return stage.exit).link ≡ Some (waits_at setup.keys)) ⊎
         ((result ≡ Err PlayFault.LinkFailed) × LacksLink
         (stage_of O.Sink L.Link R.Fresh (stage_at_call stage.entry)) (stage_of O.Sink L.Link R.Fresh (stage_at_return stage.exit))) }
@@ -65,7 +67,8 @@ fn play_on<O: Sink, L: Link, R: Fresh>(
     most: u32,
     stage: Stage<'_, O, L, R>,
 ) -> Result<(), PlayFault>
-    requires { setup.keys_of_node ≡ setup.keys }
+    requires keys { setup.keys_of_node ≡ setup.keys }
+    requires script { IsScript setup.programs setup.script }
     ensures bound { L.bound (stage_at_return stage.exit).link ≡ L.bound (stage_at_call stage.entry).link }
     ensures ends { EndsPlaying (setup_held setup) most
         (stage_of O.Sink L.Link R.Fresh (stage_at_call stage.entry)) (stage_of O.Sink L.Link R.Fresh (stage_at_return stage.exit)) result }

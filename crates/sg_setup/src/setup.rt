@@ -4,6 +4,7 @@ ghost use Rattle.sg_model.specs.Limits.{most_program_file, most_script_file};
 ghost use Rattle.sg_keys.specs.KeyFile.{SpellsKeys, key_file};
 ghost use Rattle.sg_compile.specs.Loading.{IsLoadFault};
 ghost use Rattle.sg_script.specs.Format.{SpellsScript};
+ghost use Rattle.sg_script.specs.Script.{IsScript};
 ghost use Rattle.sg_ending.specs.Files.{EndsAt, Holds};
 ghost use Rattle.sg_ending.specs.Model.{ending_held};
 ghost use Rattle.sg_setup.specs.Setup.{Adds, HasPrincipal, HasSetup, HoldPrograms, IsTextOf, LacksPrincipal, LacksSetup, RefusesKeys, RefusesProgram, RefusesScript, StopsAtProgram};
@@ -80,6 +81,8 @@ pub fn read_setup<'w, F: Files>(
     ensures has { IfOk result (λ s. HasSetup (F.held files.old) (record { keys = keys.now; programs = map (λ p. p.now) programs.now; script = script.now })
         (record { keys = s.keys; programs = s.programs; script = s.script })) }
     ensures same { IfOk result (λ s. s.keys_of_node ≡ s.keys) }
+    // The script is one that was read beside these programs.
+    ensures script { IfOk result (λ s. IsScript s.programs s.script) }
     ensures no_fault { OnOk result (F.faults files.new ≡ F.faults files.old) }
     ensures lacks { IfErr result (λ ending. LacksSetup (F.held files.old) (F.faults files.old) (F.faults files.new)
         (record { keys = keys.now; programs = map (λ p. p.now) programs.now; script = script.now }) (ending_held ending)) }
@@ -239,6 +242,7 @@ fn script_of<'w, F: Files>(
 ) -> Result<Script, Ending<'w>>
     ensures kept { F.held files.new ≡ F.held files.old }
     ensures holds { IfOk result (λ s. Holds (F.held files.old) most_script_file file.now (λ bytes. SpellsScript programs.now bytes s)) }
+    ensures script { IfOk result (IsScript programs.now) }
     ensures ends { IfErr result (λ ending. EndsAt (F.held files.old) (F.faults files.old) (F.faults files.new) most_script_file file.now (RefusesScript programs.now) (ending_held ending)) }
     ensures no_fault { OnOk result (F.faults files.new ≡ F.faults files.old) }
 {

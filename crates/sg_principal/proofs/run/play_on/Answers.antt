@@ -8,7 +8,7 @@ use Rattle.sg_principal.proofs.run.play_on.Goals as goal
 
 pub returns-in-Ok-clause-ends : goal.returns-in-Ok-clause-ends
 returns-in-Ok-clause-ends g c = record {
-  plays = λ ds ws d w. c.play.ensures.played [] ds ws (c.in-Ok.ensures.made ∙ ap (λ (k : Keyring). new_state k c.args.setup.programs []) c.requires) d w;
+  plays = λ ds ws d w. c.play.ensures.played [] ds ws (c.in-Ok.ensures.made ∙ ap (λ (k : Keyring). new_state k c.args.setup.programs []) c.requires.keys) d w;
   left = c.play.ensures.left;
   at_most = c.play.ensures.at_most;
   faults = c.play.ensures.faults;
