@@ -43,6 +43,13 @@ no_utf8 bs h = go (is_utf8 bs) refl
     go true e = absurd (h (IsUtf8-from_is_utf8 bs e))
     go false e = refl
 
+-- the bytes are there and no text, if they are short enough to be read as one and aren't
+pub text_refused : (n : ℕ) (p : Cursor) (bs : List ℕ) → n ≤ 1024 → p.at + n ≤ length p.bytes → bs ≡ here.field p n → (IsUtf8 bs → length bs ≤ 1024 → ⊥) →
+    field n is_utf8 p.at (left p) ≡ Err p.at
+text_refused n p bs fits h e not_read =
+    let short : length bs ≤ 1024 = rw (e, field_long n p h) fits in
+    field_refused n is_utf8 p h (rw e at (no_utf8 bs (λ text. not_read text short)))
+
 -- no byte is left at the end
 pub none_left : {A : Type 0} (x : A) (p : Cursor) → (p.at + 1 ≤ length p.bytes → ⊥) → if_none_left x p.at (left p) ≡ Ok x
 none_left x p h = rw (drop_all p.at p.bytes (omega arith))

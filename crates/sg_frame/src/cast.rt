@@ -36,8 +36,8 @@ fn read_cast(
     requires { IsVersion version }
     ensures { Reads (read_cast version) input.old input.new result }
 {
-    let graph = field::thirty_two(input)?;
-    let nonce = field::sixteen(input)?;
+    let graph = field::fixed::<32>(input)?;
+    let nonce = field::fixed::<16>(input)?;
     let count = field::byte(input, 2, 16)?;
     let names = read_names(alloc, input, count)?;
     let cast = Cast::new(version, graph, nonce, names.as_slice());

@@ -20,21 +20,13 @@ pub fn bytes<'a>(input: &mut ByteIn<'a>, n: usize) -> Result<&'a [u8], FrameStop
     Ok(bytes)
 }
 
-// Sixteen bytes.
-pub fn sixteen(input: &mut ByteIn) -> Result<[u8; 16], FrameStop>
-    ensures { Reads (any_bytes 16) input.old input.new result }
+// The next `N` bytes, at least one.
+pub fn fixed<const N: usize>(input: &mut ByteIn) -> Result<[u8; N], FrameStop>
+    requires { 1 ≤ N }
+    ensures { Reads (any_bytes N) input.old input.new result }
 {
-    let mut kept = [0u8; 16];
-    kept.copy_from_slice(bytes(input, 16)?);
-    Ok(kept)
-}
-
-// Thirty-two bytes.
-pub fn thirty_two(input: &mut ByteIn) -> Result<[u8; 32], FrameStop>
-    ensures { Reads (any_bytes 32) input.old input.new result }
-{
-    let mut kept = [0u8; 32];
-    kept.copy_from_slice(bytes(input, 32)?);
+    let mut kept = [0u8; N];
+    kept.copy_from_slice(bytes(input, N)?);
     Ok(kept)
 }
 

@@ -95,7 +95,7 @@ fn read_commitment(input: &mut ByteIn, least: u8) -> Result<(Var, [u8; 32]), Fra
     ensures range { IfOk result (λ p. p.0 ≤ 31) }
 {
     let var = field::byte(input, least, 31)?;
-    let commitment = field::thirty_two(input)?;
+    let commitment = field::fixed::<32>(input)?;
     Ok((Var(var), commitment))
 }
 

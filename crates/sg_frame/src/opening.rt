@@ -38,7 +38,7 @@ fn read_opening(alloc: Global, input: &mut ByteIn, least: u8) -> Result<Opening,
     ensures range { IfOk result (λ o. o.variable ≤ 31) }
 {
     let var = field::byte(input, least, 31)?;
-    let confounder = field::sixteen(input)?;
+    let confounder = field::fixed::<16>(input)?;
     let kind = field::byte(input, 0, 1)?;
     let value = read_value(alloc, input, kind)?;
     Ok(Opening {

@@ -79,7 +79,7 @@ fn read_frame_of(alloc: Global, input: &mut ByteIn, version: u8) -> Result<Frame
     ensures { Reads (read_frame_of version) input.old input.new result }
 {
     let kind = field::byte(input, 0, 1)?;
-    let sid = field::thirty_two(input)?;
+    let sid = field::fixed::<32>(input)?;
     let sender = field::byte(input, 0, 15)?;
     let receiver = read_receiver(input, sender)?;
     let join = cast::read_join(alloc, input, version, kind)?;
