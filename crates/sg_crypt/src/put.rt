@@ -12,10 +12,7 @@ pub fn put_name(out: &mut ByteOut, name: &Name) -> Result<(), OutOfMemory>
 {
     let start = out.len();
     let put = put_name_parts(out, name);
-    if put.is_err() {
-        out.truncate(start);
-    }
-    put
+    take_back(out, start, put)
 }
 
 /// Appends an opening: its variable, its confounder, its type, and its value after its length. If memory runs out, the list is as
@@ -26,6 +23,19 @@ pub fn put_opening(out: &mut ByteOut, opening: &Opening) -> Result<(), OutOfMemo
 {
     let start = out.len();
     let put = put_opening_parts(out, opening);
+    take_back(out, start, put)
+}
+
+// Takes off what stands from `start` on, if putting it failed.
+fn take_back(
+    out: &mut ByteOut,
+    start: usize,
+    put: Result<(), OutOfMemory>,
+) -> Result<(), OutOfMemory>
+    ensures same { result ≡ put }
+    ensures ok { OnOk put (out.new ≡ out.old) }
+    ensures err { OnErr put (out.new ≡ take start out.old) }
+{
     if put.is_err() {
         out.truncate(start);
     }

@@ -137,31 +137,26 @@ pub const COMMIT: &[u8] = b"sg-commit-1";
 pub fn session_word(version: u8) -> &'static [u8]
     ensures { result.now ≡ (if version == 2 then codes "sg-session-2" else codes "sg-session-1") }
 {
-    if version == 2 {
-        b"sg-session-2"
-    } else {
-        b"sg-session-1"
-    }
+    word_of(version, b"sg-session-1", b"sg-session-2")
 }
 
 /// The prefix of the text of an item.
 pub fn item_word(version: u8) -> &'static [u8]
     ensures { result.now ≡ (if version == 2 then codes "sg-item-2" else codes "sg-item-1") }
 {
-    if version == 2 {
-        b"sg-item-2"
-    } else {
-        b"sg-item-1"
-    }
+    word_of(version, b"sg-item-1", b"sg-item-2")
 }
 
 /// The prefix of the text of a frame.
 pub fn frame_word(version: u8) -> &'static [u8]
     ensures { result.now ≡ (if version == 2 then codes "sg-frame-2" else codes "sg-frame-1") }
 {
-    if version == 2 {
-        b"sg-frame-2"
-    } else {
-        b"sg-frame-1"
-    }
+    word_of(version, b"sg-frame-1", b"sg-frame-2")
+}
+
+// The word of version 1 or of version 2.
+fn word_of(version: u8, first: &'static [u8], second: &'static [u8]) -> &'static [u8]
+    ensures { result.now ≡ (if version == 2 then second.now else first.now) }
+{
+    if version == 2 { second } else { first }
 }
