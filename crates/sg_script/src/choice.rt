@@ -1,51 +1,47 @@
 //! The choices of a script.
 ghost use Rattle.std.specs.Prelude.{◌≡◌, IfOk};
-ghost use Rattle.toml.specs.View.{view, table_view};
-ghost use Rattle.sg_script.specs.Format.{choice_at, choice_in, choice_of};
+ghost use Rattle.toml.specs.View.{table_view};
+ghost use Rattle.sg_script.specs.Format.{choice_at};
 
-use crate::ScriptChoice;
+use crate::entry::Entry;
 use crate::graph::{graph_named, label_at, node_at};
 use crate::table::number_or;
 use crate::value::values_at;
+use crate::{ScriptChoice, ScriptFault};
 use sg_base::{Name, OutOfMemory};
 use sg_graph::Graph;
 use sg_keys::{has_keys_alone, name_at};
 use sg_program::Programs;
 use std::alloc::Global;
-use toml::{Table, Value};
+use toml::Table;
 
-/// The choice of an entry.
-#[tactic(auto, unfolding(crate::specs::Format::choice_of))]
-pub(crate) fn read_choice(
-    alloc: Global,
-    programs: &Programs,
-    value: &Value,
-) -> Result<Option<ScriptChoice>, OutOfMemory>
-    ensures { IfOk result (λ o. o ≡ choice_of programs.now (view value.now)) }
-{
-    match value.as_table() {
-        Some(table) => choice_in(alloc, programs, table),
-        None => Ok(None),
-    }
-}
+impl Entry for ScriptChoice {
+    ghost use Rattle.sg_script.specs.Format.{choice_in};
+    ghost use Rattle.sg_script.specs.declared.fault.ScriptFault.TheVariants.{BadChoice};
 
-// The choice of a table.
-fn choice_in(
-    alloc: Global,
-    programs: &Programs,
-    table: &Table,
-) -> Result<Option<ScriptChoice>, OutOfMemory>
-    ensures { IfOk result (λ o. o ≡ choice_in programs.now (table_view table.now)) }
-{
-    if !has_keys_alone(table, &["graph", "node", "label", "values", "times"]) {
-        return Ok(None);
+    ghost in_table = { choice_in };
+
+    ghost fault_at = { BadChoice };
+
+    fn read(
+        alloc: Global,
+        programs: &Programs,
+        table: &Table,
+    ) -> Result<Option<ScriptChoice>, OutOfMemory> {
+        if !has_keys_alone(table, &["graph", "node", "label", "values", "times"]) {
+            return Ok(None);
+        }
+        let Some(name) = name_at(table, "graph") else {
+            return Ok(None);
+        };
+        match graph_named(programs, &name) {
+            Some(graph) => choice_at(alloc, table, name, graph),
+            None => Ok(None),
+        }
     }
-    let Some(name) = name_at(table, "graph") else {
-        return Ok(None);
-    };
-    match graph_named(programs, &name) {
-        Some(graph) => choice_at(alloc, table, name, graph),
-        None => Ok(None),
+
+    fn fault(number: usize) -> ScriptFault {
+        ScriptFault::BadChoice { number }
     }
 }
 

@@ -26,6 +26,7 @@
 #![tactic(auto)]
 
 mod choice;
+mod entry;
 mod fault;
 mod graph;
 pub mod laws;

@@ -3,60 +3,56 @@ ghost use Rattle.std.specs.Prelude.{◌≡◌, codes, map, option_and_then, IfOk
 ghost use Rattle.toml.specs.Data.{get_member, as_array};
 ghost use Rattle.toml.specs.View.{view, table_view};
 ghost use Rattle.sg_keys.specs.KeyFile.{list_of};
-ghost use Rattle.sg_script.specs.Format.{all_there, cast_in, cast_of, name_of, start_in, start_of};
+ghost use Rattle.sg_script.specs.Format.{all_there, cast_in, cast_of, name_of};
 
-use crate::ScriptStart;
+use crate::entry::Entry;
 use crate::graph::has_graph;
 use crate::table::{name_of, number_or};
+use crate::{ScriptFault, ScriptStart};
 use sg_base::{Name, OutOfMemory, Seq};
 use sg_keys::{has_keys_alone, name_at, value_at};
 use sg_program::Programs;
 use std::alloc::Global;
 use toml::{Table, Value};
 
-/// The start of an entry.
-#[tactic(auto, unfolding(crate::specs::Format::start_of))]
-pub(crate) fn read_start(
-    alloc: Global,
-    programs: &Programs,
-    value: &Value,
-) -> Result<Option<ScriptStart>, OutOfMemory>
-    ensures { IfOk result (λ o. o ≡ start_of programs.now (view value.now)) }
-{
-    match value.as_table() {
-        Some(table) => start_in(alloc, programs, table),
-        None => Ok(None),
-    }
-}
+impl Entry for ScriptStart {
+    ghost use Rattle.sg_script.specs.Format.{start_in};
+    ghost use Rattle.sg_script.specs.declared.fault.ScriptFault.TheVariants.{BadStart};
 
-// The start of a table.
-fn start_in(
-    alloc: Global,
-    programs: &Programs,
-    table: &Table,
-) -> Result<Option<ScriptStart>, OutOfMemory>
-    ensures { IfOk result (λ o. o ≡ start_in programs.now (table_view table.now)) }
-{
-    if !has_keys_alone(table, &["graph", "cast", "version"]) {
-        return Ok(None);
+    ghost in_table = { start_in };
+
+    ghost fault_at = { BadStart };
+
+    fn read(
+        alloc: Global,
+        programs: &Programs,
+        table: &Table,
+    ) -> Result<Option<ScriptStart>, OutOfMemory> {
+        if !has_keys_alone(table, &["graph", "cast", "version"]) {
+            return Ok(None);
+        }
+        let Some(graph) = name_at(table, "graph") else {
+            return Ok(None);
+        };
+        let Some(version) = number_or(table, "version", 1, 1, 2) else {
+            return Ok(None);
+        };
+        let Some(cast) = cast_at(alloc, table)? else {
+            return Ok(None);
+        };
+        if !has_graph(programs, &graph) {
+            return Ok(None);
+        }
+        Ok(Some(ScriptStart {
+            graph,
+            version: version as u8,
+            cast,
+        }))
     }
-    let Some(graph) = name_at(table, "graph") else {
-        return Ok(None);
-    };
-    let Some(version) = number_or(table, "version", 1, 1, 2) else {
-        return Ok(None);
-    };
-    let Some(cast) = cast_at(alloc, table)? else {
-        return Ok(None);
-    };
-    if !has_graph(programs, &graph) {
-        return Ok(None);
+
+    fn fault(number: usize) -> ScriptFault {
+        ScriptFault::BadStart { number }
     }
-    Ok(Some(ScriptStart {
-        graph,
-        version: version as u8,
-        cast,
-    }))
 }
 
 // The cast of a table.
