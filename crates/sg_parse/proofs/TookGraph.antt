@@ -15,7 +15,7 @@ use Rattle.sg_parse.specs.declared.fault.ParseFault.{ParseFault}
 use Rattle.sg_parse.proofs.Sound.{Sound, sound-tokens}
 use Rattle.sg_parse.proofs.Took.{Took, bare, ok_same, err_ok, on-inv, branch-inv, took-both, took-give, took-token, took-mark, took-name, only-word, only-mark}
 use Rattle.sg_parse.proofs.TookStatements.{SpellsRole, SpellsNode, took-role, took-variable, took-node, took-edge}
-use Rattle.sg_parse.proofs.TookText.{adds, Ran, in_turn-map, took-statement, one_ran, took-up_to}
+use Rattle.sg_parse.proofs.TookText.{adds, Ran, in_turn-map, took-then, took-some, took-up_to}
 
 one_longer : {A : Type 0} (xs : List A) (x : A) → length (xs ++ x ∷ []) ≡ suc (length xs)
 one_longer xs x = let l : length (xs ++ x ∷ []) ≡ length xs + length (x ∷ []) = length-append xs (x ∷ []) in omega (arith, l)
@@ -74,34 +74,15 @@ took-head ps o s h =
 took-roles : (g : Graph) (ps : List TokenAt) (o : Parsed Graph) → IsGraph g → length g.roles ≡ 0 → Sound ps → read_roles g ps ≡ Ok o
     → (r : Ran with_role SpellsRole g ps o) × (2 ≤ length r.parts)
 took-roles g ps o is none s h =
-    let a = on-inv (statement (codes "role") read_role g ps) _ o h in
     let room : length g.roles < 16 = omega (arith, none) in
-    let one = took-statement with_role SpellsRole (codes "role") read_role (λ g. length g.roles) 16 (λ g x. one_longer g.roles x) (λ g x y ts h. h) took-role g ps a.0 is room s a.1 in
-    let is' : IsGraph (a.0).value = subst IsGraph one.2 one.3 in
-    let grown : length (a.0).value.roles ≡ 1 = subst (λ k. length k.roles ≡ 1) one.2 (one_longer g.roles one.0 ∙ ap suc none) in
-    let b = on-inv (statement (codes "role") read_role (a.0).value (a.0).rest) _ o a.2 in
-    let room' : length (a.0).value.roles < 16 = omega (arith, grown) in
-    let two = took-statement with_role SpellsRole (codes "role") read_role (λ g. length g.roles) 16 (λ g x. one_longer g.roles x) (λ g x y ts h. h) took-role (a.0).value (a.0).rest b.0 is' room' (one.5).sound b.1 in
-    let is'' : IsGraph (b.0).value = subst IsGraph two.2 two.3 in
-    let grown' : length (b.0).value.roles ≡ 2 = subst (λ k. length k.roles ≡ 2) two.2 (one_longer (a.0).value.roles two.0 ∙ ap suc grown) in
-    let room'' : length (b.0).value.roles + 14 ≤ 16 = omega (arith, grown') in
-    let more = took-up_to with_role SpellsRole (codes "role") read_role (λ g. length g.roles) 16 (λ g x. one_longer g.roles x) (λ g x y ts h. h) took-role 14 (b.0).value (b.0).rest o is'' room'' (two.5).sound b.2 in
-    let both = one_ran with_role SpellsRole (codes "role") read_role (λ g. length g.roles) 16 (λ g x. one_longer g.roles x) (λ g x y ts h. h) took-role (a.0).value (a.0).rest b.0 o two.0 two.1 two.2 two.4 two.5 more in
-    let all = one_ran with_role SpellsRole (codes "role") read_role (λ g. length g.roles) 16 (λ g x. one_longer g.roles x) (λ g x y ts h. h) took-role g ps a.0 o one.0 one.1 one.2 one.4 one.5 both in
-    (all, omega arith)
+    took-then with_role SpellsRole (codes "role") read_role (λ g. length g.roles) 16 (λ g x. one_longer g.roles x) (λ g x y ts h. h) took-role 1 (λ g. after (statement (codes "role") read_role g) (up_to 14 (codes "role") read_role)) g ps o is room s h
+    (λ a is' one s' h'. (let room' : length a.value.roles + 15 ≤ 16 = omega (arith, none, one) in took-some with_role SpellsRole (codes "role") read_role (λ g. length g.roles) 16 (λ g x. one_longer g.roles x) (λ g x y ts h. h) took-role 14 a.value a.rest o is' room' s' h'))
 
 took-nodes : (g : Graph) (ps : List TokenAt) (o : Parsed Graph) → IsGraph g → length g.nodes ≡ 0 → Sound ps → read_nodes g ps ≡ Ok o
     → (r : Ran with_node SpellsNode g ps o) × (1 ≤ length r.parts)
 took-nodes g ps o is none s h =
-    let a = on-inv (statement (codes "node") read_node g ps) _ o h in
-    let room : length g.nodes < 256 = omega (arith, none) in
-    let one = took-statement with_node SpellsNode (codes "node") read_node (λ g. length g.nodes) 256 (λ g x. one_longer g.nodes x) (λ g x y ts h. h) took-node g ps a.0 is room s a.1 in
-    let is' : IsGraph (a.0).value = subst IsGraph one.2 one.3 in
-    let grown : length (a.0).value.nodes ≡ 1 = subst (λ k. length k.nodes ≡ 1) one.2 (one_longer g.nodes one.0 ∙ ap suc none) in
-    let room' : length (a.0).value.nodes + 255 ≤ 256 = omega (arith, grown) in
-    let more = took-up_to with_node SpellsNode (codes "node") read_node (λ g. length g.nodes) 256 (λ g x. one_longer g.nodes x) (λ g x y ts h. h) took-node 255 (a.0).value (a.0).rest o is' room' (one.5).sound a.2 in
-    let all = one_ran with_node SpellsNode (codes "node") read_node (λ g. length g.nodes) 256 (λ g x. one_longer g.nodes x) (λ g x y ts h. h) took-node g ps a.0 o one.0 one.1 one.2 one.4 one.5 more in
-    (all, omega arith)
+    let room : length g.nodes + 256 ≤ 256 = omega (arith, none) in
+    took-some with_node SpellsNode (codes "node") read_node (λ g. length g.nodes) 256 (λ g x. one_longer g.nodes x) (λ g x y ts h. h) took-node 255 g ps o is room s h
 
 -- the end of the text
 pub took-end : (ps : List TokenAt) (o : Parsed (Unit {0})) → Sound ps → read_end ps ≡ Ok o → bare ps ≡ End ∷ []

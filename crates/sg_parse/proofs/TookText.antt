@@ -1,5 +1,5 @@
 -- A text that is read spells the graph.
-use Rattle.std.proofs.Common.{◌≡◌, ℕ, zero, suc, ◌+◌, ◌<◌, ◌≤◌, Bool, true, false, List, [], ◌∷◌, ◌++◌, Ok, refl, sym, subst, ◌∙◌, arith, inl, inr, ◌⊎◌}
+use Rattle.std.proofs.Common.{◌≡◌, ℕ, zero, suc, ◌+◌, ◌<◌, ◌≤◌, Bool, true, false, List, [], ◌∷◌, ◌++◌, length, Ok, refl, sym, subst, ◌∙◌, arith, inl, inr, ◌⊎◌}
 use Rattle.sg_protocol.specs.Graph.{Graph, IsGraph}
 use Rattle.sg_parse.specs.Grammar.{InTurn, Done, Then}
 use Rattle.sg_parse.specs.Tokens.{is_word}
@@ -38,7 +38,7 @@ module _ {A : Type 0} (add : Graph → A → Graph) (Spells : Graph → A → Li
     (stays : (g : Graph) (x y : A) (ts : List Token) → Spells (add g x) y ts → Spells g y ts)
     (step : (g : Graph) (ps : List TokenAt) (o : Parsed Graph) → IsGraph g → size g < limit → Sound ps → reader g ps ≡ Ok o → Stepped add Spells first g ps o) where
   -- a statement with its first word
-  pub took-statement : (g : Graph) (ps : List TokenAt) (o : Parsed Graph) → IsGraph g → size g < limit → Sound ps → statement first reader g ps ≡ Ok o
+  took-statement : (g : Graph) (ps : List TokenAt) (o : Parsed Graph) → IsGraph g → size g < limit → Sound ps → statement first reader g ps ≡ Ok o
       → (x : A) × (ts : List Token) × (add g x ≡ o.value) × IsGraph (add g x) × Spells g x ts × Took ps o ts
   took-statement g ps o is room s h =
       let i = on-inv (token (is_word first) ps) (λ _. reader g) o h in
@@ -51,18 +51,28 @@ module _ {A : Type 0} (add : Graph → A → Graph) (Spells : Graph → A → Li
       let e = took-give g ps o s h in
       record { parts = []; tokens = []; value = e.0; is_graph = subst IsGraph e.0 is; spells = Done; took = e.1 }
 
-  -- a statement and what ran behind it
-  abbrev pub one_ran : (g : Graph) (ps : List TokenAt) (r o : Parsed Graph) (x : A) (ts : List Token) → add g x ≡ r.value → Spells g x ts → Took ps r ts → Ran add Spells r.value r.rest o → Ran add Spells g ps o
-  one_ran g ps r o x ts same s t rest =
-      let rest' : Ran add Spells (add g x) r.rest o = subst (λ k. Ran add Spells k r.rest o) (sym same) rest in
-      record {
-        parts = x ∷ rest'.parts;
-        tokens = ts ++ rest'.tokens;
-        value = rest'.value;
-        is_graph = rest'.is_graph;
-        spells = Then s (in_turn-map (Spells (add g x)) (Spells g) rest'.parts rest'.tokens (stays g x) rest'.spells);
-        took = took-both ps r o ts rest'.tokens t rest'.took;
-      }
+  -- a statement, and what ran behind it
+  pub took-then : (least : ℕ) (next : Graph → Parser Graph) (g : Graph) (ps : List TokenAt) (o : Parsed Graph) → IsGraph g → size g < limit → Sound ps → on (statement first reader g ps) next ≡ Ok o
+      → ((r : Parsed Graph) → IsGraph r.value → size r.value ≡ suc (size g) → Sound r.rest → next r.value r.rest ≡ Ok o → (q : Ran add Spells r.value r.rest o) × (least ≤ length q.parts))
+      → (q : Ran add Spells g ps o) × (suc least ≤ length q.parts)
+  took-then least next g ps o is room s h behind =
+      let i = on-inv (statement first reader g ps) next o h in
+      let d = took-statement g ps i.0 is room s i.1 in
+      let is' : IsGraph (i.0).value = subst IsGraph d.2 d.3 in
+      let grown : size (i.0).value ≡ suc (size g) = subst (λ k. size k ≡ suc (size g)) d.2 (grows g d.0) in
+      let rest : (q : Ran add Spells (add g d.0) (i.0).rest o) × (least ≤ length q.parts) =
+      subst (λ k. (q : Ran add Spells k (i.0).rest o) × (least ≤ length q.parts)) (sym d.2) (behind i.0 is' grown (d.5).sound i.2) in
+      let many : suc least ≤ suc (length (rest.0).parts) = omega (arith, rest.1) in (
+        record {
+          parts = d.0 ∷ (rest.0).parts;
+          tokens = d.1 ++ (rest.0).tokens;
+          value = (rest.0).value;
+          is_graph = (rest.0).is_graph;
+          spells = Then d.4 (in_turn-map (Spells (add g d.0)) (Spells g) (rest.0).parts (rest.0).tokens (stays g d.0) (rest.0).spells);
+          took = took-both ps i.0 o d.1 (rest.0).tokens d.5 (rest.0).took;
+        },
+        many,
+      )
 
   -- statements, up to n of them
   pub took-up_to : (n : ℕ) (g : Graph) (ps : List TokenAt) (o : Parsed Graph) → IsGraph g → size g + n ≤ limit → Sound ps → up_to n first reader g ps ≡ Ok o → Ran add Spells g ps o
@@ -79,11 +89,15 @@ module _ {A : Type 0} (add : Graph → A → Graph) (Spells : Graph → A → Li
       first_of_all : (b : Bool) → is_next (is_word first) ps ≡ b
           → ((r : Parsed Graph) → IsGraph r.value → size r.value + n ≤ limit → Sound r.rest → up_to n first reader r.value r.rest ≡ Ok o → Ran add Spells r.value r.rest o) → Ran add Spells g ps o
       first_of_all true e rest =
-          let i = on-inv (statement first reader g ps) (up_to n first reader) o (sym (up_to-there first reader n g ps e) ∙ h) in
           let few : size g < limit = omega (arith, room) in
-          let d = took-statement g ps i.0 is few s i.1 in
-          let is' : IsGraph (i.0).value = subst IsGraph d.2 d.3 in
-          let grown : size (i.0).value ≡ suc (size g) = subst (λ k. size k ≡ suc (size g)) d.2 (grows g d.0) in
-          let fits : size (i.0).value + n ≤ limit = omega (arith, grown, room) in
-          one_ran g ps i.0 o d.0 d.1 d.2 d.4 d.5 (rest i.0 is' fits (d.5).sound i.2)
+          (took-then zero (up_to n first reader) g ps o is few s (sym (up_to-there first reader n g ps e) ∙ h)
+          (λ r is' grown s' k. (let fits : size r.value + n ≤ limit = omega (arith, grown, room) in (rest r is' fits s' k, omega arith)))).0
       first_of_all false e rest = none_ran g ps o is s (sym (up_to-away first reader (suc n) g ps e) ∙ h)
+
+  -- one statement, and up to n behind it
+  pub took-some : (n : ℕ) (g : Graph) (ps : List TokenAt) (o : Parsed Graph) → IsGraph g → size g + suc n ≤ limit → Sound ps → on (statement first reader g ps) (up_to n first reader) ≡ Ok o
+      → (q : Ran add Spells g ps o) × (1 ≤ length q.parts)
+  took-some n g ps o is room s h =
+      let few : size g < limit = omega (arith, room) in
+      took-then zero (up_to n first reader) g ps o is few s h
+      (λ r is' grown s' k. (let fits : size r.value + n ≤ limit = omega (arith, grown, room) in (took-up_to n r.value r.rest o is' fits s' k, omega arith)))
