@@ -1,9 +1,10 @@
 //! The tokens of a text, one after the other, in one pass over the bytes.
-ghost use Rattle.std.specs.Prelude.{◌≡◌, ◌≢◌, false, Ok, Err, IfOk};
+ghost use Rattle.std.specs.Prelude.{◌≡◌, ◌≢◌, Bool, true, false, Ok, Err, IfOk};
 ghost use Rattle.sg_model.specs.Lists.{has_text};
 ghost use Rattle.sg_model.specs.Names.{reserved};
 ghost use Rattle.sg_parse.specs.Owed.{Reads};
 ghost use Rattle.sg_parse.specs.Reading.{is_next, skip, token, name, refusal, no_more, read_end};
+ghost use Rattle.sg_parse.specs.declared.token.Token.{Token};
 ghost use Rattle.sg_parse.specs.Tokens.{tokens, all_seen_as, is_word, is_named, is_colon, is_semicolon, is_arrow, is_use, is_as, is_last};
 
 use crate::fault::ParseFault;
@@ -73,27 +74,33 @@ impl<'a> Scanner<'a> {
         self.end = end;
     }
 
-    /// This word.
-    pub fn word(&mut self, word: &[u8]) -> Result<(), ParseFault>
-        ensures reads { Reads (token (is_word word.now)) self.old self.new result }
+    // Takes off the next token, if it is the one that the grammar has here.
+    fn take_if(&mut self, expected: bool) -> Result<(), ParseFault>
+        requires { expected ≡ true → is_next is_last self.old ≡ false }
+        ensures reads { (test : Token → Bool) → is_next test self.old ≡ expected → Reads (token test) self.old self.new result }
         ensures early { result ≢ Err ParseFault.OutOfMemory }
     {
-        if !self.at_word(word) {
+        if !expected {
             return Err(self.refusal());
         }
         self.skip();
         Ok(())
     }
 
+    /// This word.
+    pub fn word(&mut self, word: &[u8]) -> Result<(), ParseFault>
+        ensures reads { Reads (token (is_word word.now)) self.old self.new result }
+        ensures early { result ≢ Err ParseFault.OutOfMemory }
+    {
+        self.take_if(self.at_word(word))
+    }
+
     /// A `:`.
     pub fn colon(&mut self) -> Result<(), ParseFault>
         ensures { Reads (token is_colon) self.old self.new result }
     {
-        if !matches!(self.next.token, Token::Colon) {
-            return Err(self.refusal());
-        }
-        self.skip();
-        Ok(())
+        let expected = matches!(self.next.token, Token::Colon);
+        self.take_if(expected)
     }
 
     /// A `;`.
@@ -101,11 +108,8 @@ impl<'a> Scanner<'a> {
         ensures reads { Reads (token is_semicolon) self.old self.new result }
         ensures early { result ≢ Err ParseFault.OutOfMemory }
     {
-        if !matches!(self.next.token, Token::Semicolon) {
-            return Err(self.refusal());
-        }
-        self.skip();
-        Ok(())
+        let expected = matches!(self.next.token, Token::Semicolon);
+        self.take_if(expected)
     }
 
     /// The word `use` is next.
@@ -119,33 +123,24 @@ impl<'a> Scanner<'a> {
     pub fn use_word(&mut self) -> Result<(), ParseFault>
         ensures { Reads (token is_use) self.old self.new result }
     {
-        if !matches!(self.next.token, Token::Use) {
-            return Err(self.refusal());
-        }
-        self.skip();
-        Ok(())
+        let expected = matches!(self.next.token, Token::Use);
+        self.take_if(expected)
     }
 
     /// The word `as`.
     pub fn as_word(&mut self) -> Result<(), ParseFault>
         ensures { Reads (token is_as) self.old self.new result }
     {
-        if !matches!(self.next.token, Token::As) {
-            return Err(self.refusal());
-        }
-        self.skip();
-        Ok(())
+        let expected = matches!(self.next.token, Token::As);
+        self.take_if(expected)
     }
 
     /// A `->`.
     pub fn arrow(&mut self) -> Result<(), ParseFault>
         ensures { Reads (token is_arrow) self.old self.new result }
     {
-        if !matches!(self.next.token, Token::Arrow) {
-            return Err(self.refusal());
-        }
-        self.skip();
-        Ok(())
+        let expected = matches!(self.next.token, Token::Arrow);
+        self.take_if(expected)
     }
 
     /// The end of the text.
