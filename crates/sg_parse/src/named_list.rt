@@ -1,7 +1,7 @@
 //! The parts and the uses that are read so far, with their names.
-ghost use Rattle.std.specs.Prelude.{◌≡◌, ◌<◌, ◌++◌, [], ◌∷◌, false, length, IfSome, IsSome, IsTrue, ◌↔◌, OnErr, OnOk};
+ghost use Rattle.std.specs.Prelude.{◌≡◌, ◌<◌, ◌++◌, [], ◌∷◌, false, length, map, IfSome, IsSome, IsTrue, ◌↔◌, OnOk};
 ghost use Rattle.sg_model.specs.Lists.{has_text};
-ghost use Rattle.sg_parse.specs.Parts.{part_names, use_names};
+ghost use Rattle.sg_model.specs.Names.{Name};
 ghost use Rattle.sg_parse.specs.Reading.{index_of};
 
 use crate::name_set::NameSet;
@@ -10,131 +10,102 @@ use sg_base::{Name, OutOfMemory, Seq};
 use std::alloc::Global;
 use std::marker::Model;
 
-// Parts whose names differ. A clause sees the parts.
+// What has a name.
+pub trait Named {
+    // The name.
+    ghost named: { Self → Name };
+
+    // The name.
+    fn name(&self) -> Name
+        ensures { result ≡ named self.now };
+}
+
+impl Named for Part {
+    ghost named = { λ p. p.graph.name };
+
+    fn name(&self) -> Name {
+        self.graph.name()
+    }
+}
+
+impl Named for Use {
+    ghost named = { λ u. u.name };
+
+    fn name(&self) -> Name {
+        self.name
+    }
+}
+
+// Parts whose names differ.
+pub type PartList = NamedList<Part>;
+
+// Uses whose names differ.
+pub type UseList = NamedList<Use>;
+
+// Parts or uses whose names differ. A clause sees them in order.
 #[derive(Drop)]
-pub struct PartList {
-    parts: Seq<Part>,
+pub struct NamedList<T: Named> {
+    items: Seq<T>,
     names: NameSet,
 }
 
-impl Model for PartList {
-    ghost use Rattle.std.specs.Prelude.{◌≡◌, List};
-    ghost use Rattle.sg_parse.specs.Parts.{Part, part_names};
+impl<T: Named> Model for NamedList<T> {
+    ghost use Rattle.std.specs.Prelude.{◌≡◌, List, map};
 
-    ghost Value = { List Part };
+    ghost Value = { List T };
 
-    ghost view = { λ l. l.parts };
+    ghost view = { λ l. l.items };
 
-    ghost invariant = { λ l. l.names ≡ part_names l.parts };
+    ghost invariant = { λ l. l.names ≡ map T.named l.items };
 }
 
-impl PartList {
-    // No parts. It takes no memory.
-    pub fn new(alloc: Global) -> PartList
+impl<T: Named + Drop> NamedList<T> {
+    // The empty list. It takes no memory.
+    pub fn new(alloc: Global) -> NamedList<T>
         ensures { result ≡ [] }
     {
-        PartList {
-            parts: Seq::new(alloc),
+        NamedList {
+            items: Seq::new(alloc),
             names: NameSet::new(alloc),
         }
     }
 
-    // Whether a part has the name.
+    // Whether one has the name.
     pub fn has(&self, name: &Name) -> bool
-        ensures { result ≡ has_text name.now (part_names self.now) }
+        ensures { result ≡ has_text name.now (map T.named self.now) }
     {
         self.names.has(name)
     }
 
-    // The number of the part with the name.
+    // The number of the one with the name.
     pub fn index(&self, name: &Name) -> Option<usize>
-        ensures found { IsSome result ↔ IsTrue (has_text name.now (part_names self.now)) }
-        ensures index { IfSome result (λ k. index_of name.now (part_names self.now) ≡ k) }
+        ensures found { IsSome result ↔ IsTrue (has_text name.now (map T.named self.now)) }
+        ensures index { IfSome result (λ k. index_of name.now (map T.named self.now) ≡ k) }
         ensures there { IfSome result (λ k. k < length self.now) }
     {
         self.names.index(name)
     }
 
-    // Adds a part whose name no part has.
-    pub fn push(&mut self, part: Part) -> Result<(), OutOfMemory>
-        requires { has_text part.graph.name (part_names self.old) ≡ false }
-        ensures { OnOk result (self.new ≡ self.old ++ part ∷ []) }
+    // Adds one whose name none has.
+    pub fn push(&mut self, item: T) -> Result<(), OutOfMemory>
+        requires { has_text (T.named item) (map T.named self.old) ≡ false }
+        ensures { OnOk result (self.new ≡ self.old ++ item ∷ []) }
     {
-        let name = part.graph.name();
-        let count = self.parts.len();
-        self.parts.push(part)?;
+        let name = item.name();
+        let count = self.items.len();
+        self.items.push(item)?;
         if let Err(fault) = self.names.add(name) {
-            self.parts.truncate(count);
+            self.items.truncate(count);
             return Err(fault);
         }
         Ok(())
     }
 
-    // The parts.
-    pub fn into_parts(self) -> Seq<Part>
+    // They alone.
+    pub fn into_list(self) -> Seq<T>
         ensures { result ≡ self }
     {
-        let PartList { parts, names: _ } = self;
-        parts
-    }
-}
-
-// Uses whose names differ. A clause sees the uses.
-#[derive(Drop)]
-pub struct UseList {
-    uses: Seq<Use>,
-    names: NameSet,
-}
-
-impl Model for UseList {
-    ghost use Rattle.std.specs.Prelude.{◌≡◌, List};
-    ghost use Rattle.sg_parse.specs.Parts.{Use, use_names};
-
-    ghost Value = { List Use };
-
-    ghost view = { λ l. l.uses };
-
-    ghost invariant = { λ l. l.names ≡ use_names l.uses };
-}
-
-impl UseList {
-    // No uses. It takes no memory.
-    pub fn new(alloc: Global) -> UseList
-        ensures { result ≡ [] }
-    {
-        UseList {
-            uses: Seq::new(alloc),
-            names: NameSet::new(alloc),
-        }
-    }
-
-    // Whether a use has the name.
-    pub fn has(&self, name: &Name) -> bool
-        ensures { result ≡ has_text name.now (use_names self.now) }
-    {
-        self.names.has(name)
-    }
-
-    // Adds a use whose name no use has.
-    pub fn push(&mut self, used: Use) -> Result<(), OutOfMemory>
-        requires { has_text used.name (use_names self.old) ≡ false }
-        ensures { OnOk result (self.new ≡ self.old ++ used ∷ []) }
-    {
-        let name = used.name;
-        let count = self.uses.len();
-        self.uses.push(used)?;
-        if let Err(fault) = self.names.add(name) {
-            self.uses.truncate(count);
-            return Err(fault);
-        }
-        Ok(())
-    }
-
-    // The uses.
-    pub fn into_uses(self) -> Seq<Use>
-        ensures { result ≡ self }
-    {
-        let UseList { uses, names: _ } = self;
-        uses
+        let NamedList { items, names: _ } = self;
+        items
     }
 }

@@ -9,8 +9,8 @@ ghost use Rattle.sg_parse.specs.PartsReading.{read, read_parts, read_part, read_
 ghost use Rattle.sg_parse.specs.Tokens.{is_word, part_tokens};
 
 use crate::fault::ParseFault;
+use crate::named_list::PartList;
 use crate::part::Part;
-use crate::part_list::PartList;
 use crate::scanner::Scanner;
 use crate::text::read_statements;
 use crate::token::Language;
@@ -40,7 +40,7 @@ fn read_whole(alloc: Global, bytes: &[u8]) -> Result<Vec<Part>, ParseFault>
 {
     let mut scanner = Scanner::new(Language::OfParts, bytes);
     let parts = read_parts(alloc, &mut scanner, bytes.len())?;
-    Ok(parts.into_parts().into_vec())
+    Ok(parts.into_list().into_vec())
 }
 
 // All parts, and the end, of a text of `bytes` bytes.
@@ -88,7 +88,7 @@ fn read_part(
     let uses = read_uses(alloc, scanner, bytes, parts, &graph)?;
     let part = Part {
         graph,
-        uses: uses.into_uses(),
+        uses: uses.into_list(),
     };
     match parts.push(part) {
         Ok(()) => Ok(()),

@@ -10,8 +10,8 @@ ghost use Rattle.sg_parse.specs.Tokens.{is_named};
 
 use crate::fault::ParseFault;
 use crate::name::known_node;
+use crate::named_list::{PartList, UseList};
 use crate::part::Use;
-use crate::part_list::{PartList, UseList};
 use crate::scanner::Scanner;
 use sg_base::{Name, Role, Seq};
 use sg_graph::Graph;
