@@ -47,6 +47,11 @@ either : (b : Bool) (x y : Option Command) → CanBeDriven x → CanBeDriven y �
 either true x y h k = h
 either false x y h k = k
 
+-- the command of a number, if any, as that of each
+each : (make : ℕ → Command) → ((n : ℕ) → CanBeDriven (Some (make n))) → (o : Option ℕ) → CanBeDriven (option_map make o)
+each make h None = tt
+each make h (Some n) = h n
+
 driven : (file : List ℕ) (seed n : Option ℕ) → AreSessions n → CanBeDriven (option_and_then (λ s. option_map (λ k. Drive s k file) n) seed)
 driven file None n h = tt
 driven file (Some s) None h = tt
@@ -60,38 +65,16 @@ drives (seed ∷ count ∷ file ∷ []) = driven file (number most_seed seed) (s
 drives (seed ∷ count ∷ file ∷ other ∷ more) = tt
 
 runs : (args : List (List ℕ)) → CanBeDriven (running args)
-runs [] = tt
-runs (keys ∷ []) = tt
-runs (keys ∷ script ∷ []) = tt
-runs (keys ∷ script ∷ n ∷ []) = tt
-runs (keys ∷ script ∷ n ∷ program ∷ more) = found (number most_deliveries n)
-  where
-    found : (o : Option ℕ) → CanBeDriven (option_map (λ d. Run keys script d (program ∷ more)) o)
-    found None = tt
-    found (Some d) = tt
+runs (keys ∷ script ∷ n ∷ program ∷ more) = each (λ d. Run keys script d (program ∷ more)) (λ d. tt) (number most_deliveries n)
+runs _ = tt
 
 keeps : (args : List (List ℕ)) → CanBeDriven (keeping args)
-keeps [] = tt
-keeps (file ∷ []) = tt
-keeps (file ∷ keys ∷ []) = tt
-keeps (file ∷ keys ∷ script ∷ []) = tt
-keeps (file ∷ keys ∷ script ∷ n ∷ []) = tt
-keeps (file ∷ keys ∷ script ∷ n ∷ program ∷ more) = found (number most_deliveries n)
-  where
-    found : (o : Option ℕ) → CanBeDriven (option_map (λ d. Keep file keys script d (program ∷ more)) o)
-    found None = tt
-    found (Some d) = tt
+keeps (file ∷ keys ∷ script ∷ n ∷ program ∷ more) = each (λ d. Keep file keys script d (program ∷ more)) (λ d. tt) (number most_deliveries n)
+keeps _ = tt
 
 streams : (args : List (List ℕ)) → CanBeDriven (streaming args)
-streams [] = tt
-streams (keys ∷ []) = tt
-streams (keys ∷ script ∷ []) = tt
-streams (keys ∷ script ∷ n ∷ []) = tt
-streams (keys ∷ script ∷ n ∷ program ∷ more) = found (number most_deliveries n)
-  where
-    found : (o : Option ℕ) → CanBeDriven (option_map (λ d. Stream keys script d (program ∷ more)) o)
-    found None = tt
-    found (Some d) = tt
+streams (keys ∷ script ∷ n ∷ program ∷ more) = each (λ d. Stream keys script d (program ∷ more)) (λ d. tt) (number most_deliveries n)
+streams _ = tt
 
 file_alone : (name file : List ℕ) → CanBeDriven (on_file name file)
 file_alone name file =
