@@ -2,7 +2,7 @@
 ghost use Rattle.std.specs.Prelude.{◌≡◌, ◌≤◌, ◌<◌, ◌++◌, [], ◌∷◌, Some, None, true, false, IfOk, IsNone, IsOk, IfSome, MatchOption, codes, length, option_map, option_copied};
 ghost use Rattle.sg_base.specs.Words.{name, number};
 ghost use Rattle.sg_sched.specs.Words.{frame};
-ghost use Rattle.sg_sched.specs.Format.Reading.{word};
+ghost use Rattle.sg_sched.specs.Format.Reading.{Taker, word};
 ghost use Rattle.sg_sched.specs.Format.CraftReading.{split_last, committed, name_list, cast, exactly, time, run, few, listed, copy_source, source, repeated, tag, item, is_next, optional, join_parts, join, opened, seal_form, ends, craft_form};
 ghost use Rattle.sg_sched.specs.Format.Early.{craft_beginning};
 ghost use Rattle.sg_sched.specs.Format.Sources.{from_of};
@@ -180,23 +180,61 @@ fn take_tag(words: &mut Words) -> Option<TagLine>
     Some(TagLine { role, from })
 }
 
+/// What may stand several times, each time after the same word.
+trait AfterWord<'a>: Sized {
+    /// What is taken off behind the word.
+    ghost taker: { Taker Self };
+
+    /// Takes one off, after its word.
+    fn take(alloc: Global, words: &mut Words<'a>) -> Result<Option<Self>, OutOfMemory>
+        ensures { IfOk result (λ o. taker words.old ≡ taken o words.new) };
+}
+
+impl<'a> AfterWord<'a> for TagLine {
+    ghost taker = { tag };
+
+    fn take(_alloc: Global, words: &mut Words<'a>) -> Result<Option<TagLine>, OutOfMemory> {
+        Ok(take_tag(words))
+    }
+}
+
+impl<'a> AfterWord<'a> for ItemLine<'a> {
+    ghost taker = { item };
+
+    fn take(alloc: Global, words: &mut Words<'a>) -> Result<Option<ItemLine<'a>>, OutOfMemory> {
+        take_item(alloc, words)
+    }
+}
+
+/// All that stand next, up to `most`, each after the word `first`.
+fn take_repeated<'a, T: AfterWord<'a> + Drop>(
+    alloc: Global,
+    first: &[u8],
+    most: u16,
+    words: &mut Words<'a>,
+) -> Result<Option<Seq<T>>, OutOfMemory>
+    ensures { IfOk result (λ o. repeated first.now T.taker most words.old ≡ taken o words.new) }
+{
+    let mut found = Seq::new(alloc);
+    let mut left = most;
+    'words: while left > 0 {
+        if !take_word(first, words) {
+            return Ok(Some(found));
+        }
+        let Some(one) = T::take(alloc, words)? else {
+            return Ok(None);
+        };
+        found.push(one)?;
+        left -= 1;
+    }
+    Ok(Some(found))
+}
+
 /// Tags, up to 14, each after the word `tag`.
 fn take_tags(alloc: Global, words: &mut Words) -> Result<Option<Seq<TagLine>>, OutOfMemory>
     ensures { IfOk result (λ o. repeated (codes "tag") tag 14 words.old ≡ taken o words.new) }
 {
-    let mut tags = Seq::new(alloc);
-    let mut left = 14u8;
-    'tags: while left > 0 {
-        if !take_word(b"tag", words) {
-            return Ok(Some(tags));
-        }
-        let Some(tag) = take_tag(words) else {
-            return Ok(None);
-        };
-        tags.push(tag)?;
-        left -= 1;
-    }
-    Ok(Some(tags))
+    take_repeated(alloc, b"tag", 14, words)
 }
 
 #[tactic(auto, unfolding(crate::specs::Format::CraftReading::time))]
@@ -263,19 +301,7 @@ fn take_items<'a>(
 ) -> Result<Option<Seq<ItemLine<'a>>>, OutOfMemory>
     ensures { IfOk result (λ o. repeated (codes "item") item 65535 words.old ≡ taken o words.new) }
 {
-    let mut items = Seq::new(alloc);
-    let mut left = 65_535u16;
-    'items: while left > 0 {
-        if !take_word(b"item", words) {
-            return Ok(Some(items));
-        }
-        let Some(item) = take_item(alloc, words)? else {
-            return Ok(None);
-        };
-        items.push(item)?;
-        left -= 1;
-    }
-    Ok(Some(items))
+    take_repeated(alloc, b"item", 65_535, words)
 }
 
 /// The nonce after the word `nonce`, or nothing.
