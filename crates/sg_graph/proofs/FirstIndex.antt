@@ -63,29 +63,28 @@ name_at name_of name ys i d h =
     let there = passes_there (λ y. bytes_eq name (name_of y)) ys i d (sym h) in
     (there.0, sym ((bytes_eq-Decides name (name_of (get_or ys i d))).0 there.1))
 
+-- neither the index nor the name is there
+pub neither : {A : Type 0} (o : Option A) (b : Bool) → o ≡ None → b ≡ false → (IsSome o → IsTrue b) × (IsTrue b → IsSome o)
+neither (Some a) b n f = absurd (cc)
+neither None true n f = absurd (cc)
+neither None false n f = (λ y. y, λ y. y)
+
 -- the first index of a name among parts that are kept as other ones
 module _ {X Y : Type 0} (part_of : X → Y) (name_of : Y → Name) (name : Name) (kept : List X) (parts : List Y) (seen : map part_of kept ≡ parts) where
   -- it is the first among the parts
   index_seen : (o : Option ℕ) → o ≡ position (λ x. bytes_eq name (name_of (part_of x))) kept → o ≡ position (λ y. bytes_eq name (name_of y)) parts
   index_seen o at = at ∙ sym (position-map (λ y. bytes_eq name (name_of y)) part_of kept) ∙ ap (position (λ y. bytes_eq name (name_of y))) seen
 
-  -- the part there has the name
-  pub name_there : (i : ℕ) (d : Y) → Some i ≡ position (λ x. bytes_eq name (name_of (part_of x))) kept → (i < length parts) × (name_of (get_or parts i d) ≡ name)
-  name_there i d at = name_at name_of name parts i d (index_seen (Some i) at)
-
   -- so the name is among the names
-  pub name_found : (i : ℕ) → Some i ≡ position (λ x. bytes_eq name (name_of (part_of x))) kept → has_text name (map name_of parts) ≡ true
-  name_found i at = list_any-map (bytes_eq name) name_of parts ∙ some_passes (λ y. bytes_eq name (name_of y)) parts i (sym (index_seen (Some i) at))
+  pub name_found : (i : ℕ) (d : Y) → Some i ≡ position (λ x. bytes_eq name (name_of (part_of x))) kept
+      → (IsSome (Some i) ↔ IsTrue (has_text name (map name_of parts))) × ((i < length parts) × (name_of (get_or parts i d) ≡ name))
+  name_found i d at =
+      let there = list_any-map (bytes_eq name) name_of parts ∙ some_passes (λ y. bytes_eq name (name_of y)) parts i (sym (index_seen (Some i) at)) in
+      ((λ y. there, λ y. refl), name_at name_of name parts i d (index_seen (Some i) at))
 
   -- if there is none, it isn't
-  pub name_missed : None ≡ position (λ x. bytes_eq name (name_of (part_of x))) kept → has_text name (map name_of parts) ≡ false
-  name_missed at = list_any-map (bytes_eq name) name_of parts ∙ none_passes (λ y. bytes_eq name (name_of y)) parts (sym (index_seen None at))
-
--- neither the index nor the name is there
-pub neither : {A : Type 0} (o : Option A) (b : Bool) → o ≡ None → b ≡ false → (IsSome o → IsTrue b) × (IsTrue b → IsSome o)
-neither (Some a) b n f = absurd (cc)
-neither None true n f = absurd (cc)
-neither None false n f = (λ y. y, λ y. y)
+  pub name_missed : {A : Type 0} (o : Option A) → o ≡ None → None ≡ position (λ x. bytes_eq name (name_of (part_of x))) kept → IsSome o ↔ IsTrue (has_text name (map name_of parts))
+  name_missed o none at = neither o _ none (list_any-map (bytes_eq name) name_of parts ∙ none_passes (λ y. bytes_eq name (name_of y)) parts (sym (index_seen None at)))
 
 -- a name that has no index isn't there
 pub unfound : {A : Type 0} (o : Option A) (r b : Bool) → (IsSome o ↔ IsTrue b) → r ≡ is_some o → r ≡ false → b ≡ false

@@ -1,7 +1,6 @@
-use Rattle.std.proofs.Common.{◌≡◌, ◌++◌, ◌∷◌, true, false, length, sym, ◌∙◌, arith, rules}
-use Rattle.sg_model.specs.Lists.{is_in}
+use Rattle.std.proofs.Common.{length, inl, inr, arith, rules}
 use Rattle.sg_protocol.specs.Graph.{variable_name}
-use Rattle.sg_graph.proofs.Lines.{words_none, words_more, words_same, words_all}
+use Rattle.sg_graph.proofs.Lines.{words_none, words_next, words_all}
 use Rattle.sg_graph.proofs.text.put_vars_of.Goals as goal
 use Rattle.sg_graph.proofs.text.put_vars_of.Goals.{then-has+in_ok-put_spaced, else-has}
 
@@ -10,19 +9,10 @@ loop-number-init c = words_none (variable_name c.args.graph.now) c.args.vars c.a
 
 pub loop-number-preserved : goal.loop-number-preserved
 loop-number-preserved c =
-    elim c.if-has.branch [
-      | then-has+in_ok-put_spaced w ↦
-          (let there : is_in c.loop-number.number c.args.vars ≡ true = sym c.has.ensures ∙ w.if-has.true in
-          let more : c.if-has.out ≡ c.loop-number.out ++ 32 ∷ variable_name c.args.graph.now c.loop-number.number = search rules in
-          words_more (variable_name c.args.graph.now) (length c.args.graph.now.variables) c.args.vars c.loop-number.number c.args.out.now c.loop-number.out c.if-has.out
-          c.requires there c.loop-number.invariant more)
-      | else-has w ↦
-          (let away : is_in c.loop-number.number c.args.vars ≡ false = sym c.has.ensures ∙ w.if-has.false in
-          w.out-is ∙ words_same (variable_name c.args.graph.now) (length c.args.graph.now.variables) c.args.vars c.loop-number.number c.args.out.now c.loop-number.out
-          c.requires away c.loop-number.invariant)
-    ]
+    words_next (variable_name c.args.graph.now) _ c.args.vars c.loop-number.number c.args.out.now c.loop-number.out c.if-has.out c.has.result c.requires c.has.ensures c.loop-number.invariant (elim c.if-has.branch [
+      | then-has+in_ok-put_spaced w ↦ inl (w.if-has.true, search rules)
+      | else-has w ↦ inr (w.if-has.false, w.out-is)
+    ])
 
 pub returns : goal.returns
-returns c =
-    words_all (variable_name c.args.graph.now) (length c.args.graph.now.variables) c.args.vars c.loop-number.number c.args.out.now c.loop-number.out
-    c.requires (omega arith) c.loop-number.invariant
+returns c = words_all (variable_name c.args.graph.now) (length c.args.graph.now.variables) c.args.vars c.loop-number.number c.args.out.now c.loop-number.out c.requires (omega arith) c.loop-number.invariant
