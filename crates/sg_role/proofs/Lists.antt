@@ -1,11 +1,11 @@
 -- Numbers from 0 on, what stands at an index of a list, and what is kept of one that grows.
-use Rattle.std.proofs.Common.{◌≡◌, ℕ, zero, suc, ◌+◌, ◌<◌, ◌≤◌, Bool, true, false, not, nat_lt, List, [], ◌∷◌, ◌++◌, map, length, take, drop, get_or, slice_get, refl, ◌∙◌, ap, Some, None, option_map, position, if◌then◌else◌, arith, inl, inr}
+use Rattle.std.proofs.Common.{◌≡◌, ℕ, zero, suc, ◌+◌, ◌<◌, ◌≤◌, Bool, true, false, not, nat_lt, List, [], ◌∷◌, ◌++◌, map, filter, length, take, drop, get_or, slice_get, refl, sym, ◌∙◌, ap, Some, None, option_map, position, if◌then◌else◌, arith, inl, inr, ◌⊎◌}
 use Rattle.std.specs.List.{prefix_len}
 use Rattle.std.proofs.lemmas.Bool.{cases_Bool}
 use Rattle.std.proofs.lemmas.Bool.Decides.{nat_tests}
-use Rattle.sg_model.specs.Lists.{below}
+use Rattle.sg_model.specs.Lists.{below, is_in}
 use Rattle.sg_model.proofs.Small.{some_same, zero_less, heads, tails}
-use Rattle.sg_model.proofs.Numbers.{below-suc, map_below_more}
+use Rattle.sg_model.proofs.Numbers.{below-suc, map_below_more, filter_below_in, filter_below_out}
 
 -- one more of the same for one more number
 pub const_more : {A : Type 0} (a : A) (i : ℕ) → map (λ (x : ℕ). a) (below (i + 1)) ≡ map (λ (x : ℕ). a) (below i) ++ a ∷ []
@@ -18,6 +18,12 @@ const_more a i = ap (map (λ (x : ℕ). a)) (below-suc i) ∙ go (below i)
 -- what is given for each number below one more
 pub map_below : {A : Type 0} (f : ℕ → A) (i : ℕ) → map f (below (i + 1)) ≡ map f (below i) ++ f i ∷ []
 map_below f i = map_below_more f i
+
+-- the numbers of a set below one more: the number is added if it is in the set
+pub members_next : (set : List ℕ) (i : ℕ) (b : Bool) (now next : List ℕ) → b ≡ is_in i set → now ≡ filter (λ x. is_in x set) (below i)
+    → ((b ≡ true) × (next ≡ now ++ i ∷ [])) ⊎ ((b ≡ false) × (next ≡ now)) → next ≡ filter (λ x. is_in x set) (below (i + 1))
+members_next set i b now next is before (inl y) = y.1 ∙ ap (λ l. l ++ i ∷ []) before ∙ sym (filter_below_in (λ x. is_in x set) i (sym is ∙ y.0))
+members_next set i b now next is before (inr n) = n.1 ∙ before ∙ sym (filter_below_out (λ x. is_in x set) i (sym is ∙ n.0))
 
 -- ---- indices
 

@@ -38,6 +38,6 @@ pub use fault::{Refusal, SendFault};
 pub use sent::Sent;
 pub use turn::Turn;
 pub use turn_or_done::{Done, TurnOrDone};
-pub use values::facts_of_values;
+pub use values::{facts_of_each, facts_of_values};
 pub use verdict::examine;
 pub use wait::Await;

@@ -172,8 +172,8 @@ pub fn facts_of_values(values: &[(Var, Value)], confounders: &[[u8; 16]])
     facts_of_confounders(confounders);
 }
 
-// What the types say of each of these.
-fn facts_of_each(values: &[(Var, Value)])
+/// What the types say of each of these values. Nothing is done.
+pub fn facts_of_each(values: &[(Var, Value)])
     ensures { AllByRecursion (λ w. (w.0 < 256) × IsValue w.1) (values_of values.now) }
 {
     for at in 0..values.len() {
