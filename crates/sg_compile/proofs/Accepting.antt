@@ -8,13 +8,4 @@ use Rattle.sg_protocol.specs.Graph.{Graph, shape}
 
 -- the parts of an accepted graph
 pub accepted_from : (g : Graph) → 2 ≤ length g.roles → HasShape g → AcceptedReads g → Sighted (shape g) → Accepted g
-accepted_from g two s r b = record {
-  two_roles = two;
-  each_role_has_node = s.each_role_has_node;
-  no_self_edge = s.no_self_edge;
-  all_reached = s.all_reached;
-  writers_write = r.writers_write;
-  others_read = r.others_read;
-  reads_known = r.reads_known;
-  sighted = b;
-}
+accepted_from g two s r b = search

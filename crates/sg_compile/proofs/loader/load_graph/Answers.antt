@@ -19,18 +19,13 @@ returns-in_default-find_role-clause-fault c =
       none_role c.args.text.now c.in-Some.index c.args.name.now c.in-Some-2.graph c.in-Some.ensures.split is (λ there. true≢false (sym (c.in_default-find_role.ensures.found.1 there))),
     )
 
-pub returns-clause-ok : goal.returns-clause-ok
-returns-clause-ok c =
+pub returns : goal.returns
+returns c =
     let is : IsCanonical (take c.in-Some.index c.args.text.now) c.in-Some-2.graph = rw c.split_at.ensures.front at (rw c.in-Some-2.is at c.in_ok-graph.ensures.ok) in
     let index = c.in-Some-find_role.ensures.index in
     let has : HasGraph c.args.text.now c.args.name.now c.in-Some-2.graph c.in-Some-find_role.role (drop (c.in-Some.index + 6) c.args.text.now) =
     graph_read c.args.text.now c.in-Some.index c.args.name.now c.in-Some-2.graph c.in-Some-find_role.role c.in-Some.ensures.here is index.0 index.1 in
-    loaded c.args.start c.args.name.now c.args.text.now _ c.in-Some-2.graph c.in-Some-find_role.role has c.load_table.result (rw c.split_at-2.ensures.back at c.load_table.ensures.ok)
-
-pub returns-clause-fault : goal.returns-clause-fault
-returns-clause-fault c =
-    let is : IsCanonical (take c.in-Some.index c.args.text.now) c.in-Some-2.graph = rw c.split_at.ensures.front at (rw c.in-Some-2.is at c.in_ok-graph.ensures.ok) in
-    let index = c.in-Some-find_role.ensures.index in
-    let has : HasGraph c.args.text.now c.args.name.now c.in-Some-2.graph c.in-Some-find_role.role (drop (c.in-Some.index + 6) c.args.text.now) =
-    graph_read c.args.text.now c.in-Some.index c.args.name.now c.in-Some-2.graph c.in-Some-find_role.role c.in-Some.ensures.here is index.0 index.1 in
-    fault_behind c.args.start c.args.name.now c.args.text.now _ c.in-Some-2.graph c.in-Some-find_role.role has c.load_table.result (rw c.split_at-2.ensures.back at c.load_table.ensures.fault)
+    record {
+      ok = loaded c.args.start c.args.name.now c.args.text.now _ c.in-Some-2.graph c.in-Some-find_role.role has c.load_table.result (rw c.split_at-2.ensures.back at c.load_table.ensures.ok);
+      fault = fault_behind c.args.start c.args.name.now c.args.text.now _ c.in-Some-2.graph c.in-Some-find_role.role has c.load_table.result (rw c.split_at-2.ensures.back at c.load_table.ensures.fault);
+    }
