@@ -93,6 +93,10 @@ module _ (m : Medium) (call : DiskCall) (bytes : List ℕ) (total : all_taken m.
     keeps = λ t image le past. (past.0, past.1, omega (arith, past.2, longer), subst (λ (p : Platter). IsImage p image) (sym (earlier past.0 past.2)) past.3);
   }
 
+-- the record of a medium
+abbrev pub medium_of : Inside → Medium
+medium_of m = record { start = m.start.items; calls = m.calls.items; written = m.written.items; room = m.room; most = m.most }
+
 -- what stands beside the record after one call more
 pub state_after : (old : Inside) (calls : List DiskCall) (written : List ℕ) (call : DiskCall) (bytes : List ℕ) → IsTied old
     → calls ≡ old.calls.items ++ call ∷ [] → written ≡ old.written.items ++ bytes
@@ -107,17 +111,24 @@ total_after old calls written call bytes tied are were took =
     let longer : length written ≡ length old.written.items + length bytes = ap length were ∙ length-append old.written.items bytes in
     omega (arith, more, longer, took, tied.total)
 
-pub time_after : (m : Medium) (calls : List DiskCall) (written : List ℕ) (call : DiskCall) (bytes : List ℕ) → all_taken m.calls ≡ length m.written
-    → calls ≡ m.calls ++ call ∷ [] → written ≡ m.written ++ bytes
-    → Elapses (length m.calls) (length calls) (LeftSince m) (LeftSince (record { start = m.start; calls = calls; written = written; room = m.room; most = m.most }))
-    (IsImage (platter (record { start = m.start; calls = calls; written = written; room = m.room; most = m.most })))
-time_after m calls written call bytes total are were =
-    subst (λ (n : Medium). Elapses (length m.calls) (length n.calls) (LeftSince m) (LeftSince n) (IsImage (platter n)))
-    (λ i. record { start = m.start; calls = sym are i; written = sym were i; room = m.room; most = m.most })
-    (time_goes_on m call bytes total)
+pub time_after : (old : Inside) (calls : List DiskCall) (written : List ℕ) (call : DiskCall) (bytes : List ℕ) → IsTied old
+    → calls ≡ old.calls.items ++ call ∷ [] → written ≡ old.written.items ++ bytes
+    → Elapses (length old.calls.items) (length calls) (LeftSince (medium_of old)) (LeftSince (record (medium_of old) { calls = calls; written = written }))
+    (IsImage (platter (record (medium_of old) { calls = calls; written = written })))
+time_after old calls written call bytes tied are were =
+    subst (λ (n : Medium). Elapses (length old.calls.items) (length n.calls) (LeftSince (medium_of old)) (LeftSince n) (IsImage (platter n)))
+    (λ i. let m : Medium = medium_of old in record m { calls = sym are i; written = sym were i })
+    (time_goes_on (medium_of old) call bytes tied.total)
 
 pub one_longer : {A : Type 0} (xs ys : List A) (x : A) → ys ≡ xs ++ x ∷ [] → length ys ≡ length xs + 1
 one_longer xs ys x is = ap length is ∙ length-append xs (x ∷ [])
+
+-- there was room for the call
+pub calls_fit : (old : Inside) {m : Medium} (calls : List DiskCall) (call : DiskCall) → medium_of old ≡ m → length m.calls < m.most → calls ≡ old.calls.items ++ call ∷ [] → length calls ≤ old.most
+calls_fit old calls call seen room are =
+    let longer = one_longer old.calls.items calls call are in
+    let fewer : length old.calls.items < old.most = subst (λ (n : Medium). length n.calls < n.most) (sym seen) room in
+    omega (arith, longer, fewer)
 
 abbrev pub Ranges : ℕ → List (ℕ × ℕ) → Type 0
 Ranges room tears = All (λ r. r.0 + r.1 ≤ room) tears

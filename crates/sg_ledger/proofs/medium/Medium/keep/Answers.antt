@@ -3,7 +3,7 @@ use Rattle.std.proofs.lemmas.List.{take_all}
 use Rattle.sg_ledger.specs.Disk.{overlaid}
 use Rattle.sg_ledger.specs.Memory.{Platter, Medium, platter}
 use Rattle.sg_ledger.specs.declared.medium.DiskCall.TheVariants.{Kept, Wrote, Tore, Synced}
-use Rattle.sg_ledger.proofs.Replay.{state_after, total_after, time_after, one_longer, no_ranges, more_ranges}
+use Rattle.sg_ledger.proofs.Replay.{state_after, total_after, time_after, one_longer, calls_fit, no_ranges, more_ranges}
 use Rattle.sg_ledger.proofs.medium.Medium.keep.Goals as goal
 
 pub invariant_of-self : goal.invariant_of-self
@@ -11,7 +11,6 @@ invariant_of-self c =
     let old = c.self.invariant in
     let after = state_after c.self.inside c.push_within.new.list.items c.self.inside.written.items Kept [] old c.push_within.ensures.items (sym (append-nil c.self.inside.written.items)) in
     let longer = one_longer c.self.inside.calls.items c.push_within.new.list.items Kept c.push_within.ensures.items in
-    let free : length c.self.inside.calls.items < c.self.inside.most = subst (λ (m : Medium). length m.calls < m.most) (sym c.self.view_is) c.requires in
     record {
       seen = old.seen ∙ ap (λ (p : Platter). p.seen) (sym after);
       synced = old.synced ∙ ap (λ (p : Platter). p.synced) (sym after);
@@ -22,7 +21,7 @@ invariant_of-self c =
       within_start = old.within_start;
       within_written = old.within_written;
       within_tears = omega (arith, old.within_tears, longer);
-      within_calls = omega (arith, free, longer);
+      within_calls = calls_fit c.self.inside c.push_within.new.list.items Kept c.self.view_is c.requires c.push_within.ensures.items;
       ranges = old.ranges;
       small = old.small;
       room_start = old.room_start;
@@ -34,11 +33,7 @@ invariant_of-self c =
     }
 
 pub returns-clause-time : goal.returns-clause-time
-returns-clause-time c = rw (← c.self.view_is)
-    (time_after
-    (record { start = c.self.inside.start.items; calls = c.self.inside.calls.items; written = c.self.inside.written.items; room = c.self.inside.room; most = c.self.inside.most })
-    c.push_within.new.list.items c.self.inside.written.items Kept [] c.self.invariant.total c.push_within.ensures.items (sym (append-nil c.self.inside.written.items)))
+returns-clause-time c = rw (← c.self.view_is) (time_after c.self.inside c.push_within.new.list.items c.self.inside.written.items Kept [] c.self.invariant c.push_within.ensures.items (sym (append-nil c.self.inside.written.items)))
 
 pub returns-clause-state : goal.returns-clause-state
-returns-clause-state c = rw (← c.self.view_is)
-    (state_after c.self.inside c.push_within.new.list.items c.self.inside.written.items Kept [] c.self.invariant c.push_within.ensures.items (sym (append-nil c.self.inside.written.items)))
+returns-clause-state c = rw (← c.self.view_is) (state_after c.self.inside c.push_within.new.list.items c.self.inside.written.items Kept [] c.self.invariant c.push_within.ensures.items (sym (append-nil c.self.inside.written.items)))

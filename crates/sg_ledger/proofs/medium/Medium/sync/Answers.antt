@@ -3,15 +3,13 @@ use Rattle.std.proofs.lemmas.List.{take_all}
 use Rattle.sg_ledger.specs.Disk.{overlaid}
 use Rattle.sg_ledger.specs.Memory.{Platter, Medium, platter}
 use Rattle.sg_ledger.specs.declared.medium.DiskCall.TheVariants.{Kept, Wrote, Tore, Synced}
-use Rattle.sg_ledger.proofs.Replay.{state_after, total_after, time_after, one_longer, no_ranges, more_ranges}
+use Rattle.sg_ledger.proofs.Replay.{state_after, total_after, time_after, calls_fit, no_ranges}
 use Rattle.sg_ledger.proofs.medium.Medium.sync.Goals as goal
 
 pub invariant_of-self : goal.invariant_of-self
 invariant_of-self c =
     let old = c.self.invariant in
     let after = state_after c.self.inside c.push_within.new.list.items c.self.inside.written.items Synced [] old c.push_within.ensures.items (sym (append-nil c.self.inside.written.items)) in
-    let longer = one_longer c.self.inside.calls.items c.push_within.new.list.items Synced c.push_within.ensures.items in
-    let free : length c.self.inside.calls.items < c.self.inside.most = subst (λ (m : Medium). length m.calls < m.most) (sym c.self.view_is) c.requires in
     let copied = ap length (c.put_within.ensures.items ∙ c.deref.ensures.value) in
     let none = ap length c.clear.ensures.items in
     record {
@@ -24,7 +22,7 @@ invariant_of-self c =
       within_start = old.within_start;
       within_written = old.within_written;
       within_tears = omega (arith, none);
-      within_calls = omega (arith, free, longer);
+      within_calls = calls_fit c.self.inside c.push_within.new.list.items Synced c.self.view_is c.requires c.push_within.ensures.items;
       ranges = no_ranges c.self.inside.room c.clear.new.self.items c.clear.ensures.items;
       small = old.small;
       room_start = old.room_start;
@@ -36,11 +34,7 @@ invariant_of-self c =
     }
 
 pub returns-clause-time : goal.returns-clause-time
-returns-clause-time c = rw (← c.self.view_is)
-    (time_after
-    (record { start = c.self.inside.start.items; calls = c.self.inside.calls.items; written = c.self.inside.written.items; room = c.self.inside.room; most = c.self.inside.most })
-    c.push_within.new.list.items c.self.inside.written.items Synced [] c.self.invariant.total c.push_within.ensures.items (sym (append-nil c.self.inside.written.items)))
+returns-clause-time c = rw (← c.self.view_is) (time_after c.self.inside c.push_within.new.list.items c.self.inside.written.items Synced [] c.self.invariant c.push_within.ensures.items (sym (append-nil c.self.inside.written.items)))
 
 pub returns-clause-state : goal.returns-clause-state
-returns-clause-state c = rw (← c.self.view_is)
-    (state_after c.self.inside c.push_within.new.list.items c.self.inside.written.items Synced [] c.self.invariant c.push_within.ensures.items (sym (append-nil c.self.inside.written.items)))
+returns-clause-state c = rw (← c.self.view_is) (state_after c.self.inside c.push_within.new.list.items c.self.inside.written.items Synced [] c.self.invariant c.push_within.ensures.items (sym (append-nil c.self.inside.written.items)))

@@ -3,7 +3,7 @@ use Rattle.std.proofs.lemmas.List.{take_all}
 use Rattle.sg_ledger.specs.Disk.{overlaid}
 use Rattle.sg_ledger.specs.Memory.{Platter, Medium, platter}
 use Rattle.sg_ledger.specs.declared.medium.DiskCall.TheVariants.{Kept, Wrote, Tore, Synced}
-use Rattle.sg_ledger.proofs.Replay.{state_after, total_after, time_after, one_longer, no_ranges, more_ranges}
+use Rattle.sg_ledger.proofs.Replay.{state_after, total_after, time_after, one_longer, calls_fit, no_ranges, more_ranges}
 use Rattle.sg_ledger.proofs.medium.Medium.tear.Goals as goal
 
 pub invariant_of-self : goal.invariant_of-self
@@ -11,7 +11,6 @@ invariant_of-self c =
     let old = c.self.invariant in
     let after = state_after c.self.inside c.push_within-2.new.list.items c.self.inside.written.items (Tore c.args.at c.args.count) [] old c.push_within-2.ensures.items (sym (append-nil c.self.inside.written.items)) in
     let longer = one_longer c.self.inside.calls.items c.push_within-2.new.list.items (Tore c.args.at c.args.count) c.push_within-2.ensures.items in
-    let free : length c.self.inside.calls.items < c.self.inside.most = subst (λ (m : Medium). length m.calls < m.most) (sym c.self.view_is) c.requires.call in
     let torn = one_longer c.self.inside.tears.items c.push_within.new.list.items (c.args.at, c.args.count) c.push_within.ensures.items in
     let fits : c.args.at + c.args.count ≤ c.self.inside.room = subst (λ (m : Medium). c.args.at + c.args.count ≤ m.room) (sym c.self.view_is) c.requires.fits in
     record {
@@ -24,7 +23,7 @@ invariant_of-self c =
       within_start = old.within_start;
       within_written = old.within_written;
       within_tears = omega (arith, torn, longer, old.within_tears);
-      within_calls = omega (arith, free, longer);
+      within_calls = calls_fit c.self.inside c.push_within-2.new.list.items (Tore c.args.at c.args.count) c.self.view_is c.requires.call c.push_within-2.ensures.items;
       ranges = more_ranges c.self.inside.room c.self.inside.tears.items c.push_within.new.list.items c.args.at c.args.count old.ranges fits c.push_within.ensures.items;
       small = old.small;
       room_start = old.room_start;
@@ -36,11 +35,7 @@ invariant_of-self c =
     }
 
 pub returns-clause-time : goal.returns-clause-time
-returns-clause-time c = rw (← c.self.view_is)
-    (time_after
-    (record { start = c.self.inside.start.items; calls = c.self.inside.calls.items; written = c.self.inside.written.items; room = c.self.inside.room; most = c.self.inside.most })
-    c.push_within-2.new.list.items c.self.inside.written.items (Tore c.args.at c.args.count) [] c.self.invariant.total c.push_within-2.ensures.items (sym (append-nil c.self.inside.written.items)))
+returns-clause-time c = rw (← c.self.view_is) (time_after c.self.inside c.push_within-2.new.list.items c.self.inside.written.items (Tore c.args.at c.args.count) [] c.self.invariant c.push_within-2.ensures.items (sym (append-nil c.self.inside.written.items)))
 
 pub returns-clause-state : goal.returns-clause-state
-returns-clause-state c = rw (← c.self.view_is)
-    (state_after c.self.inside c.push_within-2.new.list.items c.self.inside.written.items (Tore c.args.at c.args.count) [] c.self.invariant c.push_within-2.ensures.items (sym (append-nil c.self.inside.written.items)))
+returns-clause-state c = rw (← c.self.view_is) (state_after c.self.inside c.push_within-2.new.list.items c.self.inside.written.items (Tore c.args.at c.args.count) [] c.self.invariant c.push_within-2.ensures.items (sym (append-nil c.self.inside.written.items)))
