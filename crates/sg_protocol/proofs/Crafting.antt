@@ -29,7 +29,8 @@ module _ (sha : Hash) (s t : Schedule) (w w' : World) (tag_same : (text : List �
       ap (λ (i : Item). i ∷ crafted_items sha s w g x (before ++ i ∷ []) cs) (item_same g x before c)
       ∙ ap (λ l. crafted_item sha t w' g x before c ∷ l) (items_same g x (before ++ crafted_item sha t w' g x before c ∷ []) cs)
 
-  frame_same : (c : Craft) (g : Graph) (x : Session) → crafted_frame sha s w c g x ≡ crafted_frame sha t w' c g x
+  -- so in a graph and a session
+  pub frame_same : (c : Craft) (g : Graph) (x : Session) → crafted_frame sha s w c g x ≡ crafted_frame sha t w' c g x
   frame_same c g x =
       ap finish (items_same g x (known_item sha x.sid c.know ∷ []) c.items)
       ∙ ap (λ (z : List ℕ). record (plain (crafted_items sha t w' g x (known_item sha x.sid c.know ∷ []) c.items)) { tag = cut x.cast.version z }) (tag_same (text_of (plain (crafted_items sha t w' g x (known_item sha x.sid c.know ∷ []) c.items))) c.seal)

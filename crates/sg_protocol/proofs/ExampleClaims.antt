@@ -1,12 +1,12 @@
 -- Claims of the shop that hold, and claims that don't.
-use Rattle.std.specs.Prelude.{◌≡◌, ℕ, ◌<◌, Bool, true, false, not, ◌&&◌, ◌||◌, List, [], ◌∷◌, length, refl}
+use Rattle.std.specs.Prelude.{◌≡◌, ℕ, ◌<◌, Bool, true, false, not, ◌&&◌, ◌||◌, List, [], ◌∷◌, length, refl, IsTrue}
 use Rattle.std.specs.List.{list_all}
 use Rattle.std.specs.Bool.{beq}
 use Rattle.std.proofs.Common.{arith, lit<}
 use Rattle.std.proofs.lemmas.Bool.{and_parts}
 use Rattle.sg_model.specs.Lists.{below, is_in}
 use Rattle.sg_model.specs.Shape.{Shape, Walk, source, target}
-use Rattle.sg_model.specs.Claims.{Claim, Needs, Bars, HoldsOnWalks, bit_after, right_bit, IsBroken, Confined}
+use Rattle.sg_model.specs.Claims.{Claim, Needs, Bars, HoldsOnWalks, bit_after, bit_after_all, right_bit, IsBroken, Confined}
 use Rattle.sg_model.proofs.OneBit.{confined_holds, bits_decide}
 use Rattle.sg_protocol.specs.Graph.{shape}
 use Rattle.sg_protocol.proofs.Spelled.{range_all}
@@ -88,19 +88,23 @@ to_second_offer = order ∷ ask ∷ offer ∷ pass ∷ retry ∷ ask ∷ []
 follows_to_second : Walk (shape shop) 0 to_second_offer
 follows_to_second = (lit< tt, refl, (lit< tt, refl, (lit< tt, refl, (lit< tt, refl, (lit< tt, refl, (lit< tt, refl, tt))))))
 
+-- a claim of offers that has the wrong bit there is broken
+breaks : (c : Claim) → bit_after_all c false to_second_offer ≡ not (right_bit c.kind) → IsTrue (is_in offer c.later) → IsBroken (shape shop) c
+breaks c bit later = record {
+  node = 2;
+  reached = record { walk = to_second_offer; follows = follows_to_second; ends = refl; has_bit = bit };
+  label = offer;
+  is_edge = lit< tt;
+  leaves = refl;
+  is_later = later;
+}
+
 -- there is at most one offer
 abbrev one_offer : Claim
 one_offer = record { kind = Bars; later = offer ∷ []; earlier = offer ∷ []; since = [] }
 
 two_offers : IsBroken (shape shop) one_offer
-two_offers = record {
-  node = 2;
-  reached = record { walk = to_second_offer; follows = follows_to_second; ends = refl; has_bit = refl };
-  label = offer;
-  is_edge = lit< tt;
-  leaves = refl;
-  is_later = refl;
-}
+two_offers = breaks one_offer refl refl
 
 not_one_offer : HoldsOnWalks (shape shop) one_offer → ⊥
 not_one_offer h = (bits_decide (shape shop) one_offer).0 h two_offers
@@ -110,14 +114,7 @@ abbrev offers_own_order : Claim
 offers_own_order = record { kind = Needs; later = offer ∷ []; earlier = order ∷ []; since = offer ∷ [] }
 
 offer_without_order : IsBroken (shape shop) offers_own_order
-offer_without_order = record {
-  node = 2;
-  reached = record { walk = to_second_offer; follows = follows_to_second; ends = refl; has_bit = refl };
-  label = offer;
-  is_edge = lit< tt;
-  leaves = refl;
-  is_later = refl;
-}
+offer_without_order = breaks offers_own_order refl refl
 
 not_own_order : HoldsOnWalks (shape shop) offers_own_order → ⊥
 not_own_order h = (bits_decide (shape shop) offers_own_order).0 h offer_without_order

@@ -11,7 +11,7 @@ use Rattle.sg_protocol.specs.World.{World, Outcome, Answered, Crafted, NoFrame}
 use Rattle.sg_protocol.specs.Run.{run, events_of}
 use Rattle.sg_protocol.specs.Premises.{hashed}
 use Rattle.sg_protocol.specs.Explaining.{filled, walk_after_event, walk_after_steps}
-use Rattle.sg_protocol.proofs.Examples.{shop, pair, order, ask, offer, refuse, pass, deny, retry, programs, alice, bob, carl, shop_schedule, pair_schedule, outcomes, toy, forged, colliding}
+use Rattle.sg_protocol.proofs.Examples.{shop, pair, order, ask, offer, refuse, pass, deny, retry, programs, alice, bob, carl, shop_schedule, pair_schedule, outcomes, toy, first_told, forged, colliding}
 
 -- a word for the outcome of a step
 abbrev word_of_answer : Answer → List ℕ
@@ -151,16 +151,7 @@ old_offer = refl
 
 -- a frame that a compromised principal could not have made breaks the assumption at the step that accepts it
 abbrev false_request : Schedule
-false_request = pair_schedule toy (codes "a" ∷ codes "b" ∷ []) (CraftStep (record {
-  session = 0;
-  from = 0;
-  to = 1;
-  join = Some (record { nonce = None; names = None });
-  know = [];
-  items = record { label = 0; time = 1; delta = []; tags = [] } ∷ [];
-  openings = [];
-  seal = Key (codes "a") (codes "b");
-}) ∷ deliver (codes "b") 1 ∷ [])
+false_request = pair_schedule toy (codes "a" ∷ codes "b" ∷ []) (CraftStep (first_told 0 (Key (codes "a") (codes "b"))) ∷ deliver (codes "b") 1 ∷ [])
 
 false_step : forged false_request (run toy (programs toy pair 6) false_request) ≡ 2 ∷ []
 false_step = refl

@@ -43,7 +43,7 @@ use Rattle.sg_protocol.specs.Claims.{IsClaimKept}
 use Rattle.sg_protocol.proofs.Spelled.{Bytes_, to_bytes}
 use Rattle.sg_protocol.proofs.Causes.{claims_are_kept}
 use Rattle.sg_protocol.proofs.ExampleClaims.{fits_confines}
-use Rattle.sg_protocol.proofs.Examples.{alice, bob, carl, key, cast, toy}
+use Rattle.sg_protocol.proofs.Examples.{alice, bob, carl, key, cast, toy, first_told}
 
 -- ---- a graph of one edge
 
@@ -178,16 +178,7 @@ abbrev pong : Name
 pong = codes "pong"
 
 abbrev the_craft : Craft
-the_craft = record {
-  session = 1;
-  from = 0;
-  to = 1;
-  join = Some (record { nonce = None; names = None });
-  know = [];
-  items = record { label = 0; time = 1; delta = []; tags = [] } ∷ [];
-  openings = [];
-  seal = Key bob carl;
-}
+the_craft = first_told 1 (Key bob carl)
 
 abbrev speaks : Step
 speaks = CraftStep the_craft

@@ -1,5 +1,5 @@
 -- Graphs, schedules and tables on which the definitions are computed: examples that are checked, and no part of any law.
-use Rattle.std.specs.Prelude.{ℕ, zero, suc, ◌+◌, ◌*◌, ◌%◌, ◌^◌, ◌==◌, Bool, true, false, not, ◌&&◌, ◌||◌, if◌then◌else◌, List, [], ◌∷◌, map, filter, flat_map, replicate, length, fold, codes, nat_lt, bytes_eq}
+use Rattle.std.specs.Prelude.{ℕ, zero, suc, ◌+◌, ◌*◌, ◌%◌, ◌^◌, ◌==◌, Bool, true, false, not, ◌&&◌, ◌||◌, if◌then◌else◌, List, [], ◌∷◌, map, filter, flat_map, replicate, length, fold, codes, nat_lt, bytes_eq, Some, None}
 use Rattle.std.specs.List.{list_any}
 use Rattle.std.specs.Int.{bytes_high_first}
 use Rattle.sg_model.specs.Lists.{below, is_in}
@@ -9,7 +9,7 @@ use Rattle.sg_protocol.specs.Evidence.{View, view_of, same_view, view_before}
 use Rattle.sg_protocol.specs.Frame.{Cast}
 use Rattle.sg_protocol.specs.Texts.{Hash, graph_digest}
 use Rattle.sg_protocol.specs.Keyring.{Program}
-use Rattle.sg_protocol.specs.Schedule.{Schedule, Step, is_honest}
+use Rattle.sg_protocol.specs.Schedule.{Schedule, Source, Craft, Step, is_honest}
 use Rattle.sg_protocol.specs.World.{Outcome, World}
 use Rattle.sg_protocol.specs.Run.{run}
 use Rattle.sg_protocol.specs.Crafted.{nonce_of}
@@ -169,6 +169,19 @@ relay = record {
   edges = record { name = codes "Put"; source = 0; target = 1; writes = 0 ∷ []; reads = 0 ∷ [] }
       ∷ record { name = codes "Hand"; source = 1; target = 2; writes = []; reads = 0 ∷ [] }
       ∷ record { name = codes "Show"; source = 2; target = 3; writes = []; reads = 0 ∷ [] } ∷ [];
+}
+
+-- role 0 tells role 1 the first label of a session, under a seal
+abbrev pub first_told : ℕ → Source → Craft
+first_told session seal = record {
+  session = session;
+  from = 0;
+  to = 1;
+  join = Some (record { nonce = None; names = None });
+  know = [];
+  items = record { label = 0; time = 1; delta = []; tags = [] } ∷ [];
+  openings = [];
+  seal = seal;
 }
 
 -- the outcome of each step

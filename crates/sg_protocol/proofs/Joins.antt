@@ -100,12 +100,12 @@ third a b c os h = (none_parts c os (none_parts b (c ∷ os) (none_parts a (b �
 pub fourth : {F : Type 0} (a b c d : Option F) (os : List (Option F)) → first_some (a ∷ b ∷ c ∷ d ∷ os) ≡ None → d ≡ None
 fourth a b c d os h = third b c d os (none_parts a (b ∷ c ∷ d ∷ os) h).1
 
--- the first four rows and the others
-abbrev head_of : {F : Type 0} → List (Option F) → Option F
+-- the first row and the others
+abbrev pub head_of : {F : Type 0} → List (Option F) → Option F
 head_of [] = None
 head_of (o ∷ os) = o
 
-abbrev tail_of : {F : Type 0} → List (Option F) → List (Option F)
+abbrev pub tail_of : {F : Type 0} → List (Option F) → List (Option F)
 tail_of [] = []
 tail_of (o ∷ os) = os
 
