@@ -52,57 +52,50 @@ tag_zero v = record { bytes = (refl, zeros 32); zeros = on (v == 2) }
     on true = refl
     on false = refl
 
--- the tags with zeros
-zero_tags : (v : ℕ) (F : ℕ × Source → List ℕ) (ts : Map Source) → AllByRecursion (λ (t : ℕ × List ℕ). (t.0 < 16) × IsTag v t.1) (map {B = ℕ × List ℕ} (λ (t : ℕ × Source). (t.0, F t)) ts) → AllByRecursion (λ (t : ℕ × List ℕ). (t.0 < 16) × IsTag v t.1) (map {B = ℕ × List ℕ} (λ (t : ℕ × Source). (t.0, no_tag)) ts)
-zero_tags v F [] h = tt
-zero_tags v F (t ∷ ts) h = ((h.0.0, tag_zero v), zero_tags v F ts h.1)
-
--- the tags that were made
-made_tags : (v : ℕ) (F : ℕ × Source → List ℕ) (ts : Map Source) → AllByRecursion (λ (t : ℕ × List ℕ). (t.0 < 16) × IsTag v t.1) (map {B = ℕ × List ℕ} (λ (t : ℕ × Source). (t.0, no_tag)) ts) → AllByRecursion (λ (t : ℕ × List ℕ). IsTag v t.1) (map {B = ℕ × List ℕ} (λ (t : ℕ × Source). (t.0, F t)) ts) → AllByRecursion (λ (t : ℕ × List ℕ). (t.0 < 16) × IsTag v t.1) (map {B = ℕ × List ℕ} (λ (t : ℕ × Source). (t.0, F t)) ts)
-made_tags v F [] h k = tt
-made_tags v F (t ∷ ts) h k = ((h.0.0, k.0), made_tags v F ts h.1 k.1)
-
-same_keys : (F G : ℕ × Source → List ℕ) (ts : Map Source) → keys_of (map {B = ℕ × List ℕ} (λ (t : ℕ × Source). (t.0, F t)) ts) ≡ keys_of (map {B = ℕ × List ℕ} (λ (t : ℕ × Source). (t.0, G t)) ts)
-same_keys F G [] = refl
-same_keys F G (t ∷ ts) = ap (λ l. t.0 ∷ l) (same_keys F G ts)
-
-same_count : (F G : ℕ × Source → List ℕ) (ts : Map Source) → length (map {B = ℕ × List ℕ} (λ (t : ℕ × Source). (t.0, F t)) ts) ≡ length (map {B = ℕ × List ℕ} (λ (t : ℕ × Source). (t.0, G t)) ts)
-same_count F G [] = refl
-same_count F G (t ∷ ts) = ap suc (same_count F G ts)
+-- the tags that a function makes
+abbrev made : (ℕ × Source → List ℕ) → Map Source → Map (List ℕ)
+made F ts = map {B = ℕ × List ℕ} (λ (t : ℕ × Source). (t.0, F t)) ts
 
 abbrev zero_of : ℕ × Source → List ℕ
 zero_of t = no_tag
 
--- an item in range is so with zeros for its tags
-zero_in_range : (m : Means) (v : ℕ) (F : ℕ × Source → List ℕ) (c : CraftItem) → IsItem v (record (plain_item m c) { tags = map {B = ℕ × List ℕ} (λ (t : ℕ × Source). (t.0, F t)) c.tags }) → IsItem v (zero_item m c)
-zero_in_range m v F c h = record {
+zero_tags : (v : ℕ) (ts : Map Source) → AllByRecursion (λ (t : ℕ × List ℕ). IsTag v t.1) (made zero_of ts)
+zero_tags v [] = tt
+zero_tags v (t ∷ ts) = (tag_zero v, zero_tags v ts)
+
+-- other tags for the same roles
+other_tags : (v : ℕ) (F G : ℕ × Source → List ℕ) (ts : Map Source) → AllByRecursion (λ (t : ℕ × List ℕ). (t.0 < 16) × IsTag v t.1) (made F ts) → AllByRecursion (λ (t : ℕ × List ℕ). IsTag v t.1) (made G ts) → AllByRecursion (λ (t : ℕ × List ℕ). (t.0 < 16) × IsTag v t.1) (made G ts)
+other_tags v F G [] h k = tt
+other_tags v F G (t ∷ ts) h k = ((h.0.0, k.0), other_tags v F G ts h.1 k.1)
+
+same_keys : (F G : ℕ × Source → List ℕ) (ts : Map Source) → keys_of (made F ts) ≡ keys_of (made G ts)
+same_keys F G [] = refl
+same_keys F G (t ∷ ts) = ap (λ l. t.0 ∷ l) (same_keys F G ts)
+
+same_count : (F G : ℕ × Source → List ℕ) (ts : Map Source) → length (made F ts) ≡ length (made G ts)
+same_count F G [] = refl
+same_count F G (t ∷ ts) = ap suc (same_count F G ts)
+
+-- an item in range is so with other tags in range for the same roles
+retagged_in_range : (v : ℕ) (F G : ℕ × Source → List ℕ) (i : Item) (ts : Map Source) → IsItem v (record i { tags = made F ts }) → AllByRecursion (λ (t : ℕ × List ℕ). IsTag v t.1) (made G ts) → IsItem v (record i { tags = made G ts })
+retagged_in_range v F G i ts h k = record {
   role = h.role;
   label = h.label;
   time = h.time;
   variables = h.variables;
   delta = h.delta;
-  roles = (subst (λ n. n ≤ 14) (same_count F zero_of c.tags) h.roles.0, subst (λ ks. rises_from 0 ks ≡ true) (same_keys F zero_of c.tags) h.roles.1);
-  tags = zero_tags v F c.tags h.tags;
+  roles = (subst (λ n. n ≤ 14) (same_count F G ts) h.roles.0, subst (λ ks. rises_from 0 ks ≡ true) (same_keys F G ts) h.roles.1);
+  tags = other_tags v F G ts h.tags k;
 }
 
--- and so with tags that are
+-- so it is with the tags that are made, if it is with zeros for its tags
 pub made_in_range : (m : Means) (v : ℕ) (current : List (Option (List ℕ))) (c : CraftItem) → IsItem v (zero_item m c) → AllByRecursion (λ (t : ℕ × List ℕ). IsTag v t.1) (map (tag_made m c current) c.tags) → IsItem v (item_by m current c)
-made_in_range m v current c h k =
-    let F : ℕ × Source → List ℕ = λ t. (tag_made m c current t).1 in
-    record {
-      role = h.role;
-      label = h.label;
-      time = h.time;
-      variables = h.variables;
-      delta = h.delta;
-      roles = (subst (λ n. n ≤ 14) (same_count zero_of F c.tags) h.roles.0, subst (λ ks. rises_from 0 ks ≡ true) (same_keys zero_of F c.tags) h.roles.1);
-      tags = made_tags v F c.tags h.tags k;
-    }
+made_in_range m v current c h k = retagged_in_range v zero_of (λ t. (tag_made m c current t).1) (plain_item m c) c.tags h k
 
 -- crafted items in range are so with zeros for their tags
 pub zeros_in_range : (m : Means) (v : ℕ) (before : List Item) (cs : List CraftItem) → AllByRecursion (IsItem v) (items_after m before cs) → AllByRecursion (λ (c : CraftItem). IsItem v (zero_item m c)) cs
 zeros_in_range m v before [] h = tt
-zeros_in_range m v before (c ∷ cs) h = (zero_in_range m v (λ t. (tag_made m c (commitments m.graph (before ++ plain_item m c ∷ [])) t).1) c h.0, zeros_in_range m v (before ++ item_after m before c ∷ []) cs h.1)
+zeros_in_range m v before (c ∷ cs) h = (retagged_in_range v (λ t. (tag_made m c (commitments m.graph (before ++ plain_item m c ∷ [])) t).1) zero_of (plain_item m c) c.tags h.0 (zero_tags v c.tags), zeros_in_range m v (before ++ item_after m before c ∷ []) cs h.1)
 
 -- there are as many as are asked for
 pub items_count : (m : Means) (before : List Item) (cs : List CraftItem) → length (items_after m before cs) ≡ length cs
