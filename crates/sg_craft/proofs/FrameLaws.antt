@@ -7,7 +7,7 @@ use Rattle.sg_protocol.specs.Crafted.{crafted, no_tag}
 use Rattle.sg_protocol.specs.Frame.{Item, Frame, IsItem, IsTag, tag_len}
 use Rattle.sg_protocol.specs.Schedule.{Schedule, Source, Craft, CraftItem}
 use Rattle.sg_protocol.specs.Session.{commitments}
-use Rattle.sg_protocol.specs.Spelling.{u8, u16, u32, magic, join_code, join_bytes, map_bytes, pair_bytes, item_bytes, opening_bytes, body, spelling, HasSpelling, SpellsFrame}
+use Rattle.sg_protocol.specs.Spelling.{u8, u16, u32, magic, join_code, join_bytes, map_bytes, pair_bytes, item_bytes, opening_bytes, body, spelling, IsInRange, HasSpelling, SpellsFrame}
 use Rattle.sg_protocol.specs.Texts.{real}
 use Rattle.sg_protocol.specs.World.{World}
 use Rattle.sg_protocol.proofs.Sent.{len_concat}
@@ -121,6 +121,20 @@ zero_spelled m c h items =
       short = omega (arith, a, b, d, e, len, t, u, k);
     }
 
+-- another tag of its version keeps a frame in range
+retagged : (f : Frame) (t : List ℕ) → IsInRange f → IsTag f.version t → IsInRange (record f { tag = t })
+retagged f t h g = record {
+  version = h.version;
+  sid = h.sid;
+  roles = h.roles;
+  join = h.join;
+  count = h.count;
+  items = h.items;
+  variables = h.variables;
+  openings = h.openings;
+  tag = g;
+}
+
 -- and with any tag of its version
 pub seal_spelled : (f : Frame) (t : List ℕ) → HasSpelling (record f { tag = no_tag }) → IsTag f.version t → HasSpelling (record f { tag = t })
 seal_spelled f t h g =
@@ -129,20 +143,7 @@ seal_spelled f t h g =
     let x = sent_len f.version t g in
     let y = sent_len f.version no_tag (tag_zero f.version) in
     let k = h.short in
-    record {
-      fields = record {
-        version = h.fields.version;
-        sid = h.fields.sid;
-        roles = h.fields.roles;
-        join = h.fields.join;
-        count = h.fields.count;
-        items = h.fields.items;
-        variables = h.fields.variables;
-        openings = h.fields.openings;
-        tag = g;
-      };
-      short = omega (arith, d, e, x, y, k);
-    }
+    record { fields = retagged (record f { tag = no_tag }) t h.fields g; short = omega (arith, d, e, x, y, k) }
 
 -- ---- the bytes
 
