@@ -31,6 +31,7 @@ use Rattle.sg_protocol.proofs.RealHash.{real_hash}
 use Rattle.sg_protocol.proofs.Representation.{states_represent}
 use Rattle.sg_role.specs.Accepting.{Acceptance}
 use Rattle.sg_role.specs.Faults.{Refuses}
+use Rattle.sg_role.specs.Model.{RoleState}
 use Rattle.sg_role.specs.Sending.{with_notes}
 use Rattle.sg_role.specs.declared.fault.Refusal.{Refusal as RoleRefusal}
 use Rattle.sg_role.specs.declared.fault.Refusal.TheVariants as role
@@ -55,6 +56,14 @@ use Rattle.sg_node.proofs.Takings.{refused_by_role}
 -- what is noted of a frame that is refused before a session is looked at
 abbrev pub first_text : Cast → Notes
 first_text c = record { made = []; found = []; hashed = session_text_of c ∷ [] }
+
+-- the joins and the slots after a pair was joined, once room was made for it
+module _ {s t : RoleState} (same : s ≡ t) where
+  pub pair_joined : {old roomy new : List (List ℕ × ℕ)} → new ≡ roomy ++ (s.held.sid, s.held.role) ∷ [] → roomy ≡ old → new ≡ old ++ (t.held.sid, t.held.role) ∷ []
+  pair_joined {old = old} e r = e ∙ ap (λ z. z ++ (s.held.sid, s.held.role) ∷ []) r ∙ ap (λ (s : RoleState). old ++ (s.held.sid, s.held.role) ∷ []) same
+
+  pub slot_joined : (a : Acceptance) {old roomy new : List Slot} → new ≡ roomy ++ slot_of (s.held.sid, s.held.role) (left_after a) → roomy ≡ old → new ≡ old ++ slot_of (t.held.sid, t.held.role) (left_after a)
+  slot_joined a {old = old} e r = e ∙ ap (λ z. z ++ slot_of (s.held.sid, s.held.role) (left_after a)) r ∙ ap (λ (s : RoleState). old ++ slot_of (s.held.sid, s.held.role) (left_after a)) same
 
 -- ---- refusals that need no hash
 

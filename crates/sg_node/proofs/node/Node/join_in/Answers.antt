@@ -13,12 +13,12 @@ use Rattle.sg_role.specs.Model.{RoleState}
 use Rattle.sg_role.specs.declared.fault.Refusal.TheVariants as role
 use Rattle.sg_node.specs.declared.refusal.DeliveryRefusal.TheVariants as deliveries
 use Rattle.sg_node.specs.Joining.{obstacle_to}
-use Rattle.sg_node.specs.Slots.{Slot, held_in, slot_of, left_after}
+use Rattle.sg_node.specs.Slots.{Slot, held_in}
 use Rattle.sg_node.specs.Invariant.{IsSlot}
 use Rattle.sg_node.proofs.Starts.{first_state, with_text}
 use Rattle.sg_node.proofs.Takings.{out_of_memory, refused_at_once}
 use Rattle.sg_node.proofs.Continuing.{AcceptedBy, RefusedBy, accepted_by, refused_by}
-use Rattle.sg_node.proofs.Entering.{Enters, EntersFreely, entering, freely, same_node, still_slots, first_text, other_session, hindered, no_graph, free_pair, no_slot_yet, its_graph, its_count, its_version, its_bound, not_starter, join_slots, takes, refuses}
+use Rattle.sg_node.proofs.Entering.{Enters, EntersFreely, entering, freely, same_node, still_slots, first_text, other_session, hindered, no_graph, free_pair, no_slot_yet, its_graph, its_count, its_version, its_bound, not_starter, pair_joined, slot_joined, join_slots, takes, refuses}
 use Rattle.sg_node.proofs.node.Node.join_in.Goals as goal
 
 pub returns-then-not-is_session : goal.returns-then-not-is_session
@@ -94,12 +94,10 @@ invariant_of-self-in-Ok c =
     _ (c.frame.view_is ∙ c.frame-frame.ensures.frame) c.args.sid (c.if-not-is_session.ensures.0 refl) c.requires.session c.first_obstacle.result c.first_obstacle.ensures c.in_default.is in
     let d : AcceptedBy c.self.inside.keys (first_state c.args.program.now c.args.cast) c.args.read.now.frame c.in-Ok.accepted c.args.notes.now c.examine.new.notes = accepted_by c.in_ok-before.ensures c.frame-frame.ensures.frame
     c.in-Ok.ensures.accepted c.in-Ok.ensures.program c.in-Ok.ensures.before c.in-Ok.ensures.after c.in-Ok.ensures.event c.in-Ok.ensures.view (λ x b. c.in-Ok.ensures.notes x b (λ q. clash true refl (ap is_ok q))) in
-    let js = c.join_session.ensures.joins ∙ ap (λ z. z ++ (c.in_ok-before.before.held.sid, c.in_ok-before.before.held.role) ∷ []) c.make_room.ensures.joins ∙ ap (λ (s : RoleState). c.self.inside.joins.pairs ++ (s.held.sid, s.held.role) ∷ []) c.in_ok-before.ensures in
-    let ss = c.join_session.ensures.slots ∙ ap (λ z. z ++ slot_of (c.in_ok-before.before.held.sid, c.in_ok-before.before.held.role) (left_after c.in-Ok.accepted)) c.make_room.ensures.sessions ∙ ap (λ (s : RoleState). c.self.inside.sessions.slots ++ slot_of (s.held.sid, s.held.role) (left_after c.in-Ok.accepted)) c.in_ok-before.ensures in
     record {
       programs = c.self.invariant.programs;
-      slots = subst (λ js. AllByRecursion (IsSlot c.self.inside.programs.now js) c.join_session.new.sessions.slots) (sym js)
-          (subst (AllByRecursion (IsSlot c.self.inside.programs.now (c.self.inside.joins.pairs ++ (session_id real c.args.cast, c.args.program.now.role) ∷ []))) (sym ss)
+      slots = subst (λ js. AllByRecursion (IsSlot c.self.inside.programs.now js) c.join_session.new.sessions.slots) (sym (pair_joined c.in_ok-before.ensures c.join_session.ensures.joins c.make_room.ensures.joins))
+          (subst (AllByRecursion (IsSlot c.self.inside.programs.now (c.self.inside.joins.pairs ++ (session_id real c.args.cast, c.args.program.now.role) ∷ []))) (sym (slot_joined c.in_ok-before.ensures c.in-Ok.accepted c.join_session.ensures.slots c.make_room.ensures.sessions))
           (join_slots k.enters k.sid c.frame-frame.ensures.reading.spelled.is_frame c.in-Ok.accepted d));
     }
 
@@ -135,10 +133,8 @@ returns-in-Ok c =
     _ (c.frame.view_is ∙ c.frame-frame.ensures.frame) c.args.sid (c.if-not-is_session.ensures.0 refl) c.requires.session c.first_obstacle.result c.first_obstacle.ensures c.in_default.is in
     let d : AcceptedBy c.self.inside.keys (first_state c.args.program.now c.args.cast) c.args.read.now.frame c.in-Ok.accepted c.args.notes.now c.examine.new.notes = accepted_by c.in_ok-before.ensures c.frame-frame.ensures.frame
     c.in-Ok.ensures.accepted c.in-Ok.ensures.program c.in-Ok.ensures.before c.in-Ok.ensures.after c.in-Ok.ensures.event c.in-Ok.ensures.view (λ x b. c.in-Ok.ensures.notes x b (λ q. clash true refl (ap is_ok q))) in
-    let js = c.join_session.ensures.joins ∙ ap (λ z. z ++ (c.in_ok-before.before.held.sid, c.in_ok-before.before.held.role) ∷ []) c.make_room.ensures.joins ∙ ap (λ (s : RoleState). c.self.inside.joins.pairs ++ (s.held.sid, s.held.role) ∷ []) c.in_ok-before.ensures in
-    let ss = c.join_session.ensures.slots ∙ ap (λ z. z ++ slot_of (c.in_ok-before.before.held.sid, c.in_ok-before.before.held.role) (left_after c.in-Ok.accepted)) c.make_room.ensures.sessions ∙ ap (λ (s : RoleState). c.self.inside.sessions.slots ++ slot_of (s.held.sid, s.held.role) (left_after c.in-Ok.accepted)) c.in_ok-before.ensures in
     record {
-      takes = λ first e. takes k.enters k.sid c.frame-frame.ensures.reading.spelled.is_frame c.in-Ok.accepted d c.self.view_is k.free e c.join_session.new.joins.pairs js c.join_session.new.sessions.slots ss
+      takes = λ first e. takes k.enters k.sid c.frame-frame.ensures.reading.spelled.is_frame c.in-Ok.accepted d c.self.view_is k.free e _ (pair_joined c.in_ok-before.ensures c.join_session.ensures.joins c.make_room.ensures.joins) _ (slot_joined c.in_ok-before.ensures c.in-Ok.accepted c.join_session.ensures.slots c.make_room.ensures.sessions)
           c.in_ok-shared.shared (c.in_ok-shared.ensures ∙ ap (λ (z : Frame). z.join) (c.frame.view_is ∙ c.frame-frame.ensures.frame)) c.join_session.result c.join_session.ensures.receipt;
     }
 
