@@ -101,12 +101,11 @@ fn summary_of(
     match generate(alloc, seed, sessions, graph, programs) {
         Ok(driven) => {
             driven.world.laws();
-            match summary(alloc, graph, &driven) {
-                Ok(text) => {
-                    // The program ends next, so the run isn't given back piece by piece.
-                    mem::forget(driven);
-                    Ok(text)
-                }
+            let text = summary(alloc, graph, &driven);
+            // The program ends next, so the run isn't given back piece by piece.
+            mem::forget(driven);
+            match text {
+                Ok(text) => Ok(text),
                 Err(_) => Err(Ending::NoMemory),
             }
         }

@@ -12,7 +12,7 @@ ghost use Rattle.sg_protocol.specs.Texts.{real};
 ghost use Rattle.sg_sched_text.specs.TakingLines.{kind_of};
 ghost use Rattle.sg_world.specs.Faults.{IsFull};
 ghost use Rattle.sg_sched.specs.Steps.{CanBeTaken};
-ghost use Rattle.sg_world.specs.Replay.{with_taken};
+ghost use Rattle.sg_world.specs.Replay.{with_taken, without_steps};
 ghost use Rattle.sg_sched.specs.Format.Spells.{SpellsSchedule};
 ghost use Rattle.sg_sched.specs.Format.StepsHeld.{step_of};
 ghost use Rattle.sg_ending.specs.Graphs.{Refuses};
@@ -147,16 +147,26 @@ fn report_of(
     let Ok(mut world) = World::new(alloc, programs, schedule) else {
         return Err(Ending::NoMemory);
     };
+    let text = report_in(&mut world, schedule);
+    // The program ends next, and to give back the record piece by piece takes as long as a twentieth of the replay.
+    mem::forget(world);
+    text
+}
+
+// Takes the steps of a schedule in a world of its declarations, and gives the report, or says how the program ends without one.
+fn report_in(world: &mut World<'_>, schedule: &Schedule) -> Result<Vec<u8>, Ending<'static>>
+    requires can { CanBeReplayed schedule.now }
+    requires compiled { AreCompiled real schedule.now.graphs world.old.programs }
+    requires declared { world.old.schedule ≡ without_steps schedule.now }
+    ensures reports { IfOk result (λ text. Reports world.old.programs schedule.now text.items) }
+    ensures stops { IfErr result (λ ending. Stops world.old.programs schedule.now (ending_held ending)) }
+{
     'steps: for step in schedule.steps.as_slice() {
-        take(&mut world, step)?;
+        take(world, step)?;
     }
     runs_of_replays();
     match world.report() {
-        Ok(text) => {
-            // The program ends next, and to give back the record piece by piece takes as long as a twentieth of the replay.
-            mem::forget(world);
-            Ok(text)
-        }
+        Ok(text) => Ok(text),
         Err(_) => Err(Ending::NoMemory),
     }
 }

@@ -9,11 +9,11 @@ use Rattle.sg_world.specs.Replay.{Replay, with_taken}
 use Rattle.sg_ending.specs.Model.{ending_held}
 use Rattle.sg_replay.proofs.Replaying.{named, none_more, reports, stops}
 use Rattle.sg_replay.proofs.Steps.{all_taken, begins, can_be_taken, honest, more, room, whole}
-use Rattle.sg_replay.proofs.replay.report_of.Goals as goal
+use Rattle.sg_replay.proofs.replay.report_in.Goals as goal
 
 pub steps-init : goal.steps-init
 steps-init c = (
-  c.in-Ok.ensures,
+  ap (λ s. record c.args.world.now { schedule = s }) c.requires.declared,
   ap (map step_of) c.as_slice-step-items.ensures ∙ ap (λ (s : Schedule). s.steps) c.schedule.view_is,
   λ k l full. absurd (omega (arith, l)),
 )
@@ -39,27 +39,27 @@ pub returns-in_err-take-clause-stops : goal.returns-in_err-take-clause-stops
 returns-in_err-take-clause-stops c =
     let i = c.steps.invariant in
     let p = err_from_is_err_and c.from_residual.result c.from_residual.ensures.1 in
-    rw (p.1, p.2) (stops c.args.programs.now c.args.schedule.now c.steps.step-index c.steps.world (ending_held c.in_err-take.field-0.0) i.0
+    rw (p.1, p.2) (stops c.args.world.now.programs c.args.schedule.now c.steps.step-index c.steps.world (ending_held c.in_err-take.field-0.0) i.0
     (begins c.args.schedule.now c.as_slice-step-items.result.now c.steps.step-index c.step-item.result i.1 c.steps-test.true c.step-item.is) c.in_err-take.ensures.full)
 
 pub steps-preserved : goal.steps-preserved
 steps-preserved c =
     let i = c.steps.invariant in (
       c.in_ok-take.ensures.taken ∙ ap (λ r. with_taken r (step_of c.step-item.result)) i.0
-          ∙ more c.args.schedule.now c.as_slice-step-items.result.now c.steps.step-index c.step-item.result i.1 c.steps-test.true c.step-item.is c.args.programs.now,
+          ∙ more c.args.schedule.now c.as_slice-step-items.result.now c.steps.step-index c.step-item.result i.1 c.steps-test.true c.step-item.is c.args.world.now.programs,
       i.1,
-      none_more c.args.programs.now c.args.schedule.now c.steps.step-index c.steps.world i.0 i.2 c.in_ok-take.ensures.room,
+      none_more c.args.world.now.programs c.args.schedule.now c.steps.step-index c.steps.world i.0 i.2 c.in_ok-take.ensures.room,
     )
 
 pub report-requires : goal.report-requires
 report-requires c =
     let i = c.steps.invariant in
     let all = all_taken c.args.schedule.now c.as_slice-step-items.result.now c.steps.step-index i.1 c.steps-test.false in
-    named c.args.programs.now c.args.schedule.now c.steps.world (i.0 ∙ whole c.args.programs.now c.args.schedule.now c.steps.step-index all) c.requires.can
+    named c.args.world.now.programs c.args.schedule.now c.steps.world (i.0 ∙ whole c.args.world.now.programs c.args.schedule.now c.steps.step-index all) c.requires.can
 
-pub returns-in-Ok-report-clause-reports : goal.returns-in-Ok-report-clause-reports
-returns-in-Ok-report-clause-reports c =
+pub returns-in-Ok-clause-reports : goal.returns-in-Ok-clause-reports
+returns-in-Ok-clause-reports c =
     let i = c.steps.invariant in
     let all = all_taken c.args.schedule.now c.as_slice-step-items.result.now c.steps.step-index i.1 c.steps-test.false in
-    reports c.args.programs.now c.args.schedule.now c.steps.step-index c.steps.world c.in-Ok-report.text.items (i.0 ∙ whole c.args.programs.now c.args.schedule.now c.steps.step-index all) all i.2 c.in-Ok-report.ensures c.runs_of_replays.ensures
+    reports c.args.world.now.programs c.args.schedule.now c.steps.step-index c.steps.world c.in-Ok.text.items (i.0 ∙ whole c.args.world.now.programs c.args.schedule.now c.steps.step-index all) all i.2 c.in-Ok.ensures c.runs_of_replays.ensures
     (record { compiled = c.requires.compiled; schedule = c.requires.can.meant.schedule })
