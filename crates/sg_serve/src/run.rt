@@ -23,7 +23,39 @@ use sg_wait::TimedLink;
 use std::alloc::Global;
 
 impl<'p> Server<'p> {
-    // Answers each line of an input in order, up to that which asks for the end or the end of the input, and no more than `u64::MAX` lines.
+    // Answers each line of an input of which nothing was read yet, in order, up to that which asks for the end or the end of the input, and no
+    // more than `u64::MAX` lines.
+    fn serve_input<I: Input, L: TimedLink, R: Fresh, O: Sink, D: Disk>(
+        &mut self,
+        input: &mut I,
+        link: &mut L,
+        fresh: &mut R,
+        out: &mut O,
+        disk: &mut D,
+    ) -> Result<(), ServeFault>
+        requires holds { HoldsJoins self.old (D.may_leave disk.old) }
+        ensures link_bound { L.bound link.new ≡ L.bound link.old }
+        ensures disk_bound { D.bound disk.new ≡ D.bound disk.old }
+        ensures faults { CountsFaults (record { link = L.faults link.old; out = O.faults out.old; disk = D.faults disk.old })
+            (record { link = L.faults link.new; out = O.faults out.new; disk = D.faults disk.new }) result }
+        ensures untouched { IsNone self.old.ledger → disk.new ≡ disk.old }
+        ensures input_falls { I.faults input.old ≤ I.faults input.new }
+        ensures input_failed { result ≡ Err ServeFault.InputFailed → HasRisen (I.faults input.old) (I.faults input.new) }
+        ensures served { (r : Run) (bytes : List ℕ) → RepresentsServing self.old r.serving → I.coming input.old ≡ Some bytes
+            → Agrees (record { written = O.written out.old; sent = L.sent link.old; coming = L.coming link.old; failed = L.faults link.old })
+            (record { written = O.written out.old; sent = L.sent link.old; coming = L.coming link.old; failed = L.faults link.old }) (R.random fresh.old) r
+            → Served (record { written = O.written out.old; sent = L.sent link.old; coming = L.coming link.old; failed = L.faults link.old })
+            (record { written = O.written out.new; sent = L.sent link.new; coming = L.coming link.new; failed = L.faults link.new }) (R.random fresh.new)
+            (images_if (is_some self.old.ledger) (D.may_leave disk.new)) r (lines_of bytes) result }
+    {
+        let Ok(mut reader) = LineReader::new(self.alloc) else {
+            return Err(ServeFault::OutOfMemory);
+        };
+        self.serve_all(&mut reader, input, link, fresh, out, disk)
+    }
+
+    // Answers each line that a reader finds, in order, up to that which asks for the end or the end of the input, and no more than
+    // `u64::MAX` lines.
     fn serve_all<I: Input, L: TimedLink, R: Fresh, O: Sink, D: Disk>(
         &mut self,
         reader: &mut LineReader,
@@ -140,9 +172,6 @@ pub fn serve<'p, I: Input, L: TimedLink, R: Fresh, O: Sink, D: Disk>(
         (record { written = O.written out.new; sent = L.sent link.new; coming = L.coming link.new; failed = L.faults link.new }) (R.random fresh.new)
         (images_if (is_some ledger) (D.may_leave disk.new)) (opening keys.entry.now programs.entry.now (joins_kept ledger) coming random) (lines_of bytes) result }
 {
-    let Ok(mut reader) = LineReader::new(alloc) else {
-        return Err(ServeFault::OutOfMemory);
-    };
     let mut server = Server::new(alloc, node, keys, programs, ledger)?;
-    server.serve_all(&mut reader, input, link, fresh, out, disk)
+    server.serve_input(input, link, fresh, out, disk)
 }
