@@ -39,12 +39,12 @@ impl Reply {
 
     // Sends the frame, if there is one, and then writes the answer, which says so if the link doesn't take the frame. It takes no
     // memory.
-    pub fn give<L: TimedLink, O: Sink>(&self, link: &mut L, out: &mut O) -> Result<(), ServeFault>
+    pub fn give<L: TimedLink, O: Sink>(self, link: &mut L, out: &mut O) -> Result<(), ServeFault>
         ensures link_bound { L.bound link.new ≡ L.bound link.old }
         ensures faults { CountsFaultAlone ServeFault.WriteFailed (O.faults out.old) (O.faults out.new) result }
         ensures causes { IfErr result (λ e. e ≡ ServeFault.WriteFailed) }
         ensures is_out { AnswerIsOut (record { written = O.written out.old; sent = L.sent link.old; coming = L.coming link.old; failed = L.faults link.old })
-            (record { written = O.written out.new; sent = L.sent link.new; coming = L.coming link.new; failed = L.faults link.new }) self.now result }
+            (record { written = O.written out.new; sent = L.sent link.new; coming = L.coming link.new; failed = L.faults link.new }) self result }
     {
         let took = self.send(link);
         self.write(took, out)

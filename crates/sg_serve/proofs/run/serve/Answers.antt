@@ -1,4 +1,4 @@
-use Rattle.std.proofs.Common.{inr, rules, ◌≡◌, [], Bool, Err, refl, sym, ap, ◌∙◌, subst}
+use Rattle.std.proofs.Common.{inr, rules, ◌≡◌, [], Bool, Err, sym, ap, ◌∙◌, subst}
 use Rattle.std.specs.Prelude.{is_some}
 use Rattle.sg_input.specs.Lines.{lines_of}
 use Rattle.sg_serve.specs.Served.{Outside, Served, images_if, joins_kept, opening}

@@ -20,8 +20,8 @@ returns-in-Ok-clause-answered g c = λ r start st a.
     let came : HasAnswer c.answer.new.self random mid.coming old.failed mid.failed r line c.in-Ok-Some.reply = (rw c.in-Ok-Some.field-0-is at c.in-Ok-Some.ensures.answered) r st a.random_left a.coming in
     went_on start old mid new random (images_if (is_some c.args.self.now.ledger) (g.D.Disk.may_leave c.answer.new.disk)) c.answer.new.self r line c.in-Ok-Some.reply a.gave refl c.answer.ensures.sent c.answer.ensures.link_falls came c.in-Ok.field-0 c.in-Ok.ensures.is_out
 
-pub returns-in-Ok-Some-clause-answered : goal.returns-in-Ok-Some-clause-answered
-returns-in-Ok-Some-clause-answered g c = λ r start st a.
+pub returns-in-Err-give-clause-answered : goal.returns-in-Err-give-clause-answered
+returns-in-Err-give-clause-answered g c = λ r start st a.
     let old : Outside = record { written = g.O.Sink.written c.args.out.now; sent = g.L.Link.sent c.args.link.now; coming = g.L.TimedLink.coming c.args.link.now; failed = g.L.Link.faults c.args.link.now } in
     let mid : Outside = record { written = g.O.Sink.written c.args.out.now; sent = g.L.Link.sent c.answer.new.link; coming = g.L.TimedLink.coming c.answer.new.link; failed = g.L.Link.faults c.answer.new.link } in
     let random = g.R.Fresh.random c.answer.new.fresh in
@@ -38,8 +38,8 @@ returns-in-Ok-clause-faults g c = record {
   disk = alone_went true c.in-Ok-Some.ensures.kept.faults;
 }
 
-pub returns-in-Ok-Some-clause-faults : goal.returns-in-Ok-Some-clause-faults
-returns-in-Ok-Some-clause-faults g c =
+pub returns-in-Err-give-clause-faults : goal.returns-in-Err-give-clause-faults
+returns-in-Err-give-clause-faults g c =
     let wrote : c.in-Err-give.fault ≡ WriteFailed = c.in-Err-give.ensures.causes in
     record {
       link_falls = le_trans c.answer.ensures.link_falls c.in-Err-give.ensures.is_out.falls;
@@ -50,5 +50,5 @@ returns-in-Ok-Some-clause-faults g c =
 pub returns-in-Ok-None-clause-faults : goal.returns-in-Ok-None-clause-faults
 returns-in-Ok-None-clause-faults g c = record { link_falls = c.answer.ensures.link_falls; out = alone_same refl (no_fault _); disk = alone_went false c.in-Ok-None.ensures.kept.faults }
 
-pub returns-clause-faults : goal.returns-clause-faults
-returns-clause-faults g c = record { link_falls = c.answer.ensures.link_falls; out = alone_same refl (other_fault refl (not_write c.in-Err.ensures.kept.causes)); disk = alone_passed refl c.in-Err.ensures.kept.faults }
+pub returns-in-Err-clause-faults : goal.returns-in-Err-clause-faults
+returns-in-Err-clause-faults g c = record { link_falls = c.answer.ensures.link_falls; out = alone_same refl (other_fault refl (not_write c.in-Err.ensures.kept.causes)); disk = alone_passed refl c.in-Err.ensures.kept.faults }
