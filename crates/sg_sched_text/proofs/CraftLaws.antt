@@ -171,10 +171,14 @@ module _ (past : SoFar) (g : Option Graph) (k : CraftContent) where
       ap (λ (o : Option Lists). option_and_then (λ lists. option_map (craft_of k ends lists) (known_source past g k.seal)) o) b
       ∙ ap (λ (o : Option (ℕ × (ℕ × ℕ))). option_and_then (λ ends. option_and_then (λ lists. option_map (craft_of k ends lists) (known_source past g k.seal)) (known_lists past g k)) o) a
 
-  pub no_seal : (ends : ℕ × (ℕ × ℕ)) (lists : Lists) → Some ends ≡ known_ends past g k → Some lists ≡ known_lists past g k → None ≡ known_source past g k.seal → None ≡ craft_step past g k
-  no_seal ends lists a b c =
-      ap (λ (o : Option Source). option_map (craft_of k ends lists) o) c
-      ∙ ap (λ (o : Option Lists). option_and_then (λ lists. option_map (craft_of k ends lists) (known_source past g k.seal)) o) b
+  no_source : (ends : ℕ × (ℕ × ℕ)) (o : Option Lists) → None ≡ option_and_then (λ (lists : Lists). option_map (craft_of k ends lists) None) o
+  no_source ends None = refl
+  no_source ends (Some lists) = refl
+
+  pub no_seal : (ends : ℕ × (ℕ × ℕ)) → Some ends ≡ known_ends past g k → None ≡ known_source past g k.seal → None ≡ craft_step past g k
+  no_seal ends a c =
+      no_source ends (known_lists past g k)
+      ∙ ap (λ (o : Option Source). option_and_then (λ lists. option_map (craft_of k ends lists) o) (known_lists past g k)) c
       ∙ ap (λ (o : Option (ℕ × (ℕ × ℕ))). option_and_then (λ ends. option_and_then (λ lists. option_map (craft_of k ends lists) (known_source past g k.seal)) (known_lists past g k)) o) a
 
   pub all_known : (ends : ℕ × (ℕ × ℕ)) (lists : Lists) (seal : Source) → Some ends ≡ known_ends past g k → Some lists ≡ known_lists past g k → Some seal ≡ known_source past g k.seal

@@ -1,12 +1,14 @@
 //! The step of a craft.
-ghost use Rattle.std.specs.Prelude.{◌≡◌, option_map, option_copied, IfOk, IsTrue};
+ghost use Rattle.std.specs.Prelude.{◌≡◌, option_map, option_copied, IfOk, IsErr, MatchResult, IsTrue};
+ghost use Rattle.sg_protocol.specs.Schedule.{CraftStep};
+ghost use Rattle.sg_sched.specs.Format.Crafts.{source_of};
 ghost use Rattle.sg_sched.specs.Format.Faults.{is_short};
 ghost use Rattle.sg_sched.specs.Format.Forms.{is_craft};
 ghost use Rattle.sg_sched.specs.Format.Items.{graph_for, session_named};
 ghost use Rattle.sg_sched.specs.Format.LineContents.{MakeLine};
 ghost use Rattle.sg_sched.specs.Format.StepsHeld.{step_of};
 ghost use Rattle.sg_sched_text.specs.Adding.{after_line};
-ghost use Rattle.sg_sched_text.specs.Crafting.{craft_step, known_ends, known_lists, Lists};
+ghost use Rattle.sg_sched_text.specs.Crafting.{craft_of, craft_step, known_ends, known_lists, Lists};
 ghost use Rattle.sg_sched_text.specs.TakingLines.{Takes};
 
 use crate::craft::{items, openings, role, source};
@@ -17,7 +19,8 @@ use crate::stop::Stop;
 use sg_base::{Opening, OutOfMemory, Role, Seq};
 use sg_graph::Graph;
 use sg_sched::line::CraftLine;
-use sg_sched::{Craft, CraftItem, HeldCraft, Kind, Step};
+use sg_sched::{Craft, CraftItem, CraftJoin, HeldCraft, Kind, Source, Step};
+use std::alloc::Global;
 use std::marker::Model;
 
 // The lists of a craft.
@@ -34,6 +37,14 @@ impl Model for CraftLists {
     ghost Value = { Lists };
 
     ghost view = { λ l. record { know = l.know; items = l.items; openings = l.openings } };
+}
+
+// A craft but for what its frame joins with.
+#[derive(Drop)]
+struct CraftParts {
+    ends: (u32, Role, Role),
+    lists: CraftLists,
+    seal: Source,
 }
 
 impl Declared {
@@ -69,30 +80,26 @@ impl Declared {
         requires { IsTrue (is_craft craft) }
         ensures { IfOk result (λ o. option_map step_of o ≡ craft_step self.now (graph_for craft.entry.session self.now) craft.entry) }
     {
+        let parts = self.parts(&craft);
+        joined(self.alloc, craft.join, parts)
+    }
+
+    // All of the step but what the frame joins with, if all its names are declared.
+    fn parts(&self, craft: &CraftLine<'_>) -> Result<Option<CraftParts>, OutOfMemory>
+        requires { IsTrue (is_craft craft.now) }
+        ensures { IfOk result (λ o. option_map (λ p. craft_of craft.now (p.ends.0, (p.ends.1, p.ends.2)) p.lists (source_of p.seal)) o ≡ craft_step self.now (graph_for craft.now.session self.now) craft.now) }
+    {
         let graph = self.graph_for(&craft.session);
-        let Some(ends) = self.ends(graph, &craft) else {
-            return Ok(None);
-        };
-        let Some(lists) = self.lists(graph, &craft)? else {
+        let Some(ends) = self.ends(graph, craft) else {
             return Ok(None);
         };
         let Some(seal) = source(self, graph, &craft.seal) else {
             return Ok(None);
         };
-        let held = HeldCraft::new(
-            self.alloc,
-            Craft {
-                session: ends.0,
-                from: ends.1,
-                to: ends.2,
-                join: craft.join,
-                know: lists.know,
-                items: lists.items,
-                openings: lists.openings,
-                seal,
-            },
-        )?;
-        Ok(Some(Step::Craft(held)))
+        match self.lists(graph, craft)? {
+            Some(lists) => Ok(Some(CraftParts { ends, lists, seal })),
+            None => Ok(None),
+        }
     }
 
     // The session and the roles, if they are declared.
@@ -129,5 +136,44 @@ impl Declared {
             items,
             openings,
         }))
+    }
+}
+
+// The step of these parts with what the frame joins with.
+fn joined(
+    alloc: Global,
+    join: Option<CraftJoin>,
+    parts: Result<Option<CraftParts>, OutOfMemory>,
+) -> Result<Option<Step>, OutOfMemory>
+    ensures { MatchResult parts (λ p. IfOk result (λ o. option_map step_of o ≡ option_map (λ q. CraftStep (record { session = q.ends.0; from = q.ends.1; to = q.ends.2; join = join; know = q.lists.know; items = q.lists.items; openings = q.lists.openings; seal = source_of q.seal })) p)) (λ _. IsErr result) }
+{
+    match parts? {
+        Some(parts) => {
+            let held = HeldCraft::new(alloc, craft_of(join, parts))?;
+            Ok(Some(Step::Craft(held)))
+        }
+        None => Ok(None),
+    }
+}
+
+// The craft of these parts with what the frame joins with.
+fn craft_of(join: Option<CraftJoin>, parts: CraftParts) -> Craft
+    ensures { result ≡ record { session = parts.ends.0; from = parts.ends.1; to = parts.ends.2; join = join; know = parts.lists.know; items = parts.lists.items; openings = parts.lists.openings; seal = source_of parts.seal } }
+{
+    let CraftParts { ends, lists, seal } = parts;
+    let CraftLists {
+        know,
+        items,
+        openings,
+    } = lists;
+    Craft {
+        session: ends.0,
+        from: ends.1,
+        to: ends.2,
+        join,
+        know,
+        items,
+        openings,
+        seal,
     }
 }

@@ -24,8 +24,28 @@ impl Declared {
         requires { HaveCasts (length (graphs_declared self)) self.sessions }
         ensures { IfOk result (λ s. s ≡ schedule_declared real self) }
     {
+        let listed = self.listed();
+        self.schedule_of(listed)
+    }
+
+    // The sessions with their casts, and the honest principals.
+    fn listed(&self) -> Result<(Seq<NamedSession>, Seq<Name>), OutOfMemory>
+        requires { HaveCasts (length (graphs_declared self.now)) self.now.sessions }
+        ensures { IfOk result (λ l. (l.0 ≡ map (declared real (graphs_declared self.now)) self.now.sessions) × (l.1 ≡ self.now.honest)) }
+    {
         let sessions = self.declared()?;
         let honest = self.honest.to_list(self.alloc)?;
+        Ok((sessions, honest))
+    }
+
+    // The schedule of these sessions and honest principals, if there was memory for them, and of the rest that is declared.
+    fn schedule_of(
+        self,
+        listed: Result<(Seq<NamedSession>, Seq<Name>), OutOfMemory>,
+    ) -> Result<Schedule, OutOfMemory>
+        requires { IfOk listed (λ l. (l.0 ≡ map (declared real (graphs_declared self)) self.sessions) × (l.1 ≡ self.honest)) }
+        ensures { IfOk result (λ s. s ≡ schedule_declared real self) }
+    {
         let Declared {
             alloc,
             group: _,
@@ -37,7 +57,7 @@ impl Declared {
             steps,
         } = self;
         let graphs = with_pair(alloc, blocks.into_list(), pair);
-        together(graphs, honest, keys.into_list(), sessions, steps)
+        together(graphs, listed, keys.into_list(), steps)
     }
 
     // The sessions with their casts.
@@ -61,25 +81,25 @@ impl Declared {
     }
 }
 
-// A schedule of these parts, if there was memory for the graphs.
+// A schedule of these parts, if there was memory for the graphs, and for the sessions and the honest principals.
 fn together(
     graphs: Result<Seq<Graph>, OutOfMemory>,
-    honest: Seq<Name>,
+    listed: Result<(Seq<NamedSession>, Seq<Name>), OutOfMemory>,
     keys: Seq<PairKey>,
-    sessions: Seq<NamedSession>,
     steps: Seq<Step>,
 ) -> Result<Schedule, OutOfMemory>
-    ensures { MatchResult graphs (λ gs. IfOk result (λ s. s ≡ record { graphs = gs; honest = honest; keys = keys; sessions = sessions; steps = map step_of steps })) (λ _. IsErr result) }
+    ensures { MatchResult graphs (λ gs. MatchResult listed (λ l. IfOk result (λ s. s ≡ record { graphs = gs; honest = l.1; keys = keys; sessions = l.0; steps = map step_of steps })) (λ _. IsErr result)) (λ _. IsErr result) }
 {
-    match graphs {
-        Ok(graphs) => Ok(Schedule {
+    match (graphs, listed) {
+        (Ok(graphs), Ok((sessions, honest))) => Ok(Schedule {
             graphs,
             honest,
             keys,
             sessions,
             steps,
         }),
-        Err(fault) => Err(fault),
+        (Err(fault), _) => Err(fault),
+        (_, Err(fault)) => Err(fault),
     }
 }
 
