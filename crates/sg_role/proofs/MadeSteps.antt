@@ -9,14 +9,14 @@ use Rattle.sg_protocol.specs.Bounds.{IsShortFrame}
 use Rattle.sg_protocol.specs.Frame.{Item, Frame}
 use Rattle.sg_protocol.specs.Graph.{shape}
 use Rattle.sg_protocol.specs.IsSchedule.{IsProgram}
-use Rattle.sg_protocol.specs.Kept.{kept_items}
 use Rattle.sg_protocol.specs.Keyring.{Keyring, Program, targets_of}
 use Rattle.sg_protocol.specs.Notes.{Note, Notes, note_of}
 use Rattle.sg_protocol.specs.Ranges.{AreValues}
 use Rattle.sg_protocol.specs.Reachable.{IsReachableAtTurn}
 use Rattle.sg_protocol.specs.Representation.{Held}
-use Rattle.sg_protocol.specs.Sending.{text_of}
+use Rattle.sg_protocol.specs.Sending.{tag_for, text_of}
 use Rattle.sg_protocol.specs.Session.{principal}
+use Rattle.sg_protocol.specs.Spelling.{spelling}
 use Rattle.sg_protocol.specs.Texts.{real, commitment_text_of}
 use Rattle.sg_role.specs.Model.{RoleState}
 use Rattle.sg_role.specs.Sending.{with_notes}
@@ -25,19 +25,15 @@ use Rattle.sg_role.proofs.Sealing.{untagged_short}
 use Rattle.sg_role.proofs.SendLaws.{sends_short}
 
 module _ (keys : Keyring) (p : Program) (h : Held) (label : ℕ) (values : Map Value) (confounders : List (List ℕ)) (written : List Opening) (are : written ≡ openings_for values confounders)
-    (given : List Opening) (same : given ≡ written) (own : Item) (its : own ≡ step_item keys p h label given)
-    (items before : List Item) (held : before ≡ h.kept.items) (joined : items ≡ kept_items p.graph (before ++ own ∷ [])) where
+    (given : List Opening) (same : given ≡ written) (items : List Item) (joined : items ≡ items_after p.graph h (step_item keys p h label given)) where
   abbrev os : List Opening
   os = openings_for values confounders
 
   wrote : given ≡ os
   wrote = same ∙ are
 
-  item_made : own ≡ step_item keys p h label os
-  item_made = its ∙ ap (step_item keys p h label) wrote
-
   items_made : items ≡ items_after p.graph h (step_item keys p h label os)
-  items_made = joined ∙ (λ j. kept_items p.graph (held j ++ item_made j ∷ []))
+  items_made = joined ∙ ap (λ os. items_after p.graph h (step_item keys p h label os)) wrote
 
   -- the notes of the own item's tags
   abbrev item_notes : List Opening → List Note
@@ -55,12 +51,18 @@ module _ (keys : Keyring) (p : Program) (h : Held) (label : ℕ) (values : Map V
   abbrev untagged : Frame
   untagged = record (step_frame keys p h label os) { tag = replicate 32 0 }
 
-  module _ (frame : Frame) (shown : List Item) (theirs : shown ≡ items) (opened : List Opening) (mine : opened ≡ written) (made : frame ≡ record (frame_with p h label shown opened) { tag = replicate 32 0 }) where
+  module _ (frame : Frame) (made : frame ≡ record (frame_with p h label items written) { tag = replicate 32 0 }) where
     frame_made : frame ≡ untagged
-    frame_made = made ∙ (λ j. record (frame_with p h label ((theirs ∙ items_made) j) ((mine ∙ are) j)) { tag = replicate 32 0 })
+    frame_made = made ∙ (λ j. record (frame_with p h label (items_made j) (are j)) { tag = replicate 32 0 })
 
     pub short_made : IsProgram real p → IsReachableAtTurn real p h → first_some (send_rows p h label values) ≡ None → AreValues values confounders → IsShortFrame frame
     short_made is turn none of = subst IsShortFrame (sym frame_made) (untagged_short (step_frame keys p h label os) (sends_short keys p h label values confounders is turn none of))
+
+    -- what is sealed for the receiver's principal
+    pub sealed_made : (sealed : List ℕ × List ℕ) → sealed ≡ (principal h.cast frame.receiver, spelling (record frame { tag = tag_for real keys h.cast frame.receiver (text_of frame) }))
+        → sealed ≡ (principal h.cast (receiver (shape p.graph) label), spelling (step_frame keys p h label os))
+    sealed_made sealed e =
+        e ∙ (λ j. (principal h.cast (frame_made j).receiver, spelling (record (frame_made j) { tag = tag_for real keys h.cast (frame_made j).receiver (text_of (frame_made j)) })))
 
     -- what is noted of the frame, after the own item
     pub notes_made : (old first new : Notes) → first ≡ with_item old given → new ≡ with_note first frame → new ≡ with_notes old (step_notes keys p h label os)

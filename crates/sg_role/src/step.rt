@@ -7,6 +7,7 @@ ghost use Rattle.sg_model.specs.Shape.{receiver};
 ghost use Rattle.sg_protocol.specs.Acting.{openings_for};
 ghost use Rattle.sg_model.specs.Last.{has};
 ghost use Rattle.sg_protocol.specs.Graph.{shape, reads};
+ghost use Rattle.sg_protocol.specs.IsSchedule.{IsProgram};
 ghost use Rattle.sg_protocol.specs.Keyring.{targets_of};
 ghost use Rattle.sg_protocol.specs.Notes.{note_of};
 ghost use Rattle.sg_protocol.specs.Sending.{tag_for, text_of};
@@ -18,7 +19,7 @@ ghost use Rattle.sg_walk.specs.Model.{event_of, values_of};
 ghost use Rattle.sg_role.specs.Sending.{with_notes, step_of};
 ghost use Rattle.sg_role.specs.Model.{state_of};
 ghost use Rattle.sg_role.specs.Invariant.{HoldsTurn};
-ghost use Rattle.sg_role.specs.Stepping.{send_rows, own_text, step_commitments, step_item, step_frame, step_held, step_notes, frame_with, held_next, Extends};
+ghost use Rattle.sg_role.specs.Stepping.{send_rows, own_text, step_commitments, step_item, items_after, step_frame, step_held, step_notes, frame_with, held_next, Extends};
 
 use crate::evidence::{items_with, openings_of, shown_to, take_over, vars_of};
 use crate::kept_state::{KeptState, shared};
@@ -73,17 +74,65 @@ pub(crate) fn make_step<'p>(
     facts_of_values(values, confounders);
     let written = written_openings(alloc, values, confounders)?;
     let event = step_event(alloc, kept, label, values)?;
-    let (own, commitments) = own_item(alloc, kept, keys, label, written.as_slice(), notes)?;
-    let count = kept.program.graph().vars();
-    let items = items_with(alloc, count, kept.items.as_slice(), &own)?;
-    let frame = untagged(alloc, kept, label, items.as_slice(), written.as_slice())?;
-    let next = next_kept(alloc, kept, label, items, commitments, written)?;
+    let (items, commitments) = next_items(alloc, kept, keys, label, written.as_slice(), notes)?;
+    let (frame, next) = frame_and_next(alloc, kept, label, items, commitments, written)?;
     let sealed = seal(alloc, kept, keys, &frame, notes)?;
     Ok(MadeStep {
         event,
         sealed,
         kept: next,
     })
+}
+
+// The kept items with the own one, and the commitments with it. What is tagged and hashed is noted.
+fn next_items(
+    alloc: Global,
+    kept: &KeptState,
+    keys: &Keyring,
+    label: Label,
+    written: &[Opening],
+    notes: &mut Notes,
+) -> Result<(Vec<Item>, Vec<Option<[u8; 32]>>), OutOfMemory>
+    requires label { label < length (state_of kept.now).program.graph.edges }
+    requires time { kept.now.time < most_time }
+    requires counted { length kept.now.cast.names ≡ length (state_of kept.now).program.graph.roles }
+    ensures program { IfOk result (λ r. IsProgram real (state_of kept.now).program) }
+    ensures items { IfOk result (λ r. r.0.items ≡ items_after (state_of kept.now).program.graph (state_of kept.now).held (step_item keys.now (state_of kept.now).program (state_of kept.now).held label written.now)) }
+    ensures commitments { IfOk result (λ r. r.1.items ≡ step_commitments (state_of kept.now).program (state_of kept.now).held written.now) }
+    ensures noted { OnOk result (notes.new ≡ record {
+      made = notes.old.made ++ map (λ t. note_of keys.now.me (principal kept.now.cast t) (own_text (state_of kept.now).held label (step_commitments (state_of kept.now).program (state_of kept.now).held written.now) t)) (targets_of (state_of kept.now).program label);
+      found = notes.old.found;
+      hashed = notes.old.hashed ++ map (commitment_text_of kept.now.sid) written.now;
+    }) }
+    ensures keeps { Extends notes.old notes.new }
+{
+    let (own, commitments) = own_item(alloc, kept, keys, label, written, notes)?;
+    let count = kept.program.graph().vars();
+    let items = items_with(alloc, count, kept.items.as_slice(), &own)?;
+    Ok((items, commitments))
+}
+
+// The frame that shows these items, with zeros for its tag, and what is kept after the step.
+fn frame_and_next<'p>(
+    alloc: Global,
+    kept: &KeptState<'p>,
+    label: Label,
+    items: Vec<Item>,
+    commitments: Vec<Option<[u8; 32]>>,
+    written: Vec<Opening>,
+) -> Result<(Frame, Rc<KeptState<'p>>), OutOfMemory>
+    requires label { label < length (state_of kept.now).program.graph.edges }
+    requires time { kept.now.time < most_time }
+    ensures frame { IfOk result (λ r. r.0 ≡ record (frame_with (state_of kept.now).program (state_of kept.now).held label items.items written.items) { tag = replicate 32 0 }) }
+    ensures receiver { IfOk result (λ r. (r.0).receiver < length (state_of kept.now).program.graph.roles) }
+    ensures state { IfOk result (λ r. state_of r.1.value ≡ record {
+      program = (state_of kept.now).program;
+      held = held_next (state_of kept.now).program (state_of kept.now).held label items.items commitments.items written.items;
+    }) }
+{
+    let frame = untagged(alloc, kept, label, items.as_slice(), written.as_slice())?;
+    let next = next_kept(alloc, kept, label, items, commitments, written)?;
+    Ok((frame, next))
 }
 
 // What is kept after a step.
