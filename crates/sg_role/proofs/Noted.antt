@@ -181,6 +181,9 @@ take_twice (x ∷ xs) (y ∷ ys) (z ∷ zs) e q =
     ap (λ w. w ∷ take (length xs) zs) (heads z y (take (length ys) zs) ys q ∙ heads y x (take (length xs) ys) xs e)
     ∙ ap (λ l. x ∷ l) (take_twice xs ys zs (tails y x (take (length xs) ys) xs e) (tails z y (take (length ys) zs) ys q))
 
+pub keeps_same : (a : Notes) → KeepsNotes a a
+keeps_same a = (take-length a.made, take-length a.found, take-length a.hashed)
+
 pub keeps_found : (a b : Notes) (more : List Note) → b ≡ record a { found = a.found ++ more } → KeepsNotes a b
 keeps_found a b more e = subst (KeepsNotes a) (sym e) (take-length a.made, take-append_seam a.found more, take-length a.hashed)
 

@@ -173,7 +173,6 @@ pub(crate) fn roles_of(alloc: Global, set: RoleSet) -> Result<Vec<Role>, OutOfMe
 }
 
 /// The tag of the own item along the label for each target, with these commitments. Each text is noted.
-#[tactic(auto, using(crate::proofs::Walked::extends_made))]
 pub(crate) fn tags_for(
     alloc: Global,
     kept: &KeptState,

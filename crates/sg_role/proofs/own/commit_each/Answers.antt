@@ -1,10 +1,14 @@
-use Rattle.std.proofs.Common.{◌≡◌, ◌++◌, [], ◌∷◌, ℕ, List, map, take, sym, ap, ◌∙◌}
+use Rattle.std.proofs.Common.{◌≡◌, ◌++◌, [], ◌∷◌, ℕ, List, map, take, sym, ap, subst, ◌∙◌}
 use Rattle.sg_model.specs.Values.{Opening}
 use Rattle.sg_protocol.specs.Notes.{Notes}
 use Rattle.sg_protocol.specs.Texts.{real, commitment, commitment_text_of}
 use Rattle.std.proofs.Common.{append_assoc}
+use Rattle.sg_role.specs.Stepping.{Extends}
 use Rattle.sg_role.proofs.Walked.{extends_hashed, extends_more, map_more}
 use Rattle.sg_role.proofs.own.commit_each.Goals as goal
+
+pub returns-in_err-made-clause-keeps : goal.returns-in_err-made-clause-keeps
+returns-in_err-made-clause-keeps c = subst (Extends c.args.notes.now) (sym c.in_err-made.ensures.same) (extends_hashed c.args.notes.now c.loop-at.notes _ c.loop-at.invariant.1)
 
 pub returns-in_err-push-clause-keeps : goal.returns-in_err-push-clause-keeps
 returns-in_err-push-clause-keeps c = extends_more c.args.notes.now c.loop-at.notes c.commit_one.new.notes (extends_hashed c.args.notes.now c.loop-at.notes _ c.loop-at.invariant.1) (extends_hashed c.loop-at.notes c.commit_one.new.notes _ c.in_ok-made.ensures.noted)
@@ -18,3 +22,6 @@ loop-at-preserved c =
       c.in_ok-made.ensures.noted ∙ ap (λ (n : Notes). record n { hashed = n.hashed ++ commitment_text_of sid c.index-written-at.result ∷ [] }) c.loop-at.invariant.1
           ∙ ap (λ l. record (c.args.notes.now) { hashed = l }) (append_assoc c.args.notes.now.hashed (map (commitment_text_of sid) (take c.loop-at.at xs)) (commitment_text_of sid c.index-written-at.result ∷ []) ∙ ap (λ l. c.args.notes.now.hashed ++ l) (sym (map_more (commitment_text_of sid) xs c.loop-at.at c.index-written-at.result c.loop-at-test.true c.index-written-at.is))),
     )
+
+pub returns-clause-keeps : goal.returns-clause-keeps
+returns-clause-keeps c = extends_hashed c.args.notes.now c.loop-at.notes _ c.loop-at.invariant.1

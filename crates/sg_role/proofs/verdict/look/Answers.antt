@@ -5,9 +5,10 @@ use Rattle.sg_protocol.specs.Graph.{Graph}
 use Rattle.sg_role.specs.Accepting.{Acceptance}
 use Rattle.sg_role.specs.declared.fault.Refusal.{Refusal as RefusalFault}
 use Rattle.sg_role.specs.declared.fault.Refusal.TheVariants as refusal_fault
+use Rattle.sg_role.specs.Looking.{KeepsNotes}
 use Rattle.sg_role.specs.Model.{state_of}
 use Rattle.sg_role.proofs.NextState.{own_time_small, roles_there, variables_there, turn_next}
-use Rattle.sg_role.proofs.Noted.{keeps_found, keeps_twice}
+use Rattle.sg_role.proofs.Noted.{keeps_found, keeps_same, keeps_twice}
 use Rattle.sg_role.proofs.Stopped.{has_sender, not_memory, stops_at_tag, stops_at_view, stops_at_time, stops_at_items, stops_at_openings, stops_nowhere, all_noted}
 use Rattle.sg_role.proofs.verdict.look.Goals as goal
 
@@ -113,3 +114,18 @@ returns-in_err-check_openings-clause-early c = λ n q. has_sender c.args.keys.no
 
 pub returns-clause-early : goal.returns-clause-early
 returns-clause-early c = λ n q. has_sender c.args.keys.now c.args.kept.now.program.now (state_of c.args.kept.now).held c.args.frame.now c.in_ok-check_frame_tag.ensures.right n
+
+pub returns-in_err-check_frame_tag-clause-keeps : goal.returns-in_err-check_frame_tag-clause-keeps
+returns-in_err-check_frame_tag-clause-keeps c = subst (KeepsNotes c.args.notes.now) (sym c.in_err-check_frame_tag.ensures.same) (keeps_same c.args.notes.now)
+
+pub returns-in_err-view-clause-keeps : goal.returns-in_err-view-clause-keeps
+returns-in_err-view-clause-keeps c = keeps_found c.args.notes.now c.check_frame_tag.new.notes _ c.in_ok-check_frame_tag.ensures.noted
+
+pub returns-in_err-check_times-clause-keeps : goal.returns-in_err-check_times-clause-keeps
+returns-in_err-check_times-clause-keeps c = keeps_found c.args.notes.now c.check_frame_tag.new.notes _ c.in_ok-check_frame_tag.ensures.noted
+
+pub returns-clause-keeps : goal.returns-clause-keeps
+returns-clause-keeps c =
+    keeps_twice c.args.notes.now c.check_items.new.notes c.check_openings.new.notes
+    (keeps_twice c.args.notes.now c.check_frame_tag.new.notes c.check_items.new.notes (keeps_found c.args.notes.now c.check_frame_tag.new.notes _ c.in_ok-check_frame_tag.ensures.noted) c.in_ok-commitments.ensures.keeps)
+    c.in_ok-check_openings.ensures.keeps
