@@ -62,7 +62,10 @@ fn keep_setup<O: Sink, L: Link, R: Fresh, D: Disk>(
 {
     match open_ledger(alloc, file, disk) {
         Ok(ledger) => ended(play_over(alloc, setup, ledger, most, stage, disk)),
-        Err(ending) => ending,
+        Err(ending) => {
+            drop(setup);
+            ending
+        }
     }
 }
 
@@ -89,7 +92,11 @@ fn play_over<O: Sink, L: Link, R: Fresh, D: Disk>(
 {
     match stage.link.open(setup.keys.listen()) {
         Ok(()) => {}
-        Err(_) => return Err(KeepFault::Played(PlayFault::LinkFailed)),
+        Err(_) => {
+            drop(setup);
+            drop(ledger);
+            return Err(KeepFault::Played(PlayFault::LinkFailed));
+        }
     }
     let Setup {
         keys,
@@ -98,7 +105,7 @@ fn play_over<O: Sink, L: Link, R: Fresh, D: Disk>(
         script,
     } = setup;
     let Stage { out, link, fresh } = stage;
-    sg_keep::keep(
+    let came = sg_keep::keep(
         alloc,
         keys_of_node,
         &keys,
@@ -110,7 +117,10 @@ fn play_over<O: Sink, L: Link, R: Fresh, D: Disk>(
         fresh,
         out,
         disk,
-    )
+    );
+    drop(keys);
+    drop(programs);
+    came
 }
 
 // How the program ends after a play.

@@ -8,6 +8,7 @@
 //!   each before it reads the next one. A link that fails after that is an answer.
 //!
 //! Each command has a module of its name, and `joins` opens a ledger. A player is given what it acts on as one struct, `Stage`.
+//! What is let go where a function may end early, or at its end, is passed to `drop`: so the check has its drop once for the crate and not in each such function.
 //!
 //! `specs/Outside.antt` says what these objects report, `specs/Runs.antt` what a run leaves, `specs/Ledgers.antt` what the making of a ledger leaves, and
 //! a run over one, and `specs/Serves.antt` a run for an application.

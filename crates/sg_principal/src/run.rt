@@ -14,8 +14,11 @@ use crate::named::RunFiles;
 use crate::stage::Stage;
 use sg_base::{Files, Fresh, Link, Sink};
 use sg_ending::Ending;
+use sg_keys::Keyring;
 use sg_node::Node;
 use sg_play::{PlayFault, play};
+use sg_program::Programs;
+use sg_script::Script;
 use sg_setup::{Setup, read_setup};
 use std::alloc::Global;
 
@@ -56,7 +59,10 @@ fn play_setup<O: Sink, L: Link, R: Fresh>(
 {
     match stage.link.open(setup.keys.listen()) {
         Ok(()) => play_on(alloc, setup, most, stage),
-        Err(_) => Err(PlayFault::LinkFailed),
+        Err(_) => {
+            drop(setup);
+            Err(PlayFault::LinkFailed)
+        }
     }
 }
 
@@ -79,14 +85,37 @@ fn play_on<O: Sink, L: Link, R: Fresh>(
         programs,
         script,
     } = setup;
-    match Node::new(alloc, keys_of_node, &programs) {
+    let came = play_by(alloc, &keys, keys_of_node, &programs, script, most, stage);
+    drop(keys);
+    drop(programs);
+    came
+}
+
+// Plays with a node that is made of the keys and the programs.
+fn play_by<O: Sink, L: Link, R: Fresh>(
+    alloc: Global,
+    keys: &Keyring,
+    keys_of_node: Keyring,
+    programs: &Programs,
+    script: Script,
+    most: u32,
+    stage: Stage<'_, O, L, R>,
+) -> Result<(), PlayFault>
+    requires keys { keys_of_node ≡ keys.now }
+    requires script { IsScript programs.now script }
+    ensures bound { L.bound (stage_at_return stage.exit).link ≡ L.bound (stage_at_call stage.entry).link }
+    ensures ends { EndsPlaying (record { keys = keys.now; programs = programs.now; script = script }) most
+        (stage_of O.Sink L.Link R.Fresh (stage_at_call stage.entry)) (stage_of O.Sink L.Link R.Fresh (stage_at_return stage.exit)) result }
+{
+    match Node::new(alloc, keys_of_node, programs) {
         Ok(node) => {
             let Stage { out, link, fresh } = stage;
-            play(
-                alloc, node, &keys, &programs, script, most, link, fresh, out,
-            )
+            play(alloc, node, keys, programs, script, most, link, fresh, out)
         }
-        Err(_) => Err(PlayFault::OutOfMemory),
+        Err(_) => {
+            drop(script);
+            Err(PlayFault::OutOfMemory)
+        }
     }
 }
 

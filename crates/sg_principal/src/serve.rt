@@ -14,8 +14,10 @@ use crate::stage::Stage;
 use sg_base::{Files, Fresh, Sink};
 use sg_ending::Ending;
 use sg_input::Input;
+use sg_keys::Keyring;
 use sg_ledger::{Disk, Ledger};
 use sg_node::Node;
+use sg_program::Programs;
 use sg_serve::ServeFault;
 use sg_setup::{Principal, read_principal};
 use sg_wait::TimedLink;
@@ -65,7 +67,10 @@ fn serve_principal<O: Sink, I: Input, L: TimedLink, R: Fresh, D: Disk>(
     match ledger {
         Some(file) => match open_ledger(alloc, file, disk) {
             Ok(ledger) => serve_over(alloc, principal, Some(ledger), stage, input, disk),
-            Err(ending) => ending,
+            Err(ending) => {
+                drop(principal);
+                ending
+            }
         },
         None => serve_over(alloc, principal, None, stage, input, disk),
     }
@@ -93,7 +98,11 @@ fn serve_over<O: Sink, I: Input, L: TimedLink, R: Fresh, D: Disk>(
 {
     match stage.link.open_at(principal.keys.listen()) {
         Ok(()) => ended(answer_all(alloc, principal, ledger, stage, input, disk)),
-        Err(_) => Ending::LinkFailed,
+        Err(_) => {
+            drop(principal);
+            drop(ledger);
+            Ending::LinkFailed
+        }
     }
 }
 
@@ -121,16 +130,53 @@ fn answer_all<O: Sink, I: Input, L: TimedLink, R: Fresh, D: Disk>(
         keys_of_node,
         programs,
     } = principal;
+    let came = answer_with(
+        alloc,
+        &keys,
+        keys_of_node,
+        &programs,
+        ledger,
+        stage,
+        input,
+        disk,
+    );
+    drop(keys);
+    drop(programs);
+    came
+}
+
+// Serves with a node that is made of the keys, the programs and the joins of the ledger, if there is one.
+fn answer_with<O: Sink, I: Input, L: TimedLink, R: Fresh, D: Disk>(
+    alloc: Global,
+    keys: &Keyring,
+    keys_of_node: Keyring,
+    programs: &Programs,
+    ledger: Option<Ledger>,
+    stage: Stage<'_, O, L, R>,
+    input: &mut I,
+    disk: &mut D,
+) -> Result<(), ServeFault>
+    requires keys { keys_of_node ≡ keys.now }
+    requires working { IfSome ledger (λ l. l.failed ≡ false) }
+    requires represents { AllRepresent (images_if (is_some ledger) (D.may_leave disk.old)) (joins_kept ledger) }
+    ensures bound { D.bound disk.new ≡ D.bound disk.old }
+    ensures ends { EndsServing (is_some ledger) (joins_kept ledger) (record { keys = keys.now; programs = programs.now })
+        (application_of O.Sink L.Link L.coming R.Fresh I.Input (stage_at_call stage.entry) input.old)
+        (application_of O.Sink L.Link L.coming R.Fresh I.Input (stage_at_return stage.exit) input.new)
+        (disk_of D.Disk disk.old) (disk_of D.Disk disk.new) result }
+    ensures disk { IsNone ledger → disk.new ≡ disk.old }
+{
     let node = match &ledger {
-        Some(ledger) => Node::with_joins(alloc, keys_of_node, &programs, ledger.joins()),
-        None => Node::new(alloc, keys_of_node, &programs),
+        Some(ledger) => Node::with_joins(alloc, keys_of_node, programs, ledger.joins()),
+        None => Node::new(alloc, keys_of_node, programs),
     };
     let Ok(node) = node else {
+        drop(ledger);
         return Err(ServeFault::OutOfMemory);
     };
     let Stage { out, link, fresh } = stage;
     sg_serve::serve(
-        alloc, node, &keys, &programs, ledger, input, link, fresh, out, disk,
+        alloc, node, keys, programs, ledger, input, link, fresh, out, disk,
     )
 }
 

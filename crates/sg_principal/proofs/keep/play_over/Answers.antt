@@ -17,15 +17,15 @@ pub returns-clause-ends : goal.returns-clause-ends
 returns-clause-ends g c =
     after_link c.args.ledger.joins (setup_held c.args.setup) c.args.most (output_of g.O.Sink (c.args.stage.out).now) (g.R.Fresh.random (c.args.stage.fresh).now)
     (link_of g.L.Link (c.args.stage.link).now) (link_of g.L.Link c.open.new.self) c.open.ensures.kept c.open.ensures.kept_sent c.open.ensures.never_falls
-    (record { out = output_of g.O.Sink c.keep.new.out; link = link_of g.L.Link c.keep.new.link; random = g.R.Fresh.random c.keep.new.fresh }) (disk_of g.D.Disk c.args.disk.now) (disk_of g.D.Disk c.keep.new.disk) c.keep.result
+    (record { out = output_of g.O.Sink c.keep-came.new.out; link = link_of g.L.Link c.keep-came.new.link; random = g.R.Fresh.random c.keep-came.new.fresh }) (disk_of g.D.Disk c.args.disk.now) (disk_of g.D.Disk c.keep-came.new.disk) c.keep-came.result
     (record {
-      plays = c.keep.ensures.kept;
-      any_moment = meanwhile g.D.Disk c.args.disk.now c.keep.new.disk (RepresentsMore c.args.ledger.joins) c.keep.ensures.any_moment;
-      throughout = λ ds ws d w. kept_throughout g.D.Disk c.args.disk.now c.keep.new.disk (g.O.Sink.written (c.args.stage.out).now) (g.O.Sink.written c.keep.new.out)
-          (play_over c.args.ledger.joins (setup_held c.args.setup) c.args.most ds ws) (c.keep.ensures.throughout ds ws d w);
-      faults = c.keep.ensures.faults;
-      left = c.keep.ensures.left;
-      at_most = c.keep.ensures.at_most;
+      plays = c.keep-came.ensures.kept;
+      any_moment = meanwhile g.D.Disk c.args.disk.now c.keep-came.new.disk (RepresentsMore c.args.ledger.joins) c.keep-came.ensures.any_moment;
+      throughout = λ ds ws d w. kept_throughout g.D.Disk c.args.disk.now c.keep-came.new.disk (g.O.Sink.written (c.args.stage.out).now) (g.O.Sink.written c.keep-came.new.out)
+          (play_over c.args.ledger.joins (setup_held c.args.setup) c.args.most ds ws) (c.keep-came.ensures.throughout ds ws d w);
+      faults = c.keep-came.ensures.faults;
+      left = c.keep-came.ensures.left;
+      at_most = c.keep-came.ensures.at_most;
     })
 
 pub returns-in-Err-clause-waits : goal.returns-in-Err-clause-waits
@@ -36,4 +36,4 @@ returns-in-Err-clause-waits g c = inr (
 )
 
 pub returns-clause-waits : goal.returns-clause-waits
-returns-clause-waits g c = inl (c.keep.ensures.link_bound ∙ c.in-Ok.ensures.waits ∙ ap Some (at_address c.listen.result c.args.setup.keys c.listen.ensures.ip c.listen.ensures.port))
+returns-clause-waits g c = inl (c.keep-came.ensures.link_bound ∙ c.in-Ok.ensures.waits ∙ ap Some (at_address c.listen.result c.args.setup.keys c.listen.ensures.ip c.listen.ensures.port))

@@ -16,8 +16,8 @@ returns-in-Ok-clause-serves g c =
       c.ended.ensures.ending,
     )
 
-pub returns-clause-serves : goal.returns-clause-serves
-returns-clause-serves g c =
+pub returns-in-Err-clause-serves : goal.returns-in-Err-clause-serves
+returns-in-Err-clause-serves g c =
     inl (
       unopened (port_of g.L.Link g.L.TimedLink.coming (c.args.stage.link).now) (port_of g.L.Link g.L.TimedLink.coming c.open_at.new.self) c.open_at.ensures.kept c.open_at.ensures.kept_sent
           (output_of g.O.Sink (c.args.stage.out).now) (g.R.Fresh.random (c.args.stage.fresh).now) (input_of g.I.Input c.args.input.now) c.in-Err.ensures.kept_bound c.in-Err.ensures.failed,
