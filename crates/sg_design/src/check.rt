@@ -1,15 +1,16 @@
 //! The command `check`: parses a graph, compiles it, and says whether it is accepted, and how many views each role has.
-ghost use Rattle.std.specs.Prelude.{◌≡◌, ◌++◌, ◌∷◌, [], All, IfOk, OnOk};
+ghost use Rattle.std.specs.Prelude.{◌≡◌, ◌++◌, ◌∷◌, [], All, IfOk, MatchResult, OnOk};
 ghost use Rattle.sg_protocol.specs.IsSchedule.{AreCompiled};
 ghost use Rattle.sg_protocol.specs.Texts.{real};
 ghost use Rattle.sg_parse.specs.Grammar.{SpellsGraph};
 ghost use Rattle.sg_compile.specs.Compiled.{IsWhole};
+ghost use Rattle.sg_ending.specs.Ending.{GraphRefused};
 ghost use Rattle.sg_ending.specs.Model.{ending_held};
 ghost use Rattle.sg_design.specs.Accepted.{accepted_line, check_text, views_line};
 ghost use Rattle.sg_design.specs.Ends.{Checks};
 
 use sg_base::{ByteOut, OutOfMemory, Sink, write_all};
-use sg_compile::{AllFault, compile_all};
+use sg_compile::{AllFault, CompileFault, compile_all};
 use sg_ending::{Ending, graph_of};
 use sg_graph::Graph;
 use sg_program::{Program, Programs};
@@ -31,10 +32,26 @@ fn check_graph<O: Sink>(alloc: Global, bytes: &[u8], graph: Graph, out: &mut O) 
     requires { SpellsGraph bytes.now graph }
     ensures { Checks bytes.now (record { bytes = O.written out.old; faults = O.faults out.old }) (record { bytes = O.written out.new; faults = O.faults out.new }) (ending_held result) }
 {
-    match compile_all(alloc, slice::from_ref(&graph)) {
-        Ok(programs) => say_accepted(alloc, bytes, &graph, &programs, out),
-        Err(AllFault::Refused { fault, .. }) => Ending::GraphRefused { graph, fault },
-        Err(AllFault::OutOfMemory) => Ending::NoMemory,
+    match say_if_accepted(alloc, bytes, &graph, out) {
+        Ok(ending) => ending,
+        Err(fault) => Ending::GraphRefused { graph, fault },
+    }
+}
+
+// Writes that the graph that the bytes spell is accepted, if it is; else says why it isn't.
+fn say_if_accepted<O: Sink>(
+    alloc: Global,
+    bytes: &[u8],
+    graph: &Graph,
+    out: &mut O,
+) -> Result<Ending<'static>, CompileFault>
+    requires { SpellsGraph bytes.now graph.now }
+    ensures { MatchResult result (λ e. Checks bytes.now (record { bytes = O.written out.old; faults = O.faults out.old }) (record { bytes = O.written out.new; faults = O.faults out.new }) (ending_held e)) (λ f. Checks bytes.now (record { bytes = O.written out.old; faults = O.faults out.old }) (record { bytes = O.written out.new; faults = O.faults out.new }) (GraphRefused graph.now f)) }
+{
+    match compile_all(alloc, slice::from_ref(graph)) {
+        Ok(programs) => Ok(say_accepted(alloc, bytes, graph, &programs, out)),
+        Err(AllFault::Refused { fault, .. }) => Err(fault),
+        Err(AllFault::OutOfMemory) => Ok(Ending::NoMemory),
     }
 }
 

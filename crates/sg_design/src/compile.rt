@@ -1,9 +1,10 @@
 //! The command `compile`: parses a graph, compiles it for one of its roles, and writes the program.
-ghost use Rattle.std.specs.Prelude.{◌≡◌, ◌<◌, ◌≤◌, length, IsTrue, MatchOption};
+ghost use Rattle.std.specs.Prelude.{◌≡◌, ◌<◌, ◌≤◌, length, IsTrue, MatchOption, MatchResult};
 ghost use Rattle.sg_model.specs.Lists.{has_text};
 ghost use Rattle.sg_protocol.specs.Graph.{role_name};
 ghost use Rattle.sg_parse.specs.Grammar.{SpellsGraph};
 ghost use Rattle.sg_compile.specs.Compiled.{IsCompiled};
+ghost use Rattle.sg_ending.specs.Ending.{GraphRefused};
 ghost use Rattle.sg_ending.specs.Model.{ending_held};
 ghost use Rattle.sg_design.specs.Ends.{Compiles, RefusesRole};
 
@@ -53,10 +54,30 @@ fn compile_role<O: Sink>(
     requires named { role_name graph role ≡ name.now }
     ensures { Compiles name.now bytes.now (record { bytes = O.written out.old; faults = O.faults out.old }) (record { bytes = O.written out.new; faults = O.faults out.new }) (ending_held result) }
 {
-    match program_of(alloc, &graph, role) {
-        Ok(program) => say_program(alloc, bytes, &graph, role, &program, name, out),
-        Err(CompileFault::OutOfMemory) => Ending::NoMemory,
+    match write_if_compiled(alloc, bytes, &graph, role, name, out) {
+        Ok(ending) => ending,
         Err(fault) => Ending::GraphRefused { graph, fault },
+    }
+}
+
+// Writes the program of the graph that the bytes spell for its role of this name, if it is compiled; else says why it isn't.
+fn write_if_compiled<O: Sink>(
+    alloc: Global,
+    bytes: &[u8],
+    graph: &Graph,
+    role: Role,
+    name: &str,
+    out: &mut O,
+) -> Result<Ending<'static>, CompileFault>
+    requires spelled { SpellsGraph bytes.now graph.now }
+    requires there { role < length graph.now.roles }
+    requires named { role_name graph.now role ≡ name.now }
+    ensures { MatchResult result (λ e. Compiles name.now bytes.now (record { bytes = O.written out.old; faults = O.faults out.old }) (record { bytes = O.written out.new; faults = O.faults out.new }) (ending_held e)) (λ f. Compiles name.now bytes.now (record { bytes = O.written out.old; faults = O.faults out.old }) (record { bytes = O.written out.new; faults = O.faults out.new }) (GraphRefused graph.now f)) }
+{
+    match program_of(alloc, graph, role) {
+        Ok(program) => Ok(say_program(alloc, bytes, graph, role, &program, name, out)),
+        Err(CompileFault::OutOfMemory) => Ok(Ending::NoMemory),
+        Err(fault) => Err(fault),
     }
 }
 
