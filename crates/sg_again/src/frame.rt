@@ -8,7 +8,7 @@ use std::marker::Model;
 
 /// A frame of 1 to 60,000 bytes that a session sent: its number among the principal's frames, the name of its receiver, and the address
 /// that it goes to. A clause sees it as these.
-#[derive(Debug, Drop)]
+#[derive(Drop)]
 pub struct LastFrame {
     number: u64,
     to: Name,

@@ -16,6 +16,3 @@ mod laws;
 pub use frame::LastFrame;
 pub use frames::LastFrames;
 pub use laws::{keeps_few, keeps_the_last, keeps_the_live};
-
-#[cfg(test)]
-mod tests;

@@ -15,7 +15,7 @@ const MOST_JOINS: usize = 65_536;
 
 /// The pairs of session and role that a principal has joined, in the order of joining, all different, at most 65,536. A clause sees
 /// them as a list, with how many further pairs need no memory.
-#[derive(Debug, Drop)]
+#[derive(Drop)]
 pub struct Cache {
     joins: IndexSet<(Sid, Role)>,
 }
@@ -116,27 +116,4 @@ fn put_last(joins: &mut IndexSet<(Sid, Role)>, join: (Sid, Role)) -> Result<(), 
 {
     joins.insert(join)?;
     Ok(())
-}
-
-#[cfg(test)]
-mod tests {
-    use super::*;
-
-    fn claimed(cache: &mut Cache, sid: Sid, role: Role) -> Result<(Sid, Role), ClaimFault> {
-        let ticket = cache.claim(sid, role)?;
-        Ok(ticket.spend())
-    }
-
-    #[test]
-    fn a_pair_is_claimed_once(rt: HostRuntime) -> Result<(), ClaimFault> {
-        let mut cache = Cache::new(rt.alloc());
-        let sid = Sid([7; 32]);
-        assert!(rt; cache.reserve().is_ok());
-        assert!(rt; claimed(&mut cache, sid, Role(1))? == (sid, Role(1)));
-        assert!(rt; matches!(claimed(&mut cache, sid, Role(1)), Err(ClaimFault::Joined)));
-        assert!(rt; claimed(&mut cache, sid, Role(0))? == (sid, Role(0)));
-        assert!(rt; cache.has(&sid, Role(0)) && !cache.has(&sid, Role(2)));
-        assert_eq!(rt; cache.len(), 2);
-        Ok(())
-    }
 }

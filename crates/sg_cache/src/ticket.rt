@@ -6,7 +6,6 @@ use std::marker::Model;
 
 /// The leave to join a session in a role, once. It can't be dropped: it is spent by `spend` or by `give_up`, and its pair stays in
 /// the cache. A clause sees it as its pair.
-#[derive(Debug)]
 pub struct Ticket {
     sid: Sid,
     role: Role,

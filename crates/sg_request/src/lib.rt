@@ -26,6 +26,3 @@ mod request;
 
 pub use read::read_request;
 pub use request::Request;
-
-#[cfg(test)]
-mod tests;

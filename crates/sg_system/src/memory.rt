@@ -7,7 +7,7 @@ use sg_base::{Failed, FaultPlan};
 use std::marker::Model;
 
 /// Standard descriptors in memory, some of them free. The calls of `fill` are counted from 1, and those of a given list fail.
-#[derive(Debug, Drop)]
+#[derive(Drop)]
 pub struct MemDescriptors {
     input: bool,
     output: bool,

@@ -2,7 +2,8 @@
 use sg_base::{ByteOut, OutOfMemory, Role};
 use sg_parse::parse_graph;
 use sg_table::{Calls, byte, hold};
-use sg_vis::{Origin, View, ViewId, ViewTable, views};
+use sg_views::views;
+use sg_vis::{Origin, View, ViewId, ViewTable};
 use std::alloc::Global;
 
 struct Spelled;

@@ -1,7 +1,13 @@
-//! Tests of hashes, tags and frames, of keys and joins on a disk, of streams, and of the texts of a report. The cases are lines of tables, which
-//! `sg_table` reads.
+//! Tests of what every crate names, of hashes, tags and frames, of keys and joins, of what a line asks for, and of the texts of a report. The
+//! cases are lines of tables, which `sg_table` reads.
 #![tactic(auto)]
 
+#[cfg(test)]
+mod again;
+#[cfg(test)]
+mod base;
+#[cfg(test)]
+mod cache;
 #[cfg(test)]
 mod certify;
 #[cfg(test)]
@@ -17,6 +23,6 @@ mod ledger;
 #[cfg(test)]
 mod lines;
 #[cfg(test)]
-mod stream;
+mod request;
 #[cfg(test)]
 mod table;

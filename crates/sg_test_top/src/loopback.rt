@@ -15,16 +15,20 @@ impl Calls for Loopback {
     // The last word has the arguments of the program. Behind what the run says comes what its peer received.
     fn answer(&self, alloc: Global, call: &str, args: &[Vec<u8>]) -> Option<Vec<u8>> {
         let _ = call;
-        let (line, words) = args.split_last()?;
         let mut outside = Outside::new(alloc)?;
-        let _ = answers(alloc, &mut outside, words)?;
-        self.ran(alloc, &mut outside, line)
+        self.ran(alloc, &mut outside, args)
     }
 }
 
 impl Loopback {
     // What comes of a run.
-    fn ran(&self, alloc: Global, outside: &mut Outside, line: &[u8]) -> Option<Vec<u8>> {
+    fn ran(&self, alloc: Global, outside: &mut Outside, args: &[Vec<u8>]) -> Option<Vec<u8>> {
+        let (line, words) = args.split_last()?;
+        let _ = answers(alloc, outside, words)?;
+        self.put_run(alloc, outside, line)
+    }
+
+    fn put_run(&self, alloc: Global, outside: &mut Outside, line: &[u8]) -> Option<Vec<u8>> {
         let mut peer = self.link()?;
         peer.open(ADDR_OF_B).ok()?;
         let mut out = ByteOut::new(alloc);

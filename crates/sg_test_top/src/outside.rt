@@ -188,13 +188,18 @@ pub struct Top;
 impl Calls for Top {
     fn answer(&self, alloc: Global, call: &str, args: &[Vec<u8>]) -> Option<Vec<u8>> {
         if call == "top" {
-            return answers(alloc, &mut Outside::new(alloc)?, args);
+            return of_run(alloc, args);
         }
         let [text, step, args @ ..] = args else {
             return None;
         };
         yes(alloc, leaves_prefixes(alloc, text, number(step)?, args)?)
     }
+}
+
+fn of_run(alloc: Global, args: &[Vec<u8>]) -> Option<Vec<u8>> {
+    let mut outside = Outside::new(alloc)?;
+    answers(alloc, &mut outside, args)
 }
 
 fn leaves_prefixes(alloc: Global, text: &[u8], step: u32, args: &[Vec<u8>]) -> Option<bool> {
@@ -208,11 +213,21 @@ fn leaves_prefixes(alloc: Global, text: &[u8], step: u32, args: &[Vec<u8>]) -> O
 }
 
 fn leaves_prefix(alloc: Global, text: &[u8], room: u32, args: &[Vec<u8>]) -> Option<bool> {
+    let (prefix, _) = text.split_at_checked(room as usize)?;
     let mut outside = Outside::new(alloc)?;
     outside.surroundings.room = room;
-    let _ = answers(alloc, &mut outside, args)?;
-    let (prefix, _) = text.split_at_checked(room as usize)?;
-    Some(is_prefix(&outside, prefix))
+    ends_behind(alloc, &mut outside, prefix, args)
+}
+
+// Whether the program ends as its output takes no more than this.
+fn ends_behind(
+    alloc: Global,
+    outside: &mut Outside,
+    prefix: &[u8],
+    args: &[Vec<u8>],
+) -> Option<bool> {
+    let _ = answers(alloc, outside, args)?;
+    Some(is_prefix(outside, prefix))
 }
 
 fn is_prefix(outside: &Outside, prefix: &[u8]) -> bool {

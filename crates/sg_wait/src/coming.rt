@@ -3,7 +3,7 @@
 use sg_base::Seq;
 
 /// What comes next to one who waits.
-#[derive(Debug, Drop)]
+#[derive(Drop)]
 pub enum Coming {
     /// A delivery of these bytes.
     Delivery(Seq<u8>),

@@ -14,6 +14,3 @@ mod timed;
 pub use coming::Coming;
 pub use memory::MemTimedLink;
 pub use timed::TimedLink;
-
-#[cfg(test)]
-mod tests;

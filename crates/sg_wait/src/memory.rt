@@ -13,7 +13,7 @@ use std::marker::Model;
 
 /// A link in memory with deliveries and silences to come. There is room for a given number of frames, each of a given number of bytes at
 /// most, and nothing grows. Its calls are counted from 1, and those of a given list fail.
-#[derive(Debug, Drop)]
+#[derive(Drop)]
 pub struct MemTimedLink {
     bound: Option<Addr>,
     coming: VecDeque<Coming>,

@@ -8,7 +8,7 @@ use Rattle.sg_sched_text.specs.Meant.{IsMeant, SameDeclared}
 use Rattle.sg_sched.specs.Format.StepsHeld.{step_of}
 use Rattle.sg_sched.specs.declared.step.Step.{Step}
 use Rattle.sg_sched.specs.Steps.{CanBeTaken}
-use Rattle.sg_world.specs.Replay.{Replay}
+use Rattle.sg_setting.specs.Replay.{Replay}
 use Rattle.sg_test_calls.proofs.world.replayed.Goals as goal
 
 -- step i of the schedule is the one that is held, in a world with as many steps

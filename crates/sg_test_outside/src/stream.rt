@@ -2,11 +2,11 @@
 ghost use Rattle.std.specs.Prelude.{◌≡◌, ◌==◌};
 ghost use Rattle.std.specs.List.{list_any};
 
-use sg_base::{Addr, ByteOut, Failed, Link, LinkFault, MemSink, OutOfMemory, Sealed, Seq};
+use crate::calls::{call, call_conns};
+use sg_base::{Addr, ByteOut, Failed, Link, LinkFault, MemSink, OutOfMemory, Seq};
 use sg_stream::{Conns, MemConns, StreamLink, StreamReader};
-use sg_table::{Calls, Target, answers, byte, bytes, fixed, hold, name, number};
+use sg_table::{Calls, Target, answers, bytes, hold, number};
 use std::alloc::{AllocError, Global};
-use std::fmt;
 
 struct Streams;
 
@@ -23,10 +23,14 @@ impl Calls for Streams {
         if call == "conns" {
             answers(alloc, &mut OnConns { conns }, calls)
         } else {
-            let link = StreamLink::new(alloc, conns).ok()?;
-            answers(alloc, &mut OnLink { link }, calls)
+            answers(alloc, &mut link(alloc, conns)?, calls)
         }
     }
+}
+
+fn link(alloc: Global, conns: MemConns) -> Option<OnLink> {
+    let link = StreamLink::new(alloc, conns).ok()?;
+    Some(OnLink { link })
 }
 
 // A reader of pieces.
@@ -96,78 +100,19 @@ struct OnConns {
     conns: MemConns,
 }
 
-// A call is one of theirs, with what stands behind its name. In the end comes what each connection for writing was given that was closed: its port,
+// A call is one of theirs, or a piece that comes. In the end comes what each connection for writing was given that was closed: its port,
 // and the bytes.
 impl Target for OnConns {
     fn call(&mut self, alloc: Global, out: &mut ByteOut, word: &[u8]) -> Option<()> {
+        if word.starts_with(b"piece") {
+            return Some(());
+        }
         call_conns(alloc, &mut self.conns, out, word)
     }
 
     fn end(&self, out: &mut ByteOut) -> Result<(), OutOfMemory> {
         put_closed(out, self.conns.closed())
     }
-}
-
-fn call_conns<C: Conns>(
-    alloc: Global,
-    conns: &mut C,
-    out: &mut ByteOut,
-    word: &[u8],
-) -> Option<()> {
-    if let Some(port) = word.strip_prefix(b"open") {
-        put(out, conns.open(at(port)?).map(|()| "open"))
-    } else if let Some(port) = word.strip_prefix(b"connect") {
-        put(out, conns.connect(at(port)?))
-    } else if let Some(given) = word.strip_prefix(b"give") {
-        put(out, give(conns, given)?)
-    } else if let Some(conn) = word.strip_prefix(b"close") {
-        conns.close(byte(conn)?);
-        Some(())
-    } else if word == b"take".as_slice() {
-        put_taken(out, conns.take(alloc)).ok()
-    } else {
-        word.strip_prefix(b"piece").map(|_| ())
-    }
-}
-
-// Puts what a call answers.
-fn put<T: fmt::Display + Drop>(out: &mut ByteOut, answer: Result<T, Failed>) -> Option<()> {
-    match answer {
-        Ok(value) => write!(out, "{value},").ok(),
-        Err(fault) => write!(out, "{fault},").ok(),
-    }
-}
-
-fn put_taken(
-    out: &mut ByteOut,
-    taken: Result<Option<(u8, Vec<u8>)>, LinkFault>,
-) -> Result<(), OutOfMemory> {
-    match taken {
-        Ok(Some((conn, piece))) => {
-            out.u8(conn)?;
-            out.bytes(&piece)?;
-            out.u8(b',')
-        }
-        Ok(None) => out.bytes(b"none,"),
-        Err(fault) => write!(out, "{fault},"),
-    }
-}
-
-// Gives bytes to a connection, whose number is before them.
-fn give<C: Conns>(conns: &mut C, given: &[u8]) -> Option<Result<usize, Failed>> {
-    let (conn, piece) = given.split_first()?;
-    if piece.is_empty() {
-        return None;
-    }
-    Some(conns.give(*conn, piece))
-}
-
-// An address on the loopback with this port.
-fn at(port: &[u8]) -> Option<Addr> {
-    Some(Addr {
-        ip: [127, 0, 0, 1],
-        port: u16::from_be_bytes(fixed(port)?),
-    })
 }
 
 fn put_closed(out: &mut ByteOut, closed: &[(Addr, MemSink)]) -> Result<(), OutOfMemory> {
@@ -188,52 +133,14 @@ struct OnLink {
 // The same of its calls.
 impl Target for OnLink {
     fn call(&mut self, alloc: Global, out: &mut ByteOut, word: &[u8]) -> Option<()> {
-        call_link(alloc, &mut self.link, out, word)
+        if word.starts_with(b"piece") {
+            return Some(());
+        }
+        call(alloc, &mut self.link, out, word)
     }
 
     fn end(&self, out: &mut ByteOut) -> Result<(), OutOfMemory> {
         put_closed(out, self.link.conns().closed())
-    }
-}
-
-fn call_link<L: Link>(alloc: Global, link: &mut L, out: &mut ByteOut, word: &[u8]) -> Option<()> {
-    if let Some(sent) = word.strip_prefix(b"send") {
-        let (port, frame) = sent.split_first_chunk::<2>()?;
-        send(link, out, at(port)?, bytes(alloc, frame)?)
-    } else if word == b"recv".as_slice() {
-        put_frame(out, link.recv(alloc)).ok()
-    } else {
-        word.strip_prefix(b"piece").map(|_| ())
-    }
-}
-
-fn put_frame(
-    out: &mut ByteOut,
-    received: Result<Option<Vec<u8>>, LinkFault>,
-) -> Result<(), OutOfMemory> {
-    match received {
-        Ok(Some(frame)) => {
-            out.bytes(&frame)?;
-            out.u8(b',')
-        }
-        Ok(None) => out.bytes(b"none,"),
-        Err(fault) => write!(out, "{fault},"),
-    }
-}
-
-// Sends a frame, and returns whether it went out. A frame that comes back must be this one.
-fn send<L: Link>(link: &mut L, out: &mut ByteOut, to: Addr, frame: Vec<u8>) -> Option<()> {
-    let name = name(b"b")?;
-    if frame.is_empty() || frame.len() > 60_000 {
-        return None;
-    }
-    match link.send(to, Sealed::seal(name, frame)) {
-        Ok(()) => out.bytes(b"sent,").ok(),
-        Err((frame, _)) => {
-            let (_, back) = frame.release();
-            out.bytes(&back).ok()?;
-            out.bytes(b" comes back,").ok()
-        }
     }
 }
 
@@ -263,7 +170,7 @@ reader 00000000 ' 'a_length_of_0,
 
 conns '0 '0 '3 'piece+01+'a 'piece+02+'b 'piece+01+'c 'piece+01 'piece+01+'d \
   'open+0004 'take 'take 'close+01 'take 'take 'take \
-  'open,+01+'a,the_link_failed,+02+'b,+01+'d,none,
+  'ok,+01+'a,the_link_failed,+02+'b,+01+'d,none,
 
 # Connections for writing have room.
 
