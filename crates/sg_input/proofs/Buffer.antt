@@ -71,6 +71,7 @@ length_part buffer start end low fits = length-take-le (end - start) (drop start
 pub record FeedAt (buffer : List ℕ) (start end at : ℕ) : Type 0 where
   pub within : at < end
   pub line : NoFeed (slice_range buffer start at)
+  pub long : length (slice_range buffer start at) ≡ at - start
   pub whole : slice_range buffer start end ≡ slice_range buffer start at ++ 10 ∷ slice_range buffer (at + 1) end
 
 pub feed_at : (buffer : List ℕ) (start seen end n : ℕ) → start ≤ seen → seen ≤ end → end ≤ length buffer → NoFeed (slice_range buffer start seen) → position (λ b. b == 10) (slice_range buffer seen end) ≡ Some n → FeedAt buffer start end (seen + n)
@@ -86,6 +87,7 @@ feed_at buffer start seen end n low high fits bare is =
     record {
       within = within;
       line = rw prefix (All-append (λ c. c ≢ 10) (slice_range buffer start seen) (take n (slice_range buffer seen end)) bare f.1);
+      long = length_part buffer start (seen + n) (omega (arith, low)) (omega (arith, within, fits));
       whole =
           parts buffer start seen end low high
           ∙ (ap (λ p. slice_range buffer start seen ++ p) f.2

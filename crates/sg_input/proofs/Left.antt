@@ -1,11 +1,12 @@
 -- The lines that are left, call by call.
-use Rattle.std.proofs.Common.{◌≡◌, ℕ, ◌<◌, ◌≤◌, List, [], ◌∷◌, ◌++◌, length, drop, Option, Some, None, refl, sym, ap, ◌∙◌, append_assoc}
+use Rattle.std.proofs.Common.{◌≡◌, ℕ, ◌<◌, ◌≤◌, List, [], ◌∷◌, ◌++◌, ◌+◌, ◌-◌, length, drop, slice_range, Option, Some, None, refl, sym, ap, ◌∙◌, append_assoc, arith}
 use Rattle.std.specs.Option.{option_map}
 use Rattle.std.proofs.lemmas.List.{append-nil}
 use borrow.Author.Tests.{le-leb, lt-leb}
 use Rattle.sg_base.specs.Outside.{TakesFirst}
 use Rattle.sg_input.specs.Input.{BeginsWith}
 use Rattle.sg_input.specs.Lines.{Line, Whole, TooLong, NoFeed, line_of, lines_of, lines_left}
+use Rattle.sg_input.proofs.Buffer.{FeedAt}
 use Rattle.sg_input.proofs.Runs.{lines_of-line, lines_of-none}
 
 -- bytes that were kept represent those that were there, and more were read behind them
@@ -52,3 +53,12 @@ pub first_over : (old line rest : List ℕ) → NoFeed line → old ≡ line ++ 
 first_over old line rest bare is long more =
     let one : line_of line ≡ TooLong = rw (lt-leb (length line) 262144 long) refl in
     ap (λ b. lines_of (b ++ more)) is ∙ (lines_of-line line rest more bare ∙ ap (λ l. l ∷ lines_of (rest ++ more)) one)
+
+-- the first line of what was read, which is as long as a line may be, or longer
+pub whole_at : (buffer unread : List ℕ) (start end at : ℕ) → FeedAt buffer start end at → slice_range buffer start end ≡ unread → at - start ≤ 262144 → (more : List ℕ) → lines_of (unread ++ more) ≡ Whole (slice_range buffer start at) ∷ lines_of (slice_range buffer (at + 1) end ++ more)
+whole_at buffer unread start end at f is fits =
+    first_whole unread (slice_range buffer start at) (slice_range buffer (at + 1) end) f.line (sym is ∙ f.whole) (omega (arith, f.long, fits))
+
+pub over_at : (buffer unread : List ℕ) (start end at : ℕ) → FeedAt buffer start end at → slice_range buffer start end ≡ unread → 262144 < at - start → (more : List ℕ) → lines_of (unread ++ more) ≡ TooLong ∷ lines_of (slice_range buffer (at + 1) end ++ more)
+over_at buffer unread start end at f is long =
+    first_over unread (slice_range buffer start at) (slice_range buffer (at + 1) end) f.line (sym is ∙ f.whole) (omega (arith, f.long, long))

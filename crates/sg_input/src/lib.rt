@@ -20,6 +20,3 @@ pub use laws::lines_are_runs;
 pub use memory::MemInput;
 pub use reader::{InputFault, LineFound, LineReader};
 pub use system::StdInput;
-
-#[cfg(test)]
-mod tests;

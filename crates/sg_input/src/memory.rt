@@ -10,7 +10,7 @@ use std::marker::Model;
 
 /// An input in memory. Its bytes come in pieces of given lengths, and then all at once. Its calls are counted from 1, and those of a given
 /// list fail.
-#[derive(Debug, Drop)]
+#[derive(Drop)]
 pub struct MemInput {
     bytes: Vec<u8>,
     given: usize,

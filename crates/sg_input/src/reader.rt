@@ -19,7 +19,7 @@ const MOST_BYTES: usize = 262_144;
 const ROOM: usize = 262_144 + 65_536;
 
 /// What a reader found.
-#[derive(Debug, Clone, Copy, PartialEq, Eq)]
+#[derive(Clone, Copy, PartialEq, Eq)]
 pub enum LineFound {
     /// A line, whose bytes [`LineReader::line`] gives.
     Line,
@@ -43,7 +43,7 @@ pub enum InputFault {
 ///
 /// It takes no memory after `new`. A line stays where it was read, unless the buffer ends within it: then what was read of it is moved to the
 /// buffer's start, once.
-#[derive(Debug, Drop)]
+#[derive(Drop)]
 pub struct LineReader {
     // The line that was found last is from `from` to `to`, and what was not given yet from `start` to `end`, with no line
     // feed up to `seen`.
@@ -173,7 +173,7 @@ impl LineReader {
 }
 
 // Where the bytes that are kept begin and end.
-#[derive(Debug, Clone, Copy)]
+#[derive(Clone, Copy)]
 struct KeptRange {
     start: usize,
     end: usize,

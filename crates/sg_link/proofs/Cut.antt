@@ -32,6 +32,10 @@ cut-more (n ∷ lens) bytes piece same =
     let rest : total lens ≡ length (drop n bytes) = omega (arith, same, length-drop n bytes) in
     rw (take-append-le n bytes piece within, drop-append-le n bytes piece within) (ap (λ l. take n bytes ∷ l) (cut-more lens (drop n bytes) piece rest))
 
+-- the lengths are those of the bytes that were not handed out
+pub total-left : (lens bytes : List ℕ) (taken : ℕ) → total lens + taken ≡ length bytes → total lens ≡ length (drop taken bytes)
+total-left lens bytes taken held = omega (arith, held, length-drop taken bytes)
+
 -- room among the lengths and the bytes is room among the pieces, and the other way round
 pub room : (lens bytes : List ℕ) → total lens ≡ length bytes → length lens < 65536 → length bytes + 16384 ≤ 4194304 → HasRoom (cut lens bytes)
 room lens bytes same fewer fits = record {

@@ -2,18 +2,13 @@
 ghost use Rattle.std.specs.Prelude.{◌<◌, ◌≤◌, length, IfOk};
 
 use crate::intake::Intake;
-use crate::watch::left;
+use crate::waiting::{self, Patience, standing};
 use mio::net::TcpStream;
 use sg_base::Failed;
-use std::io::{ErrorKind, Write};
 use std::net::{Net, SocketAddr};
 use std::time::{Clock, Duration, Instant};
 
-/// How long the first attempt to connect waits for an answer, in milliseconds. Each further one waits twice as long as the one before.
-const FIRST_MILLIS: u64 = 200;
-
-/// Connects to an address, within a time. A queue that is full at the peer gives no answer, so an attempt without one is given up and made
-/// again, sooner than the system would ask again.
+/// Connects to an address, within a time.
 pub(crate) fn connect<R: Net + Clock>(
     rt: &R,
     intake: &mut Intake,
@@ -24,16 +19,14 @@ pub(crate) fn connect<R: Net + Clock>(
         return Err(Failed);
     };
     intake.take_in(rt);
-    let mut patience = Duration::from_millis(FIRST_MILLIS);
+    let mut patience = Patience::new(begun, within);
     for _ in 0..u64::MAX {
-        let most = left(rt, begun, within);
-        if most.is_zero() {
+        let Some(most) = patience.next(rt) else {
             return Err(Failed);
-        }
-        if let Some(stream) = attempt(rt, intake, to, most.min(patience))? {
+        };
+        if let Some(stream) = attempt(rt, intake, to, most)? {
             return Ok(stream);
         }
-        patience = patience.saturating_add(patience);
     }
     Err(Failed)
 }
@@ -45,31 +38,8 @@ fn attempt<R: Net + Clock>(
     to: SocketAddr,
     within: Duration,
 ) -> Result<Option<TcpStream>, Failed> {
-    let (Ok(begun), Ok(mut stream)) = (Instant::now(rt), TcpStream::connect(rt, to)) else {
-        return Err(Failed);
-    };
-    if !intake.waits_for(&mut stream) {
-        return Err(Failed);
-    }
-    for _ in 0..u64::MAX {
-        if is_connected(&stream)? {
-            return Ok(Some(stream));
-        }
-        let most = left(rt, begun, within);
-        if most.is_zero() {
-            return Ok(None);
-        }
-        if !intake.wait(rt, most) {
-            return Err(Failed);
-        }
-    }
-    Err(Failed)
-}
-
-// Whether a connection stands by now. It fails if the peer refused it.
-fn is_connected(stream: &TcpStream) -> Result<bool, Failed> {
-    match stream.take_error() {
-        Ok(None) => Ok(stream.peer_addr().is_ok()),
+    match (Instant::now(rt), TcpStream::connect(rt, to)) {
+        (Ok(begun), Ok(stream)) => standing(rt, intake, stream, begun, within),
         _ => Err(Failed),
     }
 }
@@ -88,18 +58,8 @@ pub(crate) fn give<C: Clock>(
     let Ok(begun) = Instant::now(clock) else {
         return Err(Failed);
     };
-    for _ in 0..u64::MAX {
-        match stream.write(piece) {
-            Ok(count) if count > 0 && count <= piece.len() => return Ok(count),
-            Err(e) if e.kind() == ErrorKind::Interrupted => {}
-            Err(e) if e.kind() == ErrorKind::WouldBlock => {
-                let most = left(clock, begun, within);
-                if most.is_zero() || !intake.wait(clock, most) {
-                    return Err(Failed);
-                }
-            }
-            _ => return Err(Failed),
-        }
+    match waiting::give(clock, intake, stream, piece, begun, within) {
+        Ok(count) => Ok(count),
+        Err(_) => Err(Failed),
     }
-    Err(Failed)
 }

@@ -1,6 +1,7 @@
 //! What comes in: a listener, the accepted connection that is read, and what was read of connections while a send waited.
 
 use crate::inbox::{Inbox, PIECE};
+use crate::waiting::Waiting;
 use crate::watch::{Watch, left};
 use mio::Interest;
 use mio::net::{TcpListener, TcpStream};
@@ -9,6 +10,12 @@ use std::alloc::Global;
 use std::io::{ErrorKind, Read};
 use std::net::Net;
 use std::time::{Clock, Duration, Instant};
+
+/// The most changes that one wait reports.
+const MOST_CHANGES: usize = 4;
+
+/// The number of all that is watched: nobody asks what changed.
+const ALL: usize = 0;
 
 // What a connection gave.
 enum Brought {
@@ -47,8 +54,8 @@ impl Intake {
         mut listener: TcpListener,
         limit: Duration,
     ) -> Option<Intake> {
-        let watch = Watch::new(rt, alloc)?;
-        if !watch.add(&mut listener, Interest::READABLE) {
+        let watch = Watch::new(rt, alloc, MOST_CHANGES)?;
+        if !watch.add(&mut listener, ALL, Interest::READABLE) {
             return None;
         }
         let Ok(inbox) = Inbox::new(alloc) else {
@@ -69,7 +76,7 @@ impl Intake {
 
     /// Takes another listener in the place of the one before, and keeps what came in. It returns whether the system could.
     pub(crate) fn listen(&mut self, mut listener: TcpListener) -> bool {
-        if !self.watch.add(&mut listener, Interest::READABLE) {
+        if !self.watch.add(&mut listener, ALL, Interest::READABLE) {
             return false;
         }
         self.listener = listener;
@@ -135,25 +142,25 @@ impl Intake {
         }
     }
 
-    /// Takes in what is offered, and then waits for a change of it or of a connection for writing, for so long at most. It takes no
-    /// memory. It returns whether the system could.
-    pub(crate) fn wait<C: Clock>(&mut self, clock: &C, most: Duration) -> bool {
-        self.take_in(clock);
-        match patience(clock, self.limit, &self.reading) {
-            Some(silence) => self.watch.wait(Some(most.min(silence))),
-            None => self.watch.wait(Some(most)),
-        }
-    }
-
-    /// Waits from now on for changes of a connection for writing too. It returns whether the system could.
-    pub(crate) fn waits_for(&self, stream: &mut TcpStream) -> bool {
-        self.watch.add(stream, Interest::WRITABLE)
-    }
-
     /// Closes the connection whose pieces are handed out.
     pub(crate) fn close(&mut self) {
         if !self.inbox.remove_connection() {
             self.reading = None;
+        }
+    }
+}
+
+impl Waiting for Intake {
+    fn waits_for(&self, stream: &mut TcpStream) -> bool {
+        self.watch.add(stream, ALL, Interest::WRITABLE)
+    }
+
+    /// It takes no memory.
+    fn wait<C: Clock>(&mut self, clock: &C, most: Duration) -> bool {
+        self.take_in(clock);
+        match patience(clock, self.limit, &self.reading) {
+            Some(silence) => self.watch.wait(Some(most.min(silence))),
+            None => self.watch.wait(Some(most)),
         }
     }
 }
@@ -182,7 +189,7 @@ fn accept<C: Clock>(
                 let Ok(heard) = Instant::now(clock) else {
                     return false;
                 };
-                if !watch.add(&mut stream, Interest::READABLE) {
+                if !watch.add(&mut stream, ALL, Interest::READABLE) {
                     return false;
                 }
                 *reading = Some(Reading { stream, heard });

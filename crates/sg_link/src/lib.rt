@@ -2,7 +2,9 @@
 //!
 //! A frame has at most 60,000 bytes, and a datagram over IPv4 carries up to 65,507 (RFC 768, RFC 791), so each frame is one datagram.
 //! What comes is handed on as it is: whether it is a frame, and whose, is for the node to say. The content of a link is not known,
-//! and that the system sends and receives what it is given is trusted; a test over the loopback shows it once.
+//! and that the system sends and receives what it is given is trusted; tests over the loopback show it.
+//!
+//! `watch` and `waiting` are how any edge over connections waits for them.
 #![tactic(auto)]
 
 mod address;
@@ -12,7 +14,9 @@ mod inbox;
 mod intake;
 mod tcp;
 mod udp;
-mod watch;
+pub mod waiting;
+pub mod watch;
 
+pub use address::socket_addr;
 pub use tcp::TcpConns;
 pub use udp::UdpLink;

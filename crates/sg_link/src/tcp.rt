@@ -51,9 +51,17 @@ impl<
         ensures faults { ⟦<TcpConns<R> as Conns>⟧.faults result ≡ no_faults }
         ensures bound { ⟦<TcpConns<R> as Conns>⟧.bound result ≡ None }
     {
+        TcpConns::with_limit(rt, Duration::from_secs(MOST_SECONDS))
+    }
+
+    /// The same, but a peer may be silent, and take nothing, for as long as this limit, in place of 10 seconds.
+    pub fn with_limit(rt: R, limit: Duration) -> TcpConns<R>
+        ensures faults { ⟦<TcpConns<R> as Conns>⟧.faults result ≡ no_faults }
+        ensures bound { ⟦<TcpConns<R> as Conns>⟧.bound result ≡ None }
+    {
         TcpConns {
             rt,
-            limit: Duration::from_secs(MOST_SECONDS),
+            limit,
             intake: None,
             written: None,
             bound: None,
@@ -166,8 +174,6 @@ impl<
         if self.written.is_none() {
             if let Some(intake) = &mut self.intake {
                 if let Ok(stream) = giving::connect(&self.rt, intake, socket_addr(to), self.limit) {
-                    // A message goes out at once, though its length and its frame are given one after the other.
-                    let _ = stream.set_nodelay(true);
                     self.written = Some(stream);
                     return Ok(WRITTEN);
                 }
@@ -190,143 +196,5 @@ impl<
             self.faults.gives = self.faults.gives.saturating_add(1);
         }
         given
-    }
-}
-
-#[cfg(test)]
-mod tests {
-    use super::*;
-    use sg_base::{Link, Name, Sealed};
-    use sg_stream::StreamLink;
-
-    // The loopback, at a port.
-    fn at(port: u16) -> Addr {
-        Addr {
-            ip: [127, 0, 0, 1],
-            port,
-        }
-    }
-
-    // Gives bytes over a connection of their own, `size` at a time.
-    fn sends<C: Conns>(conns: &mut C, port: u16, bytes: &[u8], size: usize) -> bool {
-        let Ok(conn) = conns.connect(at(port)) else {
-            return false;
-        };
-        let mut whole = true;
-        for piece in bytes.chunks(size.max(1)) {
-            if !piece.is_empty() && conns.give(conn, piece).is_err() {
-                whole = false;
-            }
-        }
-        conns.close(conn);
-        whole
-    }
-
-    // Takes a connection whole, and returns whether it brought these bytes.
-    fn takes<C: Conns>(alloc: Global, conns: &mut C, bytes: &[u8]) -> bool {
-        let mut rest = bytes;
-        for _ in 0..u32::MAX {
-            let Ok(Some((READ, piece))) = conns.take(alloc) else {
-                return false;
-            };
-            if piece.is_empty() {
-                return rest.is_empty();
-            }
-            let Some(after) = rest.strip_prefix(piece.as_slice()) else {
-                return false;
-            };
-            rest = after;
-        }
-        false
-    }
-
-    // Connects and gives bytes until that fails, so many times at most, and returns whether it failed.
-    fn is_left<C: Conns>(conns: &mut C, port: u16, bytes: &[u8], times: u32) -> bool {
-        let Ok(conn) = conns.connect(at(port)) else {
-            return true;
-        };
-        for _ in 0..times {
-            if bytes.is_empty() || conns.give(conn, bytes).is_err() {
-                conns.close(conn);
-                return true;
-            }
-        }
-        conns.close(conn);
-        false
-    }
-
-    #[test]
-    fn frames_come_over_the_loopback(rt: HostRuntime) {
-        let alloc = rt.alloc();
-        let conns = TcpConns::new(rt.clone().expect(&rt, "a runtime"));
-        let mut link = match StreamLink::new(alloc, conns) {
-            Ok(link) => link,
-            Err(_) => {
-                assert!(rt; false);
-                return;
-            }
-        };
-        assert!(rt; matches!(link.recv(alloc), Err(LinkFault::Failed)));
-        assert!(rt; link.open(at(28_302)) == Ok(()));
-        let mut bytes = vec![in alloc; 7u8; 60_000].expect(&rt, "memory");
-        bytes[59_999] = 9;
-        let name = Name::new(b"b").expect(&rt, "a name");
-        match link.send(at(28_302), Sealed::seal(name, bytes)) {
-            Ok(()) => {}
-            Err((frame, _)) => {
-                let _ = frame.release();
-                assert!(rt; false);
-            }
-        }
-        let mut others = TcpConns::new(rt.clone().expect(&rt, "a runtime"));
-        assert!(rt; !sends(&mut others, 28_302, b"x", 1));
-        assert!(rt; others.open(at(28_303)) == Ok(()));
-        assert!(rt; sends(&mut others, 28_302, b"\x00\x00\x00\x00\x00\x00\x00\x01x", 9));
-        assert!(rt; sends(&mut others, 28_302, b"\x00\x00\x00\x02y", 5));
-        assert!(rt; sends(&mut others, 28_302, b"\x00\x00\x00\x03abc", 1));
-        match link.recv(alloc) {
-            Ok(Some(came)) => {
-                assert!(rt; came.len() == 60_000);
-                assert!(rt; came[0] == 7 && came[59_999] == 9);
-            }
-            _ => assert!(rt; false),
-        }
-        assert!(rt;
-            matches!(link.recv(alloc), Ok(Some(came)) if came.as_slice() == b"abc".as_slice())
-        );
-    }
-
-    #[test]
-    fn more_than_the_system_holds_is_taken_in(rt: HostRuntime) {
-        let alloc = rt.alloc();
-        let mut conns = TcpConns::new(rt.clone().expect(&rt, "a runtime"));
-        assert!(rt; conns.open(at(28_304)) == Ok(()));
-        for i in 0..300u32 {
-            assert!(rt; sends(&mut conns, 28_304, &i.to_be_bytes(), 3));
-        }
-        for i in 0..300u32 {
-            assert!(rt; takes(alloc, &mut conns, &i.to_be_bytes()));
-        }
-    }
-
-    #[test]
-    fn who_is_silent_or_takes_nothing_is_left(rt: HostRuntime) {
-        let alloc = rt.alloc();
-        let mut conns = TcpConns::new(rt.clone().expect(&rt, "a runtime"));
-        conns.limit = Duration::from_millis(200);
-        assert!(rt; conns.open(at(28_305)) == Ok(()));
-        let mut silent = TcpConns::new(rt.clone().expect(&rt, "a runtime"));
-        assert!(rt; silent.open(at(28_306)) == Ok(()));
-        assert!(rt; silent.connect(at(28_305)) == Ok(WRITTEN));
-        assert!(rt; sends(&mut conns, 28_305, b"abc", 1));
-        assert!(rt; takes(alloc, &mut conns, b""));
-        assert!(rt; takes(alloc, &mut conns, b"abc"));
-        let bytes = vec![in alloc; 7u8; 60_000].expect(&rt, "memory");
-        assert!(rt; is_left(&mut conns, 28_306, bytes.as_slice(), 10_000));
-        let mut left = false;
-        for _ in 0..300u32 {
-            left = left || is_left(&mut conns, 28_306, b"x", 1);
-        }
-        assert!(rt; left);
     }
 }

@@ -62,7 +62,7 @@ impl KeptConns {
         let mut next: Option<Duration> = None;
         for resting in self.lines.iter() {
             let rest = most.saturating_sub(now.duration_since(resting.since));
-            next = crate::watch::shorter(next, Some(rest));
+            next = shorter(next, Some(rest));
         }
         next
     }
@@ -122,4 +122,13 @@ fn is_open(stream: &mut TcpStream) -> bool {
         }
     }
     false
+}
+
+/// The shorter of two times, if `None` is as long as it takes.
+pub(crate) fn shorter(a: Option<Duration>, b: Option<Duration>) -> Option<Duration> {
+    match (a, b) {
+        (Some(a), Some(b)) => Some(a.min(b)),
+        (Some(a), None) => Some(a),
+        (None, b) => b,
+    }
 }

@@ -2,17 +2,21 @@
 ghost use Rattle.std.specs.Prelude.{◌<◌};
 
 use crate::accepted::{SLOTS, Table};
-use crate::conns::KeptConns;
+use crate::conns::{KeptConns, shorter};
 use crate::fault::{has_no_room, is_passing};
 use crate::inbox::Inbox;
-use crate::watch::{Watch, left, shorter};
 use mio::net::{TcpListener, TcpStream};
 use mio::{Interest, Token};
 use sg_base::LinkFault;
+use sg_link::waiting::Waiting;
+use sg_link::watch::{Watch, left};
 use std::alloc::Global;
 use std::io::ErrorKind;
 use std::net::Net;
 use std::time::{Clock, Duration, Instant};
+
+/// The most changes that one wait reports.
+const MOST_CHANGES: usize = 1_024;
 
 /// The number of the listener among what is watched; connections that were accepted have those below.
 const LISTENER: usize = 1_000;
@@ -56,7 +60,7 @@ pub(crate) struct Intake {
 impl Intake {
     /// Takes in what comes to a listener. `None` if there is no memory, or the system failed.
     pub(crate) fn new<R: Net>(rt: &R, alloc: Global, mut listener: TcpListener) -> Option<Intake> {
-        let watch = Watch::new(rt, alloc)?;
+        let watch = Watch::new(rt, alloc, MOST_CHANGES)?;
         if !watch.add(&mut listener, LISTENER, Interest::READABLE) {
             return None;
         }
@@ -148,25 +152,9 @@ impl Intake {
         }
     }
 
-    /// Watches a connection for writing from now on, and returns whether the system took it.
-    pub(crate) fn waits_for(&self, stream: &mut TcpStream) -> bool {
-        self.watch.add(stream, WRITTEN, Interest::WRITABLE)
-    }
-
     /// Closes the accepted connection that was silent longest, and returns whether there is one that has nothing to read.
     pub(crate) fn close_silent(&mut self) -> bool {
         self.table.close_silent()
-    }
-
-    /// Takes in what is offered, as far as there is room, and then waits for a change of it or of a connection for writing, for so long at
-    /// most. It returns whether the system could.
-    pub(crate) fn wait<C: Clock>(&mut self, clock: &C, most: Duration) -> bool {
-        let _ = self.accept(clock);
-        if self.take_in() {
-            self.await_change(clock, Some(Duration::ZERO))
-        } else {
-            self.await_change(clock, Some(most))
-        }
     }
 
     // Takes whole frames in, as far as there is room. It returns whether there may be more of them.
@@ -256,6 +244,21 @@ impl Intake {
         };
         if self.watch.add(&mut stream, at, Interest::READABLE) {
             self.table.put(self.alloc, at, stream, now);
+        }
+    }
+}
+
+impl Waiting for Intake {
+    fn waits_for(&self, stream: &mut TcpStream) -> bool {
+        self.watch.add(stream, WRITTEN, Interest::WRITABLE)
+    }
+
+    fn wait<C: Clock>(&mut self, clock: &C, most: Duration) -> bool {
+        let _ = self.accept(clock);
+        if self.take_in() {
+            self.await_change(clock, Some(Duration::ZERO))
+        } else {
+            self.await_change(clock, Some(most))
         }
     }
 }

@@ -21,7 +21,6 @@
 #![tactic(auto)]
 
 mod accepted;
-mod address;
 mod conns;
 mod fault;
 mod giving;
@@ -29,8 +28,5 @@ mod inbox;
 mod intake;
 mod parcel;
 mod port;
-#[cfg(test)]
-mod tests;
-mod watch;
 
 pub use port::TcpPort;

@@ -3,12 +3,13 @@ ghost use Rattle.std.specs.Prelude.{◌≡◌, ◌<◌, ◌≤◌, length, false
 ghost use Rattle.sg_base.specs.Outside.{HasRisen};
 ghost use Rattle.sg_model.specs.Limits.{most_frame_bytes};
 
-use crate::address::socket_addr;
 use crate::conns::{KeptConns, Line};
-use crate::giving::{self, GiveResult};
+use crate::giving;
 use crate::intake::Intake;
 use mio::net::TcpListener;
 use sg_base::{Addr, Failed, Link, LinkFault, Sealed};
+use sg_link::socket_addr;
+use sg_link::waiting::{GiveFault, give_all};
 use sg_wait::TimedLink;
 use std::alloc::{Alloc, Global};
 use std::net::Net;
@@ -143,10 +144,10 @@ fn send_frame<R: Net + Clock>(
     let bytes = message.as_slice();
     let given = match kept.take(to) {
         Some(line) => give_over(rt, intake, kept, line, bytes, begun),
-        None => GiveResult::Broken,
+        None => Err(GiveFault::Broken),
     };
-    if given != GiveResult::Broken {
-        return given == GiveResult::Whole;
+    if given != Err(GiveFault::Broken) {
+        return given.is_ok();
     }
     let within = Duration::from_secs(SEND_SECONDS);
     match giving::connect(rt, intake, kept, socket_addr(to), begun, within) {
@@ -156,7 +157,7 @@ fn send_frame<R: Net + Clock>(
                 stream,
                 given: 0,
             };
-            give_over(rt, intake, kept, line, bytes, begun) == GiveResult::Whole
+            give_over(rt, intake, kept, line, bytes, begun).is_ok()
         }
         Err(_) => false,
     }
@@ -170,13 +171,11 @@ fn give_over<C: Clock>(
     mut line: Line,
     bytes: &[u8],
     begun: Instant,
-) -> GiveResult {
+) -> Result<(), GiveFault> {
     let within = Duration::from_secs(SEND_SECONDS);
-    let given = giving::give(clock, intake, &mut line.stream, bytes, begun, within);
-    if given == GiveResult::Whole {
-        kept.keep(clock, line);
-    }
-    given
+    give_all(clock, intake, &mut line.stream, bytes, begun, within)?;
+    kept.keep(clock, line);
+    Ok(())
 }
 
 impl<R: Net + Clock + Alloc<A = Global> + Drop> Link for TcpPort<R> {

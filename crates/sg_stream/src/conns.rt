@@ -16,7 +16,7 @@ use sg_base::{Addr, Failed, LinkFault};
 use std::alloc::Global;
 
 /// How often each call of connections failed.
-#[derive(Debug, Clone, Copy, PartialEq, Eq)]
+#[derive(Clone, Copy, PartialEq, Eq)]
 pub struct ConnFaults {
     /// To wait at an address.
     pub opens: u64,

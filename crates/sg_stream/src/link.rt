@@ -19,7 +19,7 @@ use std::marker::Model;
 const MOST_PIECES: u32 = 1_000_000;
 
 // Why there is no frame.
-#[derive(Debug, Clone, Copy, PartialEq, Eq)]
+#[derive(Clone, Copy, PartialEq, Eq)]
 enum NoFrame {
     // The connections failed.
     Failed,

@@ -18,7 +18,7 @@ const WRITER: u8 = 255;
 /// Connections in memory, with the pieces to come. One connection at a time is open for writing, with the number 255; there is room for a
 /// given number of them, each with a given number of bytes, and nothing grows. All calls except `close` are counted from 1, and those of
 /// a given list fail.
-#[derive(Debug, Drop)]
+#[derive(Drop)]
 pub struct MemConns {
     bound: Option<Addr>,
     coming: VecDeque<(u8, Seq<u8>)>,

@@ -31,7 +31,7 @@ pub enum StreamFault {
 ///
 /// Taken bytes stay where they are until they are at least half of what is held, so that the work is in proportion to the bytes
 /// however they are cut.
-#[derive(Debug, Drop)]
+#[derive(Drop)]
 pub struct StreamReader {
     bytes: Vec<u8>,
     taken: usize,

@@ -1,27 +1,25 @@
 use Rattle.std.proofs.Common.{◌≡◌, ◌+◌, length, drop, ap, ◌∙◌, arith}
 use Rattle.std.proofs.lemmas.List.{length-drop, length-append, drop-append-le}
 use Rattle.sg_link.specs.Inbox.{total}
-use Rattle.sg_link.proofs.Cut.{total-more, cut-more, no_more_than}
+use Rattle.sg_link.proofs.Cut.{total-more, total-left, cut-more, no_more_than}
 use Rattle.sg_link.proofs.inbox.Inbox.push.Goals as goal
 
 pub append-requires : goal.append-requires
 append-requires c =
-    let left = length-drop c.self.inside.taken c.self.inside.bytes.items in
-    let same : total c.self.inside.lens.items ≡ length (drop c.self.inside.taken c.self.inside.bytes.items) = omega (arith, c.self.invariant.0, left) in
+    let same = total-left c.self.inside.lens.items c.self.inside.bytes.items c.self.inside.taken c.self.invariant.0 in
     let has = no_more_than c.self.inside.lens.items (drop c.self.inside.taken c.self.inside.bytes.items) same (rw (← c.self.view_is) at c.requires.room) in
     let kept : length (drop c.move_to_front.new.taken c.move_to_front.new.bytes.items) ≡ length (drop c.self.inside.taken c.self.inside.bytes.items) = ap length c.move_to_front.ensures.same in
     omega (arith, kept, has.1, c.requires.fits, c.move_to_front.ensures.half, c.move_to_front.ensures.capacity, c.self.invariant.3)
 
 pub put_last-requires : goal.put_last-requires
 put_last-requires c =
-    let same : total c.self.inside.lens.items ≡ length (drop c.self.inside.taken c.self.inside.bytes.items) = omega (arith, c.self.invariant.0, length-drop c.self.inside.taken c.self.inside.bytes.items) in
+    let same = total-left c.self.inside.lens.items c.self.inside.bytes.items c.self.inside.taken c.self.invariant.0 in
     let has = no_more_than c.self.inside.lens.items (drop c.self.inside.taken c.self.inside.bytes.items) same (rw (← c.self.view_is) at c.requires.room) in
     omega (arith, has.0, c.self.invariant.2)
 
 pub invariant_of-self : goal.invariant_of-self
 invariant_of-self c =
-    let left = length-drop c.self.inside.taken c.self.inside.bytes.items in
-    let same : total c.self.inside.lens.items ≡ length (drop c.self.inside.taken c.self.inside.bytes.items) = omega (arith, c.self.invariant.0, left) in
+    let same = total-left c.self.inside.lens.items c.self.inside.bytes.items c.self.inside.taken c.self.invariant.0 in
     let has = no_more_than c.self.inside.lens.items (drop c.self.inside.taken c.self.inside.bytes.items) same (rw (← c.self.view_is) at c.requires.room) in
     let kept : length (drop c.move_to_front.new.taken c.move_to_front.new.bytes.items) ≡ length (drop c.self.inside.taken c.self.inside.bytes.items) = ap length c.move_to_front.ensures.same in
     let after = length-drop c.move_to_front.new.taken c.move_to_front.new.bytes.items in
@@ -31,5 +29,5 @@ invariant_of-self c =
 
 pub returns : goal.returns
 returns c =
-    let same : total c.self.inside.lens.items ≡ length (drop c.self.inside.taken c.self.inside.bytes.items) = omega (arith, c.self.invariant.0, length-drop c.self.inside.taken c.self.inside.bytes.items) in
+    let same = total-left c.self.inside.lens.items c.self.inside.bytes.items c.self.inside.taken c.self.invariant.0 in
     rw (← c.self.view_is, c.put_last.ensures.items, c.append.ensures.items, drop-append-le c.move_to_front.new.taken c.move_to_front.new.bytes.items c.args.piece.now c.move_to_front.ensures.within, c.move_to_front.ensures.same) (cut-more c.self.inside.lens.items (drop c.self.inside.taken c.self.inside.bytes.items) c.args.piece.now same)
