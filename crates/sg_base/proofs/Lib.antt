@@ -1,4 +1,3 @@
-mod Lookup
 mod NameText
 pub mod Pieces
 pub mod SameName

@@ -1,5 +1,5 @@
 /// An IPv4 address and a port, where a link waits or sends.
-#[derive(Debug, Clone, Copy, PartialEq, Eq)]
+#[derive(Clone, Copy, PartialEq, Eq)]
 pub struct Addr {
     /// The four bytes of the address, in network order.
     pub ip: [u8; 4],

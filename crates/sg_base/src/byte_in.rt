@@ -16,7 +16,7 @@ pub struct Short {
 
 /// Reads the fields of a slice one after the other. A field that isn't there whole isn't passed, and its offset is the error. Nothing
 /// takes memory.
-#[derive(Debug, Drop)]
+#[derive(Drop)]
 pub struct ByteIn<'a> {
     bytes: &'a [u8],
     at: usize,

@@ -10,7 +10,7 @@ use std::fmt;
 use std::marker::Model;
 
 /// A growing list of bytes. Each writing call appends its field; if memory runs out, the list is as before.
-#[derive(Debug, Drop)]
+#[derive(Drop)]
 pub struct ByteOut {
     bytes: Vec<u8>,
 }

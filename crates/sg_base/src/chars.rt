@@ -10,7 +10,7 @@ use std::str;
 use thiserror::Error;
 
 /// UTF-8 of at most 1,024 bytes. A clause sees it as its bytes.
-#[derive(Debug, Drop)]
+#[derive(Drop)]
 pub struct Chars {
     bytes: Vec<u8>,
 }
@@ -76,25 +76,5 @@ impl Chars {
     {
         let bytes = self.bytes.as_slice().to_vec(alloc)?;
         Ok(Chars { bytes })
-    }
-}
-
-#[cfg(test)]
-mod tests {
-    use super::*;
-
-    #[test]
-    fn the_bound_and_the_encoding(rt: HostRuntime) -> Result<(), CharsFault> {
-        let alloc = rt.alloc();
-        let long = [b'a'; 1025];
-        assert!(rt;
-            matches!(
-                Chars::new(alloc, &long),
-                Err(CharsFault::TooLong { bytes: 1025 })
-            )
-        );
-        assert!(rt; matches!(Chars::new(alloc, b"\xff"), Err(CharsFault::NotText)));
-        assert_eq!(rt; Chars::new(alloc, &long[..1024])?.as_bytes().len(), 1024);
-        Ok(())
     }
 }

@@ -8,7 +8,7 @@ use std::marker::Model;
 const MOST_BYTES: usize = 4_095;
 
 /// The name of the file for which a call last failed, as far as a path may go, if one failed. It takes no memory. A clause sees its bytes.
-#[derive(Debug, Drop)]
+#[derive(Drop)]
 pub(crate) struct LastPath {
     bytes: [u8; MOST_BYTES],
     count: Option<usize>,

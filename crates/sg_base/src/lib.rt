@@ -36,6 +36,3 @@ pub use word::{read_hex, read_number};
 
 /// The answer if memory ran out.
 pub type OutOfMemory = std::alloc::AllocError;
-
-#[cfg(test)]
-mod tests;

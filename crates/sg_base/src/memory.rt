@@ -10,6 +10,3 @@ pub use fresh::MemFresh;
 pub use link::MemLink;
 pub use plan::FaultPlan;
 pub use sink::MemSink;
-
-#[cfg(test)]
-mod tests;

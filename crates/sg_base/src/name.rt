@@ -1,7 +1,7 @@
 //! Names of roles, variables, nodes, labels, graphs, principals and sessions.
 ghost use Rattle.std.specs.Cmp.Rules.{hashing};
 ghost use Rattle.std.specs.List.{list_all};
-ghost use Rattle.std.specs.Prelude.{◌≡◌, ◌↔◌, ◌≤◌, ◌++◌, ◌∷◌, [], ◌&&◌, nat_le, length, drop, IfSome, IsSome, IsTrue};
+ghost use Rattle.std.specs.Prelude.{◌≡◌, ◌↔◌, ◌≤◌, ◌++◌, ◌∷◌, [], ◌&&◌, nat_le, codes, length, drop, IfSome, IsSome, IsTrue};
 ghost use Rattle.sg_model.specs.Lists.{has_text};
 ghost use Rattle.sg_model.specs.Names.{is_letter, is_name_byte, is_name, reserved};
 ghost use Rattle.std.proofs.Common.{rules};
@@ -97,17 +97,30 @@ impl Name {
         ensures { result ≡ has_text self.now reserved }
     {
         let word = self.as_bytes();
-        word == b"graph".as_slice()
-            || word == b"role".as_slice()
-            || word == b"var".as_slice()
-            || word == b"node".as_slice()
-            || word == b"edge".as_slice()
-            || word == b"int".as_slice()
-            || word == b"text".as_slice()
-            || word == b"by".as_slice()
-            || word == b"writes".as_slice()
-            || word == b"reads".as_slice()
+        begins_statement(word) || stands_within(word)
     }
+}
+
+// The word begins a statement.
+fn begins_statement(word: &[u8]) -> bool
+    ensures { result ≡ has_text word.now (codes "graph" ∷ codes "role" ∷ codes "var" ∷ codes "node" ∷ codes "edge" ∷ []) }
+{
+    word == b"graph".as_slice()
+        || word == b"role".as_slice()
+        || word == b"var".as_slice()
+        || word == b"node".as_slice()
+        || word == b"edge".as_slice()
+}
+
+// The word stands within one.
+fn stands_within(word: &[u8]) -> bool
+    ensures { result ≡ has_text word.now (codes "int" ∷ codes "text" ∷ codes "by" ∷ codes "writes" ∷ codes "reads" ∷ []) }
+{
+    word == b"int".as_slice()
+        || word == b"text".as_slice()
+        || word == b"by".as_slice()
+        || word == b"writes".as_slice()
+        || word == b"reads".as_slice()
 }
 
 fn letter(byte: u8) -> bool

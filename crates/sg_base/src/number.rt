@@ -77,7 +77,7 @@ impl Model for Time {
 }
 
 /// A session identifier: the SHA-256 digest of the session's text.
-#[derive(Debug, Clone, Copy, PartialEq, Eq)]
+#[derive(Clone, Copy, PartialEq, Eq)]
 pub struct Sid(pub [u8; 32]);
 
 impl Model for Sid {
@@ -102,7 +102,7 @@ impl Hash for Sid {
 }
 
 /// An HMAC-SHA-256 tag (RFC 2104), of 32 bytes.
-#[derive(Debug, Clone, Copy, PartialEq, Eq)]
+#[derive(Clone, Copy, PartialEq, Eq)]
 pub struct Tag(pub [u8; 32]);
 
 impl Model for Tag {

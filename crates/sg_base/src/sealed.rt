@@ -7,7 +7,6 @@ use std::marker::Model;
 
 /// A made frame of 1 to 60,000 bytes, for the principal of a name. It can't be dropped: send it, or take it apart by `release`. A
 /// clause sees it as the pair of the name's bytes and the frame's.
-#[derive(Debug)]
 pub struct Sealed {
     to: Name,
     bytes: Vec<u8>,

@@ -15,7 +15,7 @@ pub enum VarType {
 }
 
 /// A value of a variable.
-#[derive(Debug, Drop)]
+#[derive(Drop)]
 pub enum Value {
     /// A number.
     Int(i64),
@@ -59,7 +59,7 @@ impl Value {
 }
 
 /// What opens a commitment: the variable, the sixteen bytes that hide the value, and the value.
-#[derive(Debug, Drop)]
+#[derive(Drop)]
 pub struct Opening {
     /// The variable.
     pub var: Var,

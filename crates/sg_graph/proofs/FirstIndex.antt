@@ -1,9 +1,10 @@
 -- What the first index of a name says of the names.
-use Rattle.std.proofs.Common.{◌≡◌, ℕ, ◌+◌, ◌<◌, nat_lt, Bool, true, false, List, [], ◌∷◌, map, length, get_or, refl, sym, ap, ◌∙◌, inl, inr, arith}
+use Rattle.std.proofs.Common.{◌≡◌, ℕ, ◌+◌, ◌<◌, ◌≤◌, nat_lt, Bool, true, false, List, [], ◌∷◌, map, length, get_or, drop, refl, sym, ap, ◌∙◌, inl, inr, arith}
 use Rattle.std.specs.Prelude.{Option, Some, None, position, bytes_eq, IsSome, IsTrue, is_some, ◌↔◌}
 use Rattle.std.specs.List.{list_any, position_or_len, position_from}
 use Rattle.std.proofs.lemmas.Bool.Decides.{nat_tests}
 use Rattle.std.proofs.lemmas.Iterator.Adapters.{position_from-zero}
+use Rattle.std.proofs.lemmas.List.{drop_more, drop_all}
 use Rattle.std.proofs.lemmas.List.Sums.{passes_at_first}
 use Rattle.std.proofs.lemmas.Slice.Eq.{bytes_eq-Decides}
 use Rattle.std.proofs.lemmas.Bool.{cases_Bool}
@@ -23,6 +24,20 @@ passes_there p xs i d h =
           (omega arith, rw same at passes))
       | inr n ↦ (let e : None ≡ Some i = rw n at h in absurd (cc))
     ]
+
+-- the search goes on past an element that doesn't pass
+pub search_past : {X : Type 0} (p : X → Bool) (xs : List X) (i : ℕ) (x : X) → i < length xs → x ≡ get_or xs i x → p x ≡ false
+    → position_from p i (drop i xs) ≡ position_from p (i + 1) (drop (i + 1) xs)
+search_past p xs i x l at fails = rw (drop_more xs i x l, ← at, fails) refl
+
+-- it ends at one that passes
+pub search_found : {X : Type 0} (p : X → Bool) (xs : List X) (i : ℕ) (x : X) → i < length xs → x ≡ get_or xs i x → p x ≡ true
+    → position_from p i (drop i xs) ≡ Some i
+search_found p xs i x l at passes = rw (drop_more xs i x l, ← at, passes) refl
+
+-- it finds none past the end
+pub search_ended : {X : Type 0} (p : X → Bool) (xs : List X) (i : ℕ) → length xs ≤ i → position_from p i (drop i xs) ≡ None
+search_ended p xs i le = rw (drop_all i xs le) refl
 
 -- if the search from n on finds an index, one passes
 some_from : {X : Type 0} (p : X → Bool) (xs : List X) (n i : ℕ) → position_from p n xs ≡ Some i → list_any p xs ≡ true

@@ -1,12 +1,12 @@
 -- A graph with one part more is a graph.
-use Rattle.std.proofs.Common.{◌≡◌, zero, suc, ◌+◌, ◌<◌, ◌≤◌, Bool, true, false, not, ◌&&◌, List, [], ◌∷◌, ◌++◌, length, get_or, refl, ◌∙◌, arith, add-zero, add-one, zero-add}
+use Rattle.std.proofs.Common.{◌≡◌, zero, suc, ◌<◌, ◌≤◌, Bool, true, false, not, ◌&&◌, List, [], ◌∷◌, ◌++◌, length, get_or, refl, ◌∙◌, arith}
 use Rattle.std.specs.Prelude.{All}
 use Rattle.std.specs.List.{list_all}
 use Rattle.std.proofs.lemmas.List.{map-append}
 use Rattle.std.proofs.lemmas.List.Folds.{list_all-append}
 use Rattle.std.proofs.lemmas.List.Elements.{All-append}
 use Rattle.std.proofs.lemmas.Bool.{and_parts}
-use Rattle.sg_model.specs.Lists.{has_text, all_differ, range_from, below}
+use Rattle.sg_model.specs.Lists.{has_text, all_differ}
 use Rattle.sg_model.specs.Names.{is_name, reserved}
 use Rattle.sg_model.proofs.Small.{length-more}
 use Rattle.sg_model.proofs.Differ.{all_differ-append}

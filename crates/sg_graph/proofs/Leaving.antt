@@ -1,9 +1,9 @@
 -- The labels that leave a node, and with one part more.
-use Rattle.std.proofs.Common.{◌≡◌, ◌≢◌, ℕ, zero, suc, ◌+◌, ◌<◌, ◌≤◌, ◌==◌, Bool, true, false, List, [], ◌∷◌, ◌++◌, map, filter, length, get_or, set, refl, sym, ap, ◌∙◌, subst, inl, inr, arith, append-nil, add-zero, zero-add, All, Contains, if◌then◌else◌}
+use Rattle.std.proofs.Common.{◌≡◌, ◌≢◌, ℕ, zero, suc, ◌<◌, ◌≤◌, ◌==◌, Bool, true, false, List, [], ◌∷◌, ◌++◌, map, filter, length, get_or, set, refl, sym, ap, ◌∙◌, subst, inl, inr, arith, append-nil, add-zero, All, Contains, if◌then◌else◌}
 use Rattle.std.proofs.lemmas.Bool.{cases_Bool, cases_eq, eqb-true, eq-eqb, ne_eqb}
 use Rattle.std.proofs.lemmas.List.{length-map, length-set, get_or-map, get_or-set_same, get_or-set_other, map-append, same_lists, length-append, get_or_append_left, get_or-append-add}
 use Rattle.std.proofs.lemmas.List.Elements.{filter-append, filter_passes, All-filter}
-use Rattle.sg_model.proofs.Numbers.{below-suc, below-at, range_from-at, length-range_from, filter-range_from}
+use Rattle.sg_model.proofs.Numbers.{below-suc, below-at, length-range_from, filter-range_from}
 use Rattle.sg_model.specs.Lists.{below, range_from}
 use Rattle.sg_model.specs.Shape.{Arrow, source}
 use Rattle.sg_protocol.specs.Graph.{Graph, IsGraph, Node, Edge, shape}

@@ -1,6 +1,6 @@
 //! The canonical text of a graph: one statement on each line.
 ghost use Rattle.std.specs.Prelude.{◌≡◌, ◌<◌, ◌++◌, [], ◌∷◌, length, codes, flat_map, map, IfOk, OnOk};
-ghost use Rattle.sg_protocol.specs.Graph.{VariableKind, AreNumbers, canonical, clause, edge_line, ended, kind_text, node_line, role_name, spaced, variable_line, variable_name};
+ghost use Rattle.sg_protocol.specs.Graph.{VariableKind, AreNumbers, canonical, clause, edge_line, ended, kind_text, node_line, node_name, role_name, spaced, variable_line, variable_name};
 ghost use Rattle.sg_graph.specs.Parts.{kind_of_type, variable_at, node_at, edge_at};
 
 use crate::Graph;
@@ -13,12 +13,21 @@ pub fn canonical_text(alloc: Global, graph: &Graph) -> Result<Vec<u8>, OutOfMemo
     ensures { IfOk result (λ text. text.items ≡ canonical graph.now) }
 {
     let mut out = ByteOut::new(alloc);
-    put_statement(&mut out, b"graph ", &graph.name())?;
-    put_roles(&mut out, graph)?;
-    put_vars(&mut out, graph)?;
-    put_nodes(&mut out, graph)?;
-    put_edges(&mut out, graph)?;
-    Ok(out.done())
+    match put_graph(&mut out, graph) {
+        Ok(()) => Ok(out.done()),
+        Err(fault) => Err(fault),
+    }
+}
+
+// Each statement of a graph.
+fn put_graph(out: &mut ByteOut, graph: &Graph) -> Result<(), OutOfMemory>
+    ensures { OnOk result (out.new ≡ out.old ++ canonical graph.now) }
+{
+    put_statement(out, b"graph ", &graph.name())?;
+    put_roles(out, graph)?;
+    put_vars(out, graph)?;
+    put_nodes(out, graph)?;
+    put_edges(out, graph)
 }
 
 fn put_end(out: &mut ByteOut) -> Result<(), OutOfMemory>
@@ -39,6 +48,15 @@ fn put_statement(out: &mut ByteOut, word: &[u8], name: &Name) -> Result<(), OutO
     out.bytes(word)?;
     put_name(out, name)?;
     put_end(out)
+}
+
+// How the statement of a variable, a node or an edge begins.
+fn put_head(out: &mut ByteOut, word: &[u8], name: &Name) -> Result<(), OutOfMemory>
+    ensures { OnOk result (out.new ≡ out.old ++ word.now ++ name.now ++ codes ": ") }
+{
+    out.bytes(word)?;
+    put_name(out, name)?;
+    out.bytes(b": ")
 }
 
 fn put_spaced(out: &mut ByteOut, name: &Name) -> Result<(), OutOfMemory>
@@ -70,9 +88,7 @@ fn put_var(out: &mut ByteOut, graph: &Graph, var: Var) -> Result<(), OutOfMemory
     requires { var < length graph.now.variables }
     ensures { OnOk result (out.new ≡ out.old ++ variable_line graph.now (variable_at graph.now var)) }
 {
-    out.bytes(b"var ")?;
-    put_name(out, &graph.var_name(var))?;
-    out.bytes(b": ")?;
+    put_head(out, b"var ", &graph.var_name(var))?;
     put_type(out, graph.var_type(var))?;
     out.bytes(b" by")?;
     put_roles_of(out, graph, graph.writers(var))?;
@@ -114,9 +130,7 @@ fn put_node(out: &mut ByteOut, graph: &Graph, node: NodeId) -> Result<(), OutOfM
     requires { node < length graph.now.nodes }
     ensures { OnOk result (out.new ≡ out.old ++ node_line graph.now (node_at graph.now node)) }
 {
-    out.bytes(b"node ")?;
-    put_name(out, &graph.node_name(node))?;
-    out.bytes(b": ")?;
+    put_head(out, b"node ", &graph.node_name(node))?;
     put_name(out, &graph.role_name(graph.node_role(node)))?;
     put_end(out)
 }
@@ -135,15 +149,26 @@ fn put_edge(out: &mut ByteOut, graph: &Graph, label: Label) -> Result<(), OutOfM
     ensures { OnOk result (out.new ≡ out.old ++ edge_line graph.now (edge_at graph.now label)) }
 {
     let edge = graph.edge(label);
-    out.bytes(b"edge ")?;
-    put_name(out, &graph.edge_name(label))?;
-    out.bytes(b": ")?;
-    put_name(out, &graph.node_name(edge.source))?;
-    out.bytes(b" -> ")?;
-    put_name(out, &graph.node_name(edge.target))?;
+    put_head(out, b"edge ", &graph.edge_name(label))?;
+    put_arrow(out, graph, edge.source, edge.target)?;
     put_clause(out, graph, b" writes", edge.writes)?;
     put_clause(out, graph, b" reads", edge.reads)?;
     put_end(out)
+}
+
+fn put_arrow(
+    out: &mut ByteOut,
+    graph: &Graph,
+    source: NodeId,
+    target: NodeId,
+) -> Result<(), OutOfMemory>
+    requires source { source < length graph.now.nodes }
+    requires target { target < length graph.now.nodes }
+    ensures { OnOk result (out.new ≡ out.old ++ node_name graph.now source ++ codes " -> " ++ node_name graph.now target) }
+{
+    put_name(out, &graph.node_name(source))?;
+    out.bytes(b" -> ")?;
+    put_name(out, &graph.node_name(target))
 }
 
 fn put_clause(

@@ -4,7 +4,7 @@ use sg_graph::Graph;
 use std::marker::Model;
 
 /// Where a part that stands before is put into a graph: between two nodes of the graph, with roles of the graph for the roles of the part.
-#[derive(Debug, Drop)]
+#[derive(Drop)]
 pub struct Use {
     /// The name of the use, which no other use of its part has.
     pub name: Name,
@@ -27,7 +27,7 @@ impl Model for Use {
 }
 
 /// A graph and its uses of parts that stand before it, in the order of the text.
-#[derive(Debug, Drop)]
+#[derive(Drop)]
 pub struct Part {
     /// The graph without what is put into it. Its name is the part's.
     pub graph: Graph,

@@ -14,7 +14,7 @@ use sg_base::Name;
 use std::marker::Model;
 
 /// The tokens of a text that are not taken yet: the next one is at hand, the others are still bytes. A clause sees all of them.
-#[derive(Debug, Drop)]
+#[derive(Drop)]
 pub struct Scanner<'a> {
     bytes: &'a [u8],
     // Where the next token ends.

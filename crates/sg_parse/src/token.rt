@@ -9,7 +9,7 @@ use crate::fault::ParseFault;
 use sg_base::Name;
 
 // A token of a text, its end, or what is no token.
-#[derive(Debug, Clone, Copy)]
+#[derive(Clone, Copy)]
 pub enum Token {
     // A letter, then letters, digits or `_`, at most 32 bytes.
     Word(Name),
@@ -27,7 +27,7 @@ pub enum Token {
 }
 
 /// Which texts have the token: a text of parts also reserves the words `use` and `as`.
-#[derive(Debug, Clone, Copy)]
+#[derive(Clone, Copy)]
 pub enum Language {
     /// A graph, or what is said of one.
     OfGraph,
@@ -36,7 +36,7 @@ pub enum Language {
 }
 
 // A token and its offset in bytes.
-#[derive(Debug, Clone, Copy)]
+#[derive(Clone, Copy)]
 pub struct TokenAt {
     pub token: Token,
     pub at: usize,

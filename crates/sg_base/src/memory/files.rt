@@ -1,9 +1,7 @@
 //! Files in memory.
 ghost use Rattle.std.specs.Prelude.{◌≡◌, ◌↔◌, ◌<◌, ◌≤◌, if◌then◌else◌, map, string_bytes, length, IfOk, IfSome, IfNone, IsSomeAnd, IsTrue, None, Some};
 ghost use Rattle.sg_model.specs.Lists.{all_differ};
-ghost use Rattle.std.specs.Option.{option_copied, option_map};
-ghost use Rattle.std.specs.List.{find};
-ghost use Rattle.std.specs.Str.{bytes_eq};
+ghost use Rattle.std.specs.Option.{option_map};
 ghost use Rattle.sg_base.specs.Outside.{as_path, file_at};
 ghost use Rattle.sg_base.specs.Memory.{new_plan, fails_next, counted, failed};
 
@@ -14,7 +12,7 @@ use std::alloc::Global;
 use std::marker::Model;
 
 /// Files in memory, of names that differ. Its calls are counted from 1, and those of a given list fail.
-#[derive(Debug, Drop)]
+#[derive(Drop)]
 pub struct MemFiles {
     files: Vec<(String, Vec<u8>)>,
     plan: FaultPlan,
@@ -79,21 +77,16 @@ impl Files for MemFiles {
     }
 }
 
-// The first file with a name.
-fn find_file<'a>(files: &'a [(String, Vec<u8>)], name: &str) -> Option<&'a (String, Vec<u8>)>
-    ensures { option_copied result ≡ find (λ f. bytes_eq (string_bytes f.0) name.now) files.now }
-{
-    files.iter().find(|file| file.0.as_str() == name)
-}
-
 // The bytes of the first file with a name.
 fn find_bytes<'a>(files: &'a [(String, Vec<u8>)], name: &str) -> Option<&'a [u8]>
     ensures { option_map (λ bytes. bytes.now) result ≡ file_at (map (λ f. (string_bytes f.0, f.1.items)) files.now) name.now }
 {
-    match find_file(files, name) {
-        Some((_, bytes)) => Some(bytes.as_slice()),
-        None => None,
+    for file in files {
+        if file.0.as_str() == name {
+            return Some(file.1.as_slice());
+        }
     }
+    None
 }
 
 fn copied(alloc: Global, bytes: &[u8]) -> Result<Vec<u8>, OutOfMemory>

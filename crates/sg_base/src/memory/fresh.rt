@@ -11,7 +11,7 @@ use std::collections::VecDeque;
 use std::marker::Model;
 
 /// A list of sixteen bytes each, drawn from a seed when it was made.
-#[derive(Debug, Drop)]
+#[derive(Drop)]
 pub struct MemFresh {
     random: VecDeque<[u8; 16]>,
 }

@@ -1,5 +1,5 @@
 //! A link in memory.
-ghost use Rattle.std.specs.Prelude.{◌≡◌, ◌↔◌, ◌<◌, ◌≤◌, ◌-◌, ◌++◌, ◌||◌, [], ◌∷◌, List, ℕ, map, nat_le, length, drop, None, IfOk, IfSome, IfNone, IfErr, IsErr, IsTrue, OnOk, OnErr};
+ghost use Rattle.std.specs.Prelude.{◌≡◌, ◌↔◌, ◌<◌, ◌≤◌, ◌-◌, ◌++◌, ◌||◌, [], ◌∷◌, List, ℕ, map, nat_le, length, drop, vec_len, vec_capacity, None, IfOk, IfSome, IfNone, IfErr, IsErr, IsTrue, OnOk, OnErr};
 ghost use Rattle.sg_base.specs.Memory.{new_plan, fails_next, counted, failed};
 
 use super::plan::FaultPlan;
@@ -10,7 +10,7 @@ use std::marker::Model;
 
 /// A link in memory with deliveries to come and room for some frames, which doesn't grow. Its calls are counted from 1, and those of a
 /// given list fail.
-#[derive(Debug, Drop)]
+#[derive(Drop)]
 pub struct MemLink {
     bound: Option<Addr>,
     deliveries: VecDeque<Vec<u8>>,
@@ -118,13 +118,17 @@ impl Link for MemLink {
         if let Err(failed) = self.plan.call(self.sent.len() < self.room) {
             return Err((frame, failed));
         }
-        let (name, bytes) = frame.release();
-        match self.sent.push((to, bytes)) {
-            Ok(()) => Ok(()),
-            Err(refused) => {
-                let (_, bytes) = refused.value;
-                Err((Sealed::seal(name, bytes), Failed))
-            }
-        }
+        let (_, bytes) = frame.release();
+        put_frame(&mut self.sent, to, bytes);
+        Ok(())
     }
+}
+
+// Puts a frame at the end of a list that has room for it.
+fn put_frame(sent: &mut Vec<(Addr, Vec<u8>)>, to: Addr, bytes: Vec<u8>)
+    requires { vec_len sent.old < vec_capacity sent.old }
+    ensures frames { sent.new.items ≡ sent.old.items ++ (to, bytes) ∷ [] }
+    ensures room { vec_capacity sent.old ≤ vec_capacity sent.new }
+{
+    let _put = sent.push((to, bytes));
 }

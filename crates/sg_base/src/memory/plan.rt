@@ -7,7 +7,7 @@ use crate::Failed;
 use std::marker::Model;
 
 /// The numbers of the calls that are to fail, counted from 1, with the number of calls and of faults so far.
-#[derive(Debug, Drop)]
+#[derive(Drop)]
 pub struct FaultPlan {
     fails: Vec<u32>,
     calls: u64,
@@ -61,5 +61,10 @@ impl FaultPlan {
 fn is_listed(fails: &[u32], number: u64) -> bool
     ensures { result ≡ list_any (λ n. n == number) fails.now }
 {
-    fails.iter().any(|n| u64::from(*n) == number)
+    for fail in fails {
+        if u64::from(*fail) == number {
+            return true;
+        }
+    }
+    false
 }

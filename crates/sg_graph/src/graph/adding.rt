@@ -40,7 +40,9 @@ impl Graph {
         if number >= 16 {
             return Err(AddFault::TooMany);
         }
-        self.roles.push(name).map_err(|_| AddFault::OutOfMemory)?;
+        let Ok(()) = self.roles.push(name) else {
+            return Err(AddFault::OutOfMemory);
+        };
         Ok(Role(number as u8))
     }
 
@@ -62,13 +64,14 @@ impl Graph {
         if number >= 32 {
             return Err(AddFault::TooMany);
         }
-        self.vars
-            .push(Variable {
-                name,
-                kind,
-                writers,
-            })
-            .map_err(|_| AddFault::OutOfMemory)?;
+        let var = Variable {
+            name,
+            kind,
+            writers,
+        };
+        let Ok(()) = self.vars.push(var) else {
+            return Err(AddFault::OutOfMemory);
+        };
         Ok(Var(number as u8))
     }
 
@@ -90,9 +93,13 @@ impl Graph {
             return Err(AddFault::TooMany);
         }
         // Room first, so that both lists grow or neither does.
-        self.nodes.reserve(1).map_err(|_| AddFault::OutOfMemory)?;
+        let Ok(()) = self.nodes.reserve(1) else {
+            return Err(AddFault::OutOfMemory);
+        };
         let none = Seq::new(*self.nodes.allocator());
-        self.leaving.push(none).map_err(|_| AddFault::OutOfMemory)?;
+        let Ok(()) = self.leaving.push(none) else {
+            return Err(AddFault::OutOfMemory);
+        };
         put(&mut self.nodes, Node { name, role });
         Ok(NodeId(number as u16))
     }
@@ -134,8 +141,12 @@ impl Graph {
             reads,
         };
         // Room first, so that both lists grow or neither does.
-        self.edges.reserve(1).map_err(|_| AddFault::OutOfMemory)?;
-        put_label(&mut self.leaving, source, label).map_err(|_| AddFault::OutOfMemory)?;
+        let Ok(()) = self.edges.reserve(1) else {
+            return Err(AddFault::OutOfMemory);
+        };
+        let Ok(()) = put_label(&mut self.leaving, source, label) else {
+            return Err(AddFault::OutOfMemory);
+        };
         put(&mut self.edges, NamedEdge { name, edge });
         Ok(label)
     }

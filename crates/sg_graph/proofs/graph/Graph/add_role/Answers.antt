@@ -1,5 +1,5 @@
 use Rattle.std.proofs.Common.{◌≡◌, List, [], ◌∷◌, ◌++◌, subst, arith, rules}
-use Rattle.sg_protocol.specs.Graph.{Graph, IsGraph, Name}
+use Rattle.sg_protocol.specs.Graph.{IsGraph, Name}
 use Rattle.sg_graph.specs.Model.{graph_of}
 use Rattle.sg_graph.proofs.FirstIndex.{unfound_name}
 use Rattle.sg_graph.proofs.Growth.{IsGraph-with_role}

@@ -1,7 +1,6 @@
-use Rattle.std.proofs.Common.{◌≡◌, ◌<◌, ◌∙◌, sym, subst, length, All, Contains, List, []}
+use Rattle.std.proofs.Common.{◌≡◌, ◌<◌, ◌∙◌, sym, subst, length, All, Contains}
 use Rattle.sg_model.specs.Shape.{source}
 use Rattle.sg_protocol.specs.Graph.{shape}
-use Rattle.sg_graph.specs.Edges.{leaving_from}
 use Rattle.sg_graph.proofs.Leaving.{kept_at, kept_past, leaving-each, leaving-all}
 use Rattle.sg_graph.proofs.graph.Graph.edges_from.Goals as goal
 
