@@ -7,7 +7,7 @@ use sg_base::Name;
 use std::marker::Model;
 
 /// Whether a claim asks that something stands before, or that it doesn't.
-#[derive(Debug, Clone, Copy, PartialEq, Eq)]
+#[derive(Clone, Copy, PartialEq, Eq)]
 pub enum ClaimKind {
     /// Wherever a label of `later` stands, one of `earlier` stands before it.
     Needs,
@@ -31,7 +31,7 @@ impl ClaimKind {
 
 /// A claim on the walks of a graph from its start. Only what stands before a label since the last label of `since` counts, and that
 /// label itself.
-#[derive(Debug, Drop)]
+#[derive(Drop)]
 pub struct Claim {
     /// What the claim asks.
     pub kind: ClaimKind,
@@ -53,7 +53,7 @@ impl Model for Claim {
 }
 
 /// A claim with its name.
-#[derive(Debug, Drop)]
+#[derive(Drop)]
 pub struct NamedClaim {
     /// Its name.
     pub name: Name,

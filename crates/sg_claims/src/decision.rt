@@ -13,7 +13,7 @@ use sg_graph::Graph;
 use std::alloc::Global;
 
 /// Whether a claim holds of a graph.
-#[derive(Debug, Drop)]
+#[derive(Drop)]
 pub enum Answer {
     /// It holds on each walk from the start.
     Holds,

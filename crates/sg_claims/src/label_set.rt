@@ -8,7 +8,7 @@ use std::alloc::Global;
 use std::marker::Model;
 
 /// Different labels in order, each from 0 to 511. Whether a label is there is looked up without a search. A clause sees their list.
-#[derive(Debug, Drop)]
+#[derive(Drop)]
 pub struct LabelSet {
     labels: Vec<Label>,
     // Whether each label is there.

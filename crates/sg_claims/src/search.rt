@@ -9,7 +9,7 @@ use std::alloc::Global;
 
 /// A node with its bit, in the order in which they were found: the index in this order of the one that it was found from, and the label
 /// of the edge from there. Both mean nothing at the first, the start.
-#[derive(Debug, Clone, Copy)]
+#[derive(Clone, Copy)]
 pub struct Entry {
     pub node: NodeId,
     pub bit: bool,
@@ -18,7 +18,7 @@ pub struct Entry {
 }
 
 /// What a search has found: the entries, and a table of which nodes with which bit are among them.
-#[derive(Debug, Drop)]
+#[derive(Drop)]
 pub struct Search {
     pub entries: Vec<Entry>,
     pub seen: [bool; 512],

@@ -8,7 +8,7 @@ use Rattle.sg_model.specs.Lists.{has_text}
 use Rattle.sg_protocol.specs.Graph.{Graph, Name, canonical, role_name}
 use Rattle.sg_protocol.specs.Keyring.{Program}
 use Rattle.sg_protocol.proofs.GraphText.{canonical_same}
-use Rattle.sg_vis.specs.Limits.{FewOpen}
+use Rattle.sg_views.specs.Limits.{FewOpen}
 use Rattle.sg_compile.specs.Compiled.{IsCompiled, IsRefused, IsWhole}
 use Rattle.sg_compile.specs.Loading.{HasPrefix, HasGraph, HasRole, HasStart, IsCanonical, IsFaultAfter, IsFaultBehind, IsLoadFault, IsLoaded, IsMalformed, IsNoCanonical, NoGraph, OtherStart, at_table}
 use Rattle.sg_compile.specs.Text.{line, program_text, role_line, start_line, table_text, version}

@@ -17,9 +17,9 @@ use Rattle.sg_model.proofs.Small.{same_or_not}
 use Rattle.sg_protocol.specs.Evidence.{IsOpenView, IsView, IsViewTable, Seen, View, are_ordered, are_ordered_after, mask, rising, same_items, same_origin, same_view, view_before}
 use Rattle.sg_protocol.specs.Graph.{Graph}
 use Rattle.sg_protocol.proofs.Bridge.{has_view-Contains}
-use Rattle.sg_vis.specs.Limits.{FewOpen, ManyOpen, ManyViews}
+use Rattle.sg_views.specs.Limits.{FewOpen, ManyOpen, ManyViews}
 use Rattle.sg_vis.specs.Order.{compared, items_compared, origin_number}
-use Rattle.sg_vis.specs.declared.view.OpenView.{OpenView}
+use Rattle.sg_views.specs.declared.open_view.OpenView.{OpenView}
 use Rattle.sg_vis.proofs.Ordered.{before-compared, compared_total}
 use Rattle.sg_compile.specs.Laws.{Surely}
 use Rattle.sg_compile.proofs.Sure.{or_not, so, sure}

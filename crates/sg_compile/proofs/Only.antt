@@ -25,10 +25,10 @@ use Rattle.sg_know.specs.Reads.{IsFirstFault}
 use Rattle.sg_know.specs.declared.fault.ReadFault.{ReadFault}
 use Rattle.sg_know.specs.declared.fault.ReadFault.TheVariants.{NotWriter, ReadsOwn, BadRead, OutOfMemory as ReadMemory}
 use Rattle.sg_know.proofs.First.{last_split}
-use Rattle.sg_vis.specs.Limits.{Explains}
-use Rattle.sg_vis.specs.declared.view.OpenView.{OpenView}
-use Rattle.sg_vis.specs.declared.fault.ViewFault.{ViewFault}
-use Rattle.sg_vis.specs.declared.fault.ViewFault.TheVariants.{TooManyOpen, TooManyViews, OutOfMemory as ViewMemory}
+use Rattle.sg_views.specs.Limits.{Explains}
+use Rattle.sg_views.specs.declared.open_view.OpenView.{OpenView}
+use Rattle.sg_views.specs.declared.fault.ViewFault.{ViewFault}
+use Rattle.sg_views.specs.declared.fault.ViewFault.TheVariants.{TooManyOpen, TooManyViews, OutOfMemory as ViewMemory}
 use Rattle.sg_compile.specs.Compiled.{IsCompiled, IsRefused}
 use Rattle.sg_compile.specs.Refused.{IsRefusal}
 use Rattle.sg_compile.specs.declared.check.CompileFault.{CompileFault}

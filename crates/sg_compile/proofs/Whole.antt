@@ -13,8 +13,8 @@ use Rattle.sg_protocol.specs.IsSchedule.{parts}
 use Rattle.sg_protocol.specs.Keyring.{Program}
 use Rattle.sg_protocol.specs.Targets.{IsTarget, IsTargetTable}
 use Rattle.sg_protocol.specs.Texts.{graph_digest, real}
-use Rattle.sg_vis.specs.Limits.{FewOpen}
-use Rattle.sg_vis.specs.declared.fault.ViewFault.TheVariants.{TooManyOpen, TooManyViews}
+use Rattle.sg_views.specs.Limits.{FewOpen}
+use Rattle.sg_views.specs.declared.fault.ViewFault.TheVariants.{TooManyOpen, TooManyViews}
 use Rattle.sg_compile.specs.All.{IsAllFault, IsStopped, pairs_of, roles_of}
 use Rattle.sg_compile.specs.Compiled.{IsCompiled, IsRefused, IsWhole}
 use Rattle.sg_compile.specs.Laws.{AllAreCompiledOrRefused, RolesAreCompiledOrRefused, Surely}

@@ -6,9 +6,9 @@ use Rattle.sg_protocol.specs.Graph.{Graph}
 use Rattle.sg_protocol.specs.IsSchedule.{IsProgram}
 use Rattle.sg_protocol.specs.Keyring.{Program}
 use Rattle.sg_protocol.specs.Texts.{real}
-use Rattle.sg_vis.specs.Limits.{Explains, FewOpen}
-use Rattle.sg_vis.specs.declared.fault.ViewFault.{ViewFault}
-use Rattle.sg_vis.specs.declared.fault.ViewFault.TheVariants.{OutOfMemory as ViewMemory}
+use Rattle.sg_views.specs.Limits.{Explains, FewOpen}
+use Rattle.sg_views.specs.declared.fault.ViewFault.{ViewFault}
+use Rattle.sg_views.specs.declared.fault.ViewFault.TheVariants.{OutOfMemory as ViewMemory}
 use Rattle.sg_compile.specs.Refused.{IsRefusal}
 use Rattle.sg_compile.specs.declared.check.CompileFault.{CompileFault}
 use Rattle.sg_compile.specs.declared.check.CompileFault.TheVariants.{Views, OutOfMemory}

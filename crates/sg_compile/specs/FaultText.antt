@@ -3,7 +3,7 @@ use Rattle.std.specs.Prelude.{ℕ, List, codes}
 use Rattle.sg_protocol.specs.Graph.{Graph}
 use Rattle.sg_check.specs.FaultText.{shape_text, blinding_text}
 use Rattle.sg_know.specs.FaultText.{reads_text}
-use Rattle.sg_vis.specs.FaultText.{views_text}
+use Rattle.sg_views.specs.FaultText.{views_text}
 use Rattle.sg_compile.specs.declared.check.CompileFault.{CompileFault}
 use Rattle.sg_compile.specs.declared.check.CompileFault.TheVariants.{Shape, Reads, Blinding, Views, OutOfMemory}
 

@@ -1,6 +1,6 @@
 //! The programs of several graphs.
 ghost use Rattle.std.specs.List.{All};
-ghost use Rattle.std.specs.Prelude.{◌≡◌, ◌≢◌, ◌≤◌, ◌<◌, ◌^◌, ◌++◌, length, map, IfErr, IfOk, IsTrue, OnOk};
+ghost use Rattle.std.specs.Prelude.{◌≡◌, ◌≢◌, ◌≤◌, ◌<◌, ◌^◌, ◌++◌, [], length, map, IfErr, IfOk, IsTrue, OnOk};
 ghost use Rattle.sg_model.specs.Lists.{all_differ};
 ghost use Rattle.sg_protocol.specs.IsSchedule.{AreCompiled};
 ghost use Rattle.sg_protocol.specs.Texts.{real};
@@ -39,10 +39,26 @@ pub fn compile_all(alloc: Global, graphs: &[Graph]) -> Result<Programs, AllFault
     ensures refused { IfErr result (IsAllFault graphs.now) }
 {
     let mut programs = Programs::new(alloc);
-    for (index, graph) in graphs.iter().enumerate() {
-        add_roles(alloc, &mut programs, index as u32, graph)?;
+    match add_all(alloc, &mut programs, graphs) {
+        Ok(()) => Ok(programs),
+        Err(fault) => Err(fault),
     }
-    Ok(programs)
+}
+
+// Adds the programs of all roles of the graphs, as the first ones.
+fn add_all(alloc: Global, programs: &mut Programs, graphs: &[Graph]) -> Result<(), AllFault>
+    requires first { programs.old ≡ [] }
+    requires names { IsTrue (all_differ (map (λ g. g.name) graphs.now)) }
+    requires two { All (λ g. 2 ≤ length g.roles) graphs.now }
+    requires few { length graphs.now < 2 ^ 32 }
+    ensures compiled { OnOk result (AreCompiled real graphs.now programs.new) }
+    ensures few { OnOk result (All IsWhole programs.new) }
+    ensures refused { IfErr result (IsAllFault graphs.now) }
+{
+    for (index, graph) in graphs.iter().enumerate() {
+        add_roles(alloc, programs, index as u32, graph)?;
+    }
+    Ok(())
 }
 
 // Adds the programs of all roles of a graph, whose index is reported if it isn't compiled.

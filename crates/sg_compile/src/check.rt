@@ -8,7 +8,7 @@ use sg_base::{ByteOut, OutOfMemory, Role};
 use sg_check::{BlindFault, ShapeFault, check_blinding, check_shape};
 use sg_graph::Graph;
 use sg_know::{ReadFault, check_reads};
-use sg_vis::ViewFault;
+use sg_views::ViewFault;
 use std::alloc::Global;
 use thiserror::Error;
 

@@ -6,7 +6,7 @@ ghost use Rattle.std.specs.List.{All};
 ghost use Rattle.sg_protocol.specs.Accepted.{Accepted};
 ghost use Rattle.sg_protocol.specs.Evidence.{IsViewTable};
 ghost use Rattle.sg_vis.specs.Table.{Shows, views_of};
-ghost use Rattle.sg_vis.specs.Limits.{FewOpen};
+ghost use Rattle.sg_views.specs.Limits.{FewOpen};
 ghost use Rattle.sg_protocol.specs.Texts.{graph_digest, real};
 ghost use Rattle.sg_compile.specs.Compiled.{IsCompiled, IsRefused, view_fault};
 
@@ -14,9 +14,10 @@ use crate::check::{CompileFault, check_graph};
 use sg_base::{OutOfMemory, Role};
 use sg_crypt::graph_digest;
 use sg_graph::{Graph, canonical_text};
-use sg_plan::{TargetTable, targets};
+use sg_plan::targets;
 use sg_program::Program;
-use sg_vis::{ViewFault, ViewTable, views};
+use sg_views::{ViewFault, views};
+use sg_vis::ViewTable;
 use std::alloc::Global;
 
 /// The program of a graph for one of its roles, or the first fault: the graph is checked, and then the role's views are listed. It takes

@@ -1,5 +1,5 @@
 //! The loader of programs.
-ghost use Rattle.std.specs.Prelude.{◌≡◌, ◌≢◌, ◌↔◌, ℕ, ◌+◌, ◌<◌, ◌≤◌, ◌==◌, ◌^◌, ◌++◌, List, true, codes, drop, length, option_map, position, take, IfErr, IfOk, IfSome, IsTrue, MatchOption};
+ghost use Rattle.std.specs.Prelude.{◌≡◌, ◌↔◌, ℕ, ◌+◌, ◌<◌, ◌≤◌, ◌==◌, ◌^◌, ◌++◌, List, true, codes, drop, length, option_map, position, take, IfErr, IfOk, IfSome, IsTrue, MatchOption, OnOk};
 ghost use Rattle.std.specs.List.{common_prefix_len};
 ghost use Rattle.sg_protocol.specs.Graph.{Name, canonical};
 ghost use Rattle.sg_compile.specs.Loading.{HasRole, HasStart, IsCanonical, IsFaultAfter, IsFaultBehind, IsLoadFault, IsLoaded, IsNoCanonical, IsTableFault, at_table, first_wrong};
@@ -181,27 +181,26 @@ fn with_table(alloc: Global, program: Program, table: &[u8]) -> Result<Program, 
     ensures ok { IfOk result (λ p. (p ≡ program) × (table.now ≡ table_text program)) }
     ensures fault { IfErr result (IsTableFault program table.now) }
 {
-    match wrong_line(alloc, &program, table) {
-        Ok(None) => Ok(program),
-        Ok(Some(entry)) => Err(LoadFault::NotTheTable { entry }),
-        Err(_) => Err(LoadFault::OutOfMemory),
+    match check_table(alloc, &program, table) {
+        Ok(()) => Ok(program),
+        Err(fault) => Err(fault),
     }
 }
 
-// The number of the first line that isn't as in the program's table.
-fn wrong_line(alloc: Global, program: &Program, table: &[u8]) -> Result<Option<usize>, LoadFault>
-    ensures ok { IfOk result (λ line. MatchOption line (table.now ≡ table_text program.now)
-        (λ n. (table.now ≢ table_text program.now) × (n ≡ first_wrong (table_text program.now) table.now))) }
-    ensures only { IfErr result (λ fault. fault ≡ LoadFault.OutOfMemory) }
+// Refuses bytes that aren't the lines of the program's table.
+fn check_table(alloc: Global, program: &Program, table: &[u8]) -> Result<(), LoadFault>
+    ensures ok { OnOk result (table.now ≡ table_text program.now) }
+    ensures fault { IfErr result (IsTableFault program.now table.now) }
 {
     let wanted = match table_of(alloc, program) {
         Ok(wanted) => wanted,
         Err(_) => return Err(LoadFault::OutOfMemory),
     };
     if wanted.as_slice() == table {
-        return Ok(None);
+        return Ok(());
     }
-    Ok(Some(first_wrong(wanted.as_slice(), table)))
+    let entry = first_wrong(wanted.as_slice(), table);
+    Err(LoadFault::NotTheTable { entry })
 }
 
 // The lines of a program's table.

@@ -7,7 +7,7 @@ use std::alloc::Global;
 use std::marker::Model;
 
 /// What a walk says of a variable and a role.
-#[derive(Debug, Clone, Copy)]
+#[derive(Clone, Copy)]
 pub(crate) enum Mark {
     /// The variable was not written.
     Unwritten,
@@ -18,21 +18,21 @@ pub(crate) enum Mark {
 }
 
 /// Where a walk ends, and its mark.
-#[derive(Debug, Clone, Copy)]
+#[derive(Clone, Copy)]
 pub(crate) struct WalkState {
     pub node: NodeId,
     pub mark: Mark,
 }
 
 /// The edge by which a state was reached, and the index of the state before it.
-#[derive(Debug, Clone, Copy)]
+#[derive(Clone, Copy)]
 pub(crate) struct Arrival {
     pub from: usize,
     pub label: Label,
 }
 
 /// A state, and how it was reached: that of the empty walk by no step.
-#[derive(Debug, Clone, Copy)]
+#[derive(Clone, Copy)]
 pub(crate) struct ReachedState {
     pub state: WalkState,
     pub by: Option<Arrival>,

@@ -5,7 +5,5 @@
 #![tactic(auto)]
 
 mod plan;
-mod table;
 
 pub use plan::targets;
-pub use table::TargetTable;

@@ -4,9 +4,9 @@ ghost use Rattle.sg_model.specs.Lists.{is_in};
 ghost use Rattle.sg_protocol.specs.Graph.{AreNumbers, shape};
 ghost use Rattle.sg_protocol.specs.Targets.{IsTarget, IsTargetTable};
 
-use crate::TargetTable;
 use sg_base::{Label, OutOfMemory, Role, RoleSet, Seq};
 use sg_graph::Graph;
+use sg_program::TargetTable;
 use sg_reach::Reach;
 use std::alloc::Global;
 

@@ -7,6 +7,8 @@
 
 mod program;
 mod programs;
+mod table;
 
 pub use program::Program;
 pub use programs::{AddProgramFault, Programs};
+pub use table::TargetTable;

@@ -4,15 +4,15 @@ ghost use Rattle.sg_protocol.specs.IsSchedule.{IsProgram};
 ghost use Rattle.sg_protocol.specs.Texts.{real};
 ghost use Rattle.sg_vis.specs.Table.{Shows, views_of};
 
+use crate::TargetTable;
 use sg_base::Role;
 use sg_graph::Graph;
-use sg_plan::TargetTable;
 use sg_vis::ViewTable;
 use std::marker::Model;
 
 /// An accepted graph, compiled for one of its roles: the graph's digest, the table of the role's views, and for each edge the roles that
 /// must be able to check it later.
-#[derive(Debug, Drop)]
+#[derive(Drop)]
 pub struct Program {
     graph: Graph,
     role: Role,

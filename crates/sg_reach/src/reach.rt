@@ -14,7 +14,7 @@ use std::marker::Model;
 
 /// The nodes that can be reached from a node by walks that pass no node of some roles. A clause sees it as the graph, the node and
 /// the roles.
-#[derive(Debug, Drop)]
+#[derive(Drop)]
 pub struct Reach<'g> {
     graph: &'g Graph,
     search: Search,

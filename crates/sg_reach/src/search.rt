@@ -4,7 +4,7 @@ ghost use Rattle.std.specs.Prelude.{◌≡◌, ◌+◌, ◌<◌, ℕ, get_or, le
 use sg_base::{Label, NodeId, RoleSet};
 
 /// A walk to a node: the number of its edges, and its last label, which means nothing if it has none.
-#[derive(Debug, Clone, Copy)]
+#[derive(Clone, Copy)]
 pub struct WalkEnd {
     pub edges: u16,
     pub last: Label,
@@ -12,7 +12,7 @@ pub struct WalkEnd {
 
 /// A search from a node past some roles. Each node that was found has a walk to it and stands in a queue, in the order in which they
 /// were found; those from `at` on wait to be followed.
-#[derive(Debug, Drop)]
+#[derive(Drop)]
 pub struct Search {
     pub from: NodeId,
     pub past: RoleSet,

@@ -1,8 +1,1 @@
-pub mod Growing
-pub mod Keyed
-pub mod Lists
-pub mod Next
 pub mod Ordered
-pub mod Reached
-pub mod Tables
-pub mod Unions

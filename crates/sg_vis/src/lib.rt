@@ -1,25 +1,14 @@
-//! What a role can be shown: every view of a graph that can reach it, each once, and no other.
+//! What a role is shown of a walk, and tables of it in order.
 //!
 //! On a walk a role sees its own last label, or that it has done nothing yet, and then, of the steps since, those whose sender has no
 //! later step, in order. With each comes its delta: the variables written since the one before it. This is the role's view of the walk.
-//! A role's views are those of the walks from the start that end where it acts; the views of walks that end elsewhere, each with that
-//! node, are open.
-//!
-//! The view of a walk with one more edge depends on that edge and on the view before it alone: the item of the edge's sender goes, what it
-//! brought is joined to the item after it, and the edge comes last. So all views are found by following edges from one open view to the
-//! next, until none is new, in time in proportion to the open views times the edges that leave a node.
+//! A table has views in order, all different, each with a walk that shows it. Which views can reach a role is found by `sg_views`.
 #![tactic(auto)]
 
-mod fault;
-mod finding;
 mod order;
-mod search;
-mod states;
-mod step;
 mod table;
 mod view;
 
-pub use fault::ViewFault;
-pub use finding::views;
-pub use table::{ViewId, ViewTable};
-pub use view::{OpenView, Origin, Seen, View};
+pub use order::{mask_of, number_of};
+pub use table::{Row, ViewId, ViewTable, index_of};
+pub use view::{Origin, Seen, View};

@@ -23,7 +23,7 @@ pub(crate) fn compare(view: &View, from: Origin, items: &[Seen]) -> Ordering
 }
 
 /// 0 for the start, and otherwise one more than the label.
-pub(crate) fn number_of(from: Origin) -> u32
+pub fn number_of(from: Origin) -> u32
     ensures { result ≡ origin_number (origin_of from) }
 {
     match from {
@@ -57,7 +57,7 @@ fn compare_seen(one: &Seen, two: &Seen) -> Ordering
 }
 
 /// The mask of a set: bit i for variable i. It determines the set.
-pub(crate) fn mask_of(vars: VarSet) -> u32
+pub fn mask_of(vars: VarSet) -> u32
     ensures mask { result ≡ mask vars }
     ensures set { members 32 result ≡ vars }
 {

@@ -2,7 +2,7 @@
 ghost use Rattle.std.specs.Prelude.{◌≡◌, ◌<◌, ◌≤◌, Some, length, slice_get, AllPairs, Contains, IfErr, IfOk, MatchOption};
 ghost use Rattle.std.specs.declared.cmp.Ordering.TheVariants.{Less};
 ghost use Rattle.sg_model.specs.Limits.{most_views};
-ghost use Rattle.sg_vis.specs.Order.{BelongsAt, compared};
+ghost use Rattle.sg_vis.specs.Order.{BelongsAt, HoldsTable, compared};
 ghost use Rattle.sg_vis.specs.Model.{origin_of};
 ghost use Rattle.sg_vis.specs.Table.{view_from, views_of, walks_of};
 
@@ -13,7 +13,7 @@ use std::cmp::Ordering;
 use std::marker::Model;
 
 /// A view of a table, by its index in the table's order.
-#[derive(Debug, Clone, Copy, PartialEq, Eq)]
+#[derive(Clone, Copy, PartialEq, Eq)]
 pub struct ViewId(pub u16);
 
 impl Model for ViewId {
@@ -27,9 +27,11 @@ impl Model for ViewId {
 }
 
 /// A view, and a walk that shows it.
-#[derive(Debug, Drop)]
-pub(crate) struct Row {
+#[derive(Drop)]
+pub struct Row {
+    /// The view.
     pub view: View,
+    /// The walk.
     pub walk: Seq<Label>,
 }
 
@@ -42,9 +44,9 @@ impl Model for Row {
 }
 
 /// Views in their order, all different, each with a walk that shows it. A clause sees the list of both.
-#[derive(Debug, Drop)]
+#[derive(Drop)]
 pub struct ViewTable {
-    pub(crate) rows: Vec<Row>,
+    rows: Vec<Row>,
 }
 
 impl Model for ViewTable {
@@ -61,6 +63,14 @@ impl Model for ViewTable {
 }
 
 impl ViewTable {
+    /// The table of these rows. It takes no memory.
+    pub fn from_rows(rows: Vec<Row>) -> ViewTable
+        requires { HoldsTable rows.items }
+        ensures { result ≡ rows.items }
+    {
+        ViewTable { rows }
+    }
+
     /// The number of views, at most 4,096. It takes no memory.
     pub fn len(&self) -> u16
         ensures count { result ≡ length self.now }
@@ -98,7 +108,7 @@ impl ViewTable {
 }
 
 /// The index of the view with this origin and these items among rows in order, or where it would stand. It takes no memory.
-pub(crate) fn index_of(rows: &[Row], from: Origin, items: &[Seen]) -> Result<usize, usize>
+pub fn index_of(rows: &[Row], from: Origin, items: &[Seen]) -> Result<usize, usize>
     requires { AllPairs (λ a b. compared a.view b.view ≡ Less) rows.now }
     ensures found { IfOk result (λ i. slice_get (views_of rows.now) i ≡ Some (view_from (origin_of from) items.now)) }
     ensures between { IfErr result (BelongsAt rows.now (view_from (origin_of from) items.now)) }

@@ -1,7 +1,7 @@
 //! Views.
 ghost use Rattle.std.specs.Prelude.{◌≡◌, IfOk};
 
-use sg_base::{Label, NodeId, OutOfMemory, Seq, VarSet};
+use sg_base::{Label, OutOfMemory, Seq, VarSet};
 use std::alloc::Global;
 use std::marker::Model;
 
@@ -62,13 +62,4 @@ impl View {
             items: Seq::from_vec(items),
         })
     }
-}
-
-/// An open view: a node of another role, and what a role sees of a walk to it.
-#[derive(Debug, Drop)]
-pub struct OpenView {
-    /// The node.
-    pub node: NodeId,
-    /// What the role sees.
-    pub view: View,
 }

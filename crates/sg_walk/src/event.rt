@@ -6,7 +6,7 @@ ghost use Rattle.sg_walk.specs.Model.{event_of};
 use sg_base::{Label, Role, Seq, Sid, Time, Value, Var};
 
 /// What a role did in a session. Values stand in the order of their variables.
-#[derive(Debug, Drop)]
+#[derive(Drop)]
 pub enum Event {
     /// The role started the session.
     Started {

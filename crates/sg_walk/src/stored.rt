@@ -5,7 +5,7 @@ use sg_base::{Label, OutOfMemory, Seq, Value, Var};
 use std::alloc::Global;
 
 /// A step: its label, and each variable that it writes, in rising order, with its value. `None` is a hidden value.
-#[derive(Debug, Drop)]
+#[derive(Drop)]
 pub struct StoredStep {
     /// The label.
     pub label: Label,
@@ -14,7 +14,7 @@ pub struct StoredStep {
 }
 
 /// The steps of a walk from the start, with the values that are written on it.
-#[derive(Debug, Drop)]
+#[derive(Drop)]
 pub struct StoredWalk {
     /// The steps.
     pub steps: Seq<StoredStep>,

@@ -1,5 +1,4 @@
 use Rattle.std.proofs.Common.{◌<◌, ◌+◌, ◌-◌, ◌/◌, refl, sym, arith}
-use Rattle.std.specs.declared.cmp.Ordering.TheVariants.{Less, Greater}
 use Rattle.sg_vis.specs.Model.{origin_of}
 use Rattle.sg_vis.specs.Table.{view_from}
 use Rattle.sg_vis.proofs.Ordered.{less_upto, more_from, view_at}

@@ -1,0 +1,5 @@
+pub mod FaultText
+pub mod Keys
+pub mod Limits
+pub mod Search
+pub mod Steps

@@ -1,9 +1,0 @@
-use Rattle.sg_vis.specs.Search.{AreRows, ShownBelow}
-use Rattle.sg_vis.specs.Table.{views_of}
-use Rattle.sg_vis.proofs.finding.all_rows.Given as goal
-
-abbrev pub invariant-loop-at : goal.invariant-loop-at
-invariant-loop-at l = record {
-  rows : AreRows l.graph l.role l.rows.items;
-  shown : ShownBelow l.graph l.role (views_of l.rows.items) l.states l.at;
-}

@@ -1,6 +1,0 @@
-use Rattle.std.proofs.Common.{◌≡◌, map, take}
-use Rattle.sg_vis.specs.Search.{open_states, open_view}
-use Rattle.sg_vis.proofs.states.States.open_views.Given as goal
-
-abbrev pub invariant-loop-at : goal.invariant-loop-at
-invariant-loop-at l = l.list.items ≡ map open_view (open_states (take l.at l.self))

@@ -1,6 +1,0 @@
-use Rattle.std.proofs.Common.{◌≡◌}
-use Rattle.sg_walk.specs.Matching.{acts_from}
-use Rattle.sg_walk.proofs.part.explained.next_act.Given as goal
-
-abbrev pub invariant-loop-at : goal.invariant-loop-at
-invariant-loop-at l = acts_from l.events l.from ≡ acts_from l.events l.at
