@@ -13,7 +13,7 @@ use sg_crypt::{Hashed, Notes};
 use std::alloc::Global;
 
 /// Two different texts with one digest.
-#[derive(Debug, Clone, Copy)]
+#[derive(Clone, Copy)]
 pub struct Collision<'t> {
     /// The one that was hashed first.
     pub one: &'t [u8],

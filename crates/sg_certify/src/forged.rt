@@ -1,5 +1,5 @@
 //! The first tag that nobody made.
-ghost use Rattle.std.specs.Prelude.{◌≡◌, ◌++◌, [], find, option_map, flat_map, IfOk, OnOk};
+ghost use Rattle.std.specs.Prelude.{◌≡◌, ◌++◌, [], find, option_map, IfOk, OnOk};
 ghost use Rattle.std.specs.List.{list_any};
 ghost use Rattle.std.specs.Option.{option_copied};
 ghost use Rattle.sg_protocol.specs.Broken.{first_forged, same_note};
@@ -15,7 +15,7 @@ use sg_crypt::{Note, Notes};
 use std::alloc::Global;
 
 /// A text that was found right under the key of two honest principals, and that none of them had tagged.
-#[derive(Debug, Clone, Copy)]
+#[derive(Clone, Copy)]
 pub struct Forged<'n> {
     /// The number of the step that found it, from 1.
     pub step: usize,

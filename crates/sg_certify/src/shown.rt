@@ -4,7 +4,7 @@ use sg_walk::Event;
 
 /// An event of a session, and a walk from the start that shows its role what it received. If the event is no receipt the walk is not
 /// looked at.
-#[derive(Debug, Clone, Copy)]
+#[derive(Clone, Copy)]
 pub struct ShownEvent<'e> {
     /// The event.
     pub event: &'e Event,

@@ -1,5 +1,5 @@
 -- What a cast and a key keep true.
-use Rattle.std.specs.Prelude.{◌≡◌, ◌-◌, length, take}
+use Rattle.std.specs.Prelude.{◌≡◌, length, take}
 use Rattle.sg_protocol.specs.Frame.{IsCastOf}
 use Rattle.sg_protocol.specs.TextLaws.{IsVersion}
 use Rattle.sg_crypt.specs.declared.cast.Cast.TheInside.{Inside}

@@ -11,7 +11,7 @@ use std::marker::Model;
 
 /// Who takes part in a session: the version of its frames, 1 or 2, the digest of its graph, sixteen bytes that distinguish it from other
 /// sessions, and the principal of each role in order, 2 to 16.
-#[derive(Debug, Clone, Copy, PartialEq, Eq)]
+#[derive(Clone, Copy, PartialEq, Eq)]
 pub struct Cast {
     version: u8,
     graph: [u8; 32],

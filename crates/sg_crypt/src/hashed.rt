@@ -6,7 +6,7 @@ use sha2::{Digest, Sha256};
 use std::marker::Model;
 
 /// A text beside its digest, so that no text is hashed twice. A clause sees the text.
-#[derive(Debug, Drop)]
+#[derive(Drop)]
 pub struct Hashed {
     text: Vec<u8>,
     digest: [u8; 32],

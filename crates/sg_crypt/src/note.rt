@@ -10,7 +10,7 @@ use std::alloc::Global;
 use std::marker::Model;
 
 /// A text for two principals, the lesser name first by its bytes.
-#[derive(Debug, Drop)]
+#[derive(Drop)]
 pub struct Note {
     pair: Pair,
     text: Seq<u8>,
@@ -59,7 +59,7 @@ impl Note {
 }
 
 /// How long each of the three lists is.
-#[derive(Debug, Clone, Copy, PartialEq, Eq)]
+#[derive(Clone, Copy, PartialEq, Eq)]
 pub struct Counts {
     /// Of the texts that were tagged.
     pub made: usize,
@@ -70,7 +70,7 @@ pub struct Counts {
 }
 
 /// Three lists: the texts that were tagged, those whose tag was found right, and those that were hashed.
-#[derive(Debug, Drop)]
+#[derive(Drop)]
 pub struct Notes {
     made: Vec<Note>,
     found: Vec<Note>,

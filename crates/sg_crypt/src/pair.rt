@@ -9,12 +9,12 @@ use std::marker::Model;
 use std::rc::Rc;
 
 /// Two principals on the heap, the lesser name first by its bytes, which their notes share. A clause sees the two names.
-#[derive(Debug, Drop)]
+#[derive(Drop)]
 pub struct Pair {
     names: Rc<Names>,
 }
 
-#[derive(Debug, Clone, Copy)]
+#[derive(Clone, Copy)]
 struct Names {
     one: Name,
     two: Name,

@@ -11,7 +11,7 @@ use std::rc::Rc;
 
 /// A cast on the heap, which several holders share: neither moving nor sharing it copies its names. A clause sees it as the
 /// cast.
-#[derive(Debug, Drop)]
+#[derive(Drop)]
 pub struct SharedCast {
     cast: Rc<Cast>,
 }

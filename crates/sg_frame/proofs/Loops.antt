@@ -1,5 +1,5 @@
 -- Readings one after the other, as a loop does them.
-use Rattle.std.proofs.Common.{◌≡◌, ℕ, suc, ◌-◌, ◌+◌, ◌≤◌, ◌<◌, List, [], ◌∷◌, ◌++◌, Result, Ok, Err, refl, sym, ap, ◌∙◌, append_assoc, arith}
+use Rattle.std.proofs.Common.{◌≡◌, ℕ, suc, ◌-◌, ◌+◌, ◌<◌, List, [], ◌∷◌, ◌++◌, Result, Ok, Err, refl, sym, ap, ◌∙◌, append_assoc, arith}
 use Rattle.sg_base.specs.Reading.{Cursor}
 use Rattle.sg_protocol.specs.Reading.{Read, Reader, give, on, times, rising_times}
 use Rattle.sg_frame.specs.declared.fault.FrameStop.{FrameStop}

@@ -1,7 +1,6 @@
 //! The cast that a frame joins with.
 ghost use Rattle.std.specs.Prelude.{◌≡◌, ◌==◌, if◌then◌else◌, None, vec_len, IfOk};
 ghost use Rattle.sg_protocol.specs.Reading.{give, times, read_name, read_cast};
-ghost use Rattle.sg_protocol.specs.Spelling.{join_bytes};
 ghost use Rattle.sg_protocol.specs.TextLaws.{IsVersion};
 ghost use Rattle.sg_frame.specs.Reads.{Reads, ReadsSeen};
 

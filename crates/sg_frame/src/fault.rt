@@ -18,7 +18,7 @@ pub enum DecodeFault {
 }
 
 // Why reading stopped within the bytes.
-#[derive(Debug, Clone, Copy)]
+#[derive(Clone, Copy)]
 pub enum FrameStop {
     Malformed { at: usize },
     OutOfMemory,

@@ -5,7 +5,7 @@ use sg_crypt::SharedCast;
 use std::marker::Model;
 
 /// What one role of a session sends to another. With its cast it joins; without it, it continues.
-#[derive(Debug, Drop)]
+#[derive(Drop)]
 pub struct Frame {
     /// The version of the texts under its tags, 1 or 2.
     pub version: u8,

@@ -1,5 +1,5 @@
 //! Steps as a frame shows them.
-ghost use Rattle.std.specs.Prelude.{◌≡◌, ◌≤◌, ℕ, List, IfOk};
+ghost use Rattle.std.specs.Prelude.{◌≤◌, ℕ, List, IfOk};
 ghost use Rattle.sg_protocol.specs.Reading.{any_bytes, times, rising_times, read_tag, read_pair, read_map, read_item};
 ghost use Rattle.sg_frame.specs.Reads.{Reads};
 
@@ -11,7 +11,7 @@ use std::marker::Model;
 
 /// A step: the role that sent along the label, when, the commitments that are shown with it, and tags for other roles. Variables and
 /// roles rise.
-#[derive(Debug, Drop)]
+#[derive(Drop)]
 pub struct Item {
     /// The role that sent.
     pub role: Role,

@@ -13,7 +13,7 @@ use std::alloc::Global;
 use std::marker::Model;
 
 /// A frame beside the bytes that spell it. Reading alone makes one, so neither is ever beside another's.
-#[derive(Debug, Drop)]
+#[derive(Drop)]
 pub struct ReadFrame<'b> {
     frame: Frame,
     bytes: &'b [u8],

@@ -2,7 +2,7 @@
 ghost use Rattle.std.specs.Prelude.{◌≡◌, ◌≤◌, ◌-◌, ◌++◌, length, take, flat_map, IfOk, OnOk};
 ghost use Rattle.std.specs.List.{AllByRecursion};
 ghost use Rattle.sg_protocol.specs.Frame.{Frame, tag_len, IsItem};
-ghost use Rattle.sg_protocol.specs.Spelling.{u8, HasSpelling, SpellsFrame, spelling, body, magic, join_code, join_bytes, map_bytes, pair_bytes, item_bytes, opening_bytes};
+ghost use Rattle.sg_protocol.specs.Spelling.{u8, HasSpelling, SpellsFrame, spelling, body, magic, join_code, join_bytes, map_bytes, item_bytes, opening_bytes};
 ghost use Rattle.sg_protocol.specs.TextLaws.{IsVersion};
 
 use crate::field;

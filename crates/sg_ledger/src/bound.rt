@@ -8,7 +8,7 @@ const MOST_BYTES: usize = 4_095;
 
 /// The name of the file that a disk is bound to, if it is bound to one. It takes no memory, and has room for each path that Linux takes. A
 /// clause sees the bytes of the name.
-#[derive(Debug, Drop)]
+#[derive(Drop)]
 pub(crate) struct Bound {
     bytes: [u8; MOST_BYTES],
     count: Option<usize>,

@@ -70,7 +70,7 @@ pub enum AddJoinFault {
 
 /// The joins of an opened ledger, in the order in which they were added, and whether a call of `add` has failed. It doesn't hold the
 /// disk, and looks up a pair in a hash table. A clause sees its joins and whether it has failed.
-#[derive(Debug, Drop)]
+#[derive(Drop)]
 pub struct Ledger {
     joins: IndexSet<(Sid, Role)>,
     failed: bool,

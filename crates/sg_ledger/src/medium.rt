@@ -9,7 +9,7 @@ use std::alloc::Global;
 use std::marker::Model;
 
 /// A call of a disk in memory, as its record has it.
-#[derive(Debug, Clone, Copy, PartialEq, Eq)]
+#[derive(Clone, Copy, PartialEq, Eq)]
 pub enum DiskCall {
     /// One that changed nothing.
     Kept,
@@ -32,7 +32,7 @@ pub enum DiskCall {
 }
 
 // The bytes as read and those at the last sync stand beside the record, and the ranges of the writes since.
-#[derive(Debug, Drop)]
+#[derive(Drop)]
 pub(crate) struct Medium {
     start: Vec<u8>,
     calls: Vec<DiskCall>,

@@ -21,7 +21,7 @@ use std::marker::Model;
 /// Its calls are counted from 1. Those of a given list fail; a write among them leaves its range to chance. After a given number of
 /// calls it stops, as when the power fails: every later call fails, and none reaches the disk. So does a call for which the record
 /// has no room; a write past the room of bytes fails and leaves the file as it was, and `open` fails for a name of more than 4,095 bytes.
-#[derive(Debug, Drop)]
+#[derive(Drop)]
 pub struct MemDisk {
     bound: Bound,
     medium: Medium,

@@ -7,7 +7,7 @@ ghost use Rattle.sg_ledger.specs.Plan.{is_past, fate_of, after_fate};
 use std::marker::Model;
 
 // What becomes of a call.
-#[derive(Debug, Clone, Copy, PartialEq, Eq)]
+#[derive(Clone, Copy, PartialEq, Eq)]
 pub(crate) enum Fate {
     Goes,
     Fails,
@@ -15,7 +15,7 @@ pub(crate) enum Fate {
     Stopped,
 }
 
-#[derive(Debug, Drop)]
+#[derive(Drop)]
 pub(crate) struct DiskPlan {
     fails: Vec<u32>,
     stop: Option<u32>,

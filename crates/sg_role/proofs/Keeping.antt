@@ -1,6 +1,5 @@
 -- What is kept, item by item and variable by variable.
-use Rattle.std.proofs.Common.{◌≡◌, ℕ, ◌+◌, ◌<◌, ◌||◌, true, false, List, [], ◌∷◌, ◌++◌, map, filter_map, length, drop, get_or, append_assoc, refl, sym, ◌∙◌, ap, Some, None, option_map, append-nil}
-use Rattle.std.proofs.lemmas.List.{map-append}
+use Rattle.std.proofs.Common.{◌≡◌, ℕ, ◌+◌, ◌<◌, ◌||◌, true, false, List, [], ◌∷◌, ◌++◌, filter_map, length, drop, get_or, append_assoc, refl, sym, ◌∙◌, ap, Some, None, option_map, append-nil}
 use Rattle.std.proofs.lemmas.List.Elements.{filter_map-append}
 use Rattle.sg_model.proofs.LastOf.{has-append}
 use Rattle.sg_model.specs.Last.{Map, has, merge}

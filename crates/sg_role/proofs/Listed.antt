@@ -1,11 +1,11 @@
 -- The targets of an edge, and what it reads, number by number.
-use Rattle.std.proofs.Common.{◌≡◌, ℕ, ◌<◌, ◌≤◌, List, [], ◌∷◌, filter, length, true, nat_lt, refl, arith}
+use Rattle.std.proofs.Common.{◌≡◌, ℕ, ◌<◌, List, [], ◌∷◌, filter, length, true, nat_lt, refl, arith}
 use Rattle.std.proofs.lemmas.Bool.Decides.{nat_tests}
 use Rattle.std.specs.List.{AllByRecursion, list_all}
 use Rattle.std.proofs.lemmas.Bool.{and_parts}
 use Rattle.sg_model.proofs.Small.{all_below}
 use Rattle.sg_model.specs.Lists.{is_in, below, rises_from}
-use Rattle.sg_protocol.specs.Graph.{Graph, IsGraph, AreNumbers, reads}
+use Rattle.sg_protocol.specs.Graph.{Graph, IsGraph, reads}
 use Rattle.sg_protocol.specs.IsSchedule.{IsProgram}
 use Rattle.sg_protocol.specs.Keyring.{Program, targets_of}
 use Rattle.sg_protocol.specs.Texts.{real}

@@ -9,8 +9,8 @@ use Rattle.sg_protocol.specs.Bounds.{IsShortFrame}
 use Rattle.sg_protocol.specs.Frame.{Item, Frame}
 use Rattle.sg_protocol.specs.Graph.{shape}
 use Rattle.sg_protocol.specs.IsSchedule.{IsProgram}
-use Rattle.sg_protocol.specs.Keyring.{Keyring, Program, targets_of}
-use Rattle.sg_protocol.specs.Notes.{Note, Notes, note_of}
+use Rattle.sg_protocol.specs.Keyring.{Keyring, Program}
+use Rattle.sg_protocol.specs.Notes.{Notes, note_of}
 use Rattle.sg_protocol.specs.Ranges.{AreValues}
 use Rattle.sg_protocol.specs.Reachable.{IsReachableAtTurn}
 use Rattle.sg_protocol.specs.Representation.{Held}
@@ -19,8 +19,9 @@ use Rattle.sg_protocol.specs.Session.{principal}
 use Rattle.sg_protocol.specs.Spelling.{spelling}
 use Rattle.sg_protocol.specs.Texts.{real, commitment_text_of}
 use Rattle.sg_role.specs.Model.{RoleState}
+use Rattle.sg_role.specs.Noting.{item_notes, with_item}
 use Rattle.sg_role.specs.Sending.{with_notes}
-use Rattle.sg_role.specs.Stepping.{frame_with, held_next, items_after, own_text, send_rows, step_commitments, step_frame, step_held, step_item, step_notes}
+use Rattle.sg_role.specs.Stepping.{frame_with, held_next, items_after, send_rows, step_commitments, step_frame, step_held, step_item, step_notes}
 use Rattle.sg_role.proofs.Sealing.{untagged_short}
 use Rattle.sg_role.proofs.SendLaws.{sends_short}
 
@@ -35,15 +36,7 @@ module _ (keys : Keyring) (p : Program) (h : Held) (label : ℕ) (values : Map V
   items_made : items ≡ items_after p.graph h (step_item keys p h label os)
   items_made = joined ∙ ap (λ os. items_after p.graph h (step_item keys p h label os)) wrote
 
-  -- the notes of the own item's tags
-  abbrev item_notes : List Opening → List Note
-  item_notes os = map (λ t. note_of keys.me (principal h.cast t) (own_text h label (step_commitments p h os) t)) (targets_of p label)
-
-  -- with what is noted of the own item
-  abbrev with_item : Notes → List Opening → Notes
-  with_item old os = record { made = old.made ++ item_notes os; found = old.found; hashed = old.hashed ++ map (commitment_text_of h.sid) os }
-
-  -- and with the note of a frame
+  -- with the note of a frame
   abbrev with_note : Notes → Frame → Notes
   with_note n f = record n { made = n.made ++ note_of keys.me (principal h.cast f.receiver) (text_of f) ∷ [] }
 
@@ -65,11 +58,11 @@ module _ (keys : Keyring) (p : Program) (h : Held) (label : ℕ) (values : Map V
         e ∙ (λ j. (principal h.cast (frame_made j).receiver, spelling (record (frame_made j) { tag = tag_for real keys h.cast (frame_made j).receiver (text_of (frame_made j)) })))
 
     -- what is noted of the frame, after the own item
-    pub notes_made : (old first new : Notes) → first ≡ with_item old given → new ≡ with_note first frame → new ≡ with_notes old (step_notes keys p h label os)
+    pub notes_made : (old first new : Notes) → first ≡ with_item keys p h label given old → new ≡ with_note first frame → new ≡ with_notes old (step_notes keys p h label os)
     notes_made old first new a b =
-        b ∙ (λ j. with_note ((a ∙ ap (with_item old) wrote) j) (frame_made j))
+        b ∙ (λ j. with_note ((a ∙ ap (λ os. with_item keys p h label os old) wrote) j) (frame_made j))
         ∙ (λ j. record {
-          made = append_assoc old.made (item_notes os) (note_of keys.me (principal h.cast (receiver (shape p.graph) label)) (text_of (step_frame keys p h label os)) ∷ []) j;
+          made = append_assoc old.made (item_notes keys p h label os) (note_of keys.me (principal h.cast (receiver (shape p.graph) label)) (text_of (step_frame keys p h label os)) ∷ []) j;
           found = sym (append-nil old.found) j;
           hashed = old.hashed ++ map (commitment_text_of h.sid) os;
         })

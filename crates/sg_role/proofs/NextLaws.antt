@@ -1,10 +1,10 @@
 -- What is held after a step is what the state goes on with.
-use Rattle.std.proofs.Common.{◌≡◌, ℕ, suc, zero, ◌+◌, ◌<◌, ◌==◌, ◌&&◌, not, nat_lt, nat_le, Bool, true, false, List, [], ◌∷◌, ◌++◌, map, length, get_or, refl, sym, ◌∙◌, ap, subst, Option, Some, None, option_map, unwrap_or, arith}
+use Rattle.std.proofs.Common.{◌≡◌, ℕ, ◌+◌, ◌<◌, ◌==◌, ◌&&◌, not, nat_lt, nat_le, Bool, true, false, List, [], ◌∷◌, length, refl, sym, ◌∙◌, ap, subst, Option, Some, None, option_map, unwrap_or}
 use Rattle.std.specs.Option.{option_or}
 use Rattle.std.proofs.lemmas.Bool.{leb-false}
 use Rattle.sg_model.proofs.LastOf.{eqb_same}
 use Rattle.sg_model.specs.Limits.{most_time}
-use Rattle.sg_model.specs.Lists.{below, range_from, first_some}
+use Rattle.sg_model.specs.Lists.{below, first_some}
 use Rattle.sg_model.specs.Last.{Map, last, up_to_last}
 use Rattle.sg_model.specs.Shape.{source, target}
 use Rattle.sg_model.specs.Values.{Value, Opening}
@@ -14,18 +14,16 @@ use Rattle.sg_protocol.specs.Acting.{openings_for}
 use Rattle.sg_protocol.specs.Reachable.{IsReachableAtTurn, IsReachableWaiting}
 use Rattle.sg_protocol.specs.Calls.{SendFault, NoSuchLabel, BadValues, TimeSpent}
 use Rattle.sg_protocol.specs.Frame.{Item}
-use Rattle.sg_protocol.specs.Graph.{Graph, shape}
+use Rattle.sg_protocol.specs.Graph.{shape}
 use Rattle.sg_protocol.specs.IsSchedule.{IsProgram}
-use Rattle.sg_protocol.specs.Kept.{KeptState}
 use Rattle.sg_protocol.specs.Keyring.{Keyring, Program, may_return}
 use Rattle.sg_protocol.specs.Ranges.{AreValues}
 use Rattle.sg_protocol.specs.Sending.{own_item}
-use Rattle.sg_protocol.specs.Session.{Session, Gave, opening_in, known}
-use Rattle.sg_protocol.specs.Representation.{Held, RepresentsAtTurn, held, kept_with, held_after}
+use Rattle.sg_protocol.specs.Session.{Session, Gave, known}
+use Rattle.sg_protocol.specs.Representation.{Held, RepresentsAtTurn, held_after}
 use Rattle.sg_protocol.specs.Texts.{real}
 use Rattle.sg_protocol.specs.Verdict.{row}
 use Rattle.sg_role.specs.Sending.{WaitsOrEnds}
-use Rattle.sg_role.specs.Model.{RoleState}
 use Rattle.sg_role.specs.Stepping.{first_bad, send_rows, step_item, step_commitments, step_held, items_after, openings_after}
 use Rattle.sg_role.specs.declared.sent.Sent.{Sent}
 use Rattle.sg_role.proofs.SendLaws.{waits_after}

@@ -1,9 +1,9 @@
 -- A frame that is spelled with zeros for its tag, and then gets its tag.
-use Rattle.std.proofs.Common.{◌≡◌, ℕ, zero, suc, ◌+◌, ◌-◌, ◌<◌, ◌≤◌, ◌⊎◌, List, [], ◌∷◌, ◌++◌, length, take, drop, get_or, replicate, length-append, refl, sym, ◌∙◌, ap, subst, arith, inl, inr}
+use Rattle.std.proofs.Common.{◌≡◌, ℕ, zero, suc, ◌+◌, ◌-◌, ◌<◌, ◌≤◌, ◌⊎◌, List, [], ◌∷◌, ◌++◌, length, take, get_or, replicate, length-append, refl, sym, ◌∙◌, ap, subst, arith, inl, inr}
 use Rattle.sg_model.specs.Limits.{most_frame_bytes, most_sent_bytes}
 use Rattle.sg_protocol.specs.Bounds.{IsShortFrame}
 use Rattle.sg_protocol.specs.Frame.{Frame, IsTag, tag_len}
-use Rattle.sg_protocol.specs.Spelling.{IsInRange, HasSpelling, spelling, body}
+use Rattle.sg_protocol.specs.Spelling.{HasSpelling, spelling, body}
 use Rattle.sg_model.specs.Bytes.{AreBytes}
 
 -- the prefix of the bytes and the tag are the frame with this tag

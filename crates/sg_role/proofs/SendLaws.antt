@@ -1,17 +1,17 @@
 -- A step on which no row holds: what it sends is short, and what is held afterwards waits.
-use Rattle.std.proofs.Common.{◌≡◌, ℕ, ◌+◌, ◌<◌, ◌==◌, ◌&&◌, not, List, [], ◌∷◌, map, find, refl, sym, ◌∙◌, ap, subst, Option, Some, None, option_map, IsTrue}
+use Rattle.std.proofs.Common.{◌≡◌, ℕ, List, [], ◌∷◌, map, refl, sym, ◌∙◌, ap, subst, Option, Some, None, option_map}
 use Rattle.sg_model.specs.Last.{Map, last}
-use Rattle.sg_model.specs.Lists.{below, first_some}
+use Rattle.sg_model.specs.Lists.{first_some}
 use Rattle.sg_model.specs.Values.{Value, Opening}
-use Rattle.sg_protocol.specs.Acting.{is_bad, openings_for, rows_of_send, rows_of_act}
+use Rattle.sg_protocol.specs.Acting.{openings_for, rows_of_send, rows_of_act}
 use Rattle.sg_protocol.specs.Reachable.{IsReachableAtTurn, IsReachableWaiting}
 use Rattle.sg_protocol.specs.Bounds.{IsShortFrame}
-use Rattle.sg_protocol.specs.Calls.{SendFault, ActFault, NotYourTurn, Send}
+use Rattle.sg_protocol.specs.Calls.{SendFault, Send}
 use Rattle.sg_protocol.specs.IsSchedule.{IsProgram}
 use Rattle.sg_protocol.specs.Keyring.{Keyring, Program}
 use Rattle.sg_protocol.specs.Ranges.{AreValues}
 use Rattle.sg_protocol.specs.Sending.{own_item, frame_sent}
-use Rattle.sg_protocol.specs.Session.{Session, Gave, at_turn}
+use Rattle.sg_protocol.specs.Session.{Session, Gave}
 use Rattle.sg_protocol.specs.Representation.{Held, RepresentsAtTurn, held_after}
 use Rattle.sg_protocol.specs.Texts.{real}
 use Rattle.sg_protocol.proofs.Reachable.{states_are_reachable}

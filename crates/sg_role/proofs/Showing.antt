@@ -1,6 +1,6 @@
 -- What is shown and kept, item by item.
-use Rattle.std.proofs.Common.{◌≡◌, ℕ, zero, suc, ◌+◌, ◌-◌, length-drop, slice_set, slice_get, if◌then◌else◌, ◌<◌, ◌≤◌, ◌==◌, ◌||◌, Bool, true, false, List, [], ◌∷◌, ◌++◌, map, filter, filter_map, length, drop, take, get_or, refl, sym, ◌∙◌, ap, Option, Some, None, option_map, arith, inl, inr, add-one, append_assoc, append-nil}
-use Rattle.std.specs.List.{cons_option, list_any}
+use Rattle.std.proofs.Common.{◌≡◌, ℕ, zero, suc, ◌+◌, ◌-◌, length-drop, slice_set, slice_get, if◌then◌else◌, ◌<◌, ◌≤◌, ◌==◌, ◌||◌, Bool, true, false, List, [], ◌∷◌, length, drop, take, get_or, refl, sym, ◌∙◌, ap, Option, Some, None, arith, inl, inr, add-one}
+use Rattle.std.specs.List.{list_any}
 use Rattle.std.proofs.lemmas.Bool.{eqb-true, eq-eqb, ne_eqb, or_parts}
 use Rattle.std.proofs.lemmas.List.{same_lists}
 use Rattle.sg_model.proofs.Small.{map_same, some_same, same_at, length_map}
@@ -11,9 +11,8 @@ use Rattle.sg_role.proofs.Translated.{set_map}
 use Rattle.sg_role.specs.Stepping.{openings_after}
 use Rattle.std.specs.Option.{option_or}
 use Rattle.std.proofs.lemmas.Bool.{cases_Bool}
-use Rattle.sg_model.proofs.LastOf.{has-append}
-use Rattle.sg_model.specs.Last.{Map, has, merge, after_last}
-use Rattle.sg_model.specs.Lists.{below, in_order, value_at, is_in}
+use Rattle.sg_model.specs.Last.{has, after_last}
+use Rattle.sg_model.specs.Lists.{below}
 use Rattle.sg_model.proofs.Numbers.{length-range_from}
 use Rattle.sg_protocol.specs.Frame.{Item}
 use Rattle.sg_role.proofs.Lists.{take_over}

@@ -1,5 +1,5 @@
 -- What the spelling of a frame says of its numbers.
-use Rattle.std.proofs.Common.{◌≡◌, ℕ, zero, suc, ◌-◌, ◌<◌, ◌≤◌, true, nat_lt, List, [], ◌∷◌, map, get_or, length, refl, sym, ap, subst, ◌∙◌, arith, Some, All}
+use Rattle.std.proofs.Common.{◌≡◌, ℕ, zero, suc, ◌-◌, ◌<◌, true, nat_lt, List, [], ◌∷◌, map, get_or, length, refl, sym, ap, subst, ◌∙◌, arith, Some, All}
 use Rattle.std.specs.List.{list_all, AllByRecursion}
 use Rattle.std.proofs.lemmas.Bool.Decides.{nat_tests}
 use Rattle.sg_model.specs.Last.{Map, last, last_or}

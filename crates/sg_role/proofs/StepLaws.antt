@@ -1,20 +1,20 @@
 -- What a step makes by what is held is what it makes in each session that the state represents.
-use Rattle.std.proofs.Common.{◌≡◌, ℕ, zero, suc, ◌+◌, ◌<◌, ◌≤◌, ◌==◌, ◌||◌, Bool, true, false, if◌then◌else◌, List, [], ◌∷◌, ◌++◌, map, filter_map, length, get_or, refl, sym, ◌∙◌, ap, subst, Option, Some, None, arith, inl, inr, append-nil, IsTrue}
-use Rattle.std.specs.List.{AllByRecursion, cons_option, list_all}
+use Rattle.std.proofs.Common.{◌≡◌, ℕ, ◌<◌, ◌==◌, if◌then◌else◌, List, [], ◌∷◌, ◌++◌, map, filter_map, length, get_or, refl, sym, ◌∙◌, ap, Option, Some, None, inl, inr}
+use Rattle.std.specs.List.{AllByRecursion, cons_option}
 use Rattle.std.specs.Option.{option_or}
 use Rattle.std.proofs.lemmas.Bool.{cases_Bool}
 use Rattle.sg_model.proofs.Evidence.{evidence_again, evidence_since}
-use Rattle.sg_model.specs.Last.{Map, Entry, has, last, after_last, evidence, evidence_for}
-use Rattle.sg_model.specs.Lists.{below, value_at, first_some}
+use Rattle.sg_model.specs.Last.{Map, Entry, has, last, after_last, evidence}
+use Rattle.sg_model.specs.Lists.{value_at}
 use Rattle.sg_model.specs.Shape.{receiver}
 use Rattle.sg_model.specs.Values.{Value, Opening}
 use Rattle.sg_law.proofs.Lists.{has-map}
 use Rattle.sg_protocol.specs.Acting.{rows_of_send}
-use Rattle.sg_protocol.specs.Frame.{Cast, Item, Frame}
+use Rattle.sg_protocol.specs.Frame.{Item, Frame}
 use Rattle.sg_protocol.specs.Graph.{Graph, IsGraph, shape, reads}
-use Rattle.sg_protocol.specs.Kept.{KeptState, kept, kept_items}
+use Rattle.sg_protocol.specs.Kept.{kept_items}
 use Rattle.sg_protocol.specs.Keyring.{Keyring, Program, targets_of}
-use Rattle.sg_protocol.specs.Notes.{Notes, note_of, notes_of_sent}
+use Rattle.sg_protocol.specs.Notes.{note_of, notes_of_sent}
 use Rattle.sg_protocol.specs.Sending.{entry_of, item_of, shown_to, tags_left, tag_for, plain_item, own_item, text_to, text_of, opening_of, frame_sent, plain_frame}
 use Rattle.sg_protocol.specs.Session.{Session, principal, transcript, committed, commitments, known, opening_in}
 use Rattle.sg_protocol.specs.Representation.{Held, held}
@@ -24,7 +24,7 @@ use Rattle.sg_protocol.proofs.Following.{get_below}
 use Rattle.sg_protocol.proofs.KeptLaws.{kept-kept}
 use Rattle.sg_protocol.proofs.Sent.{reads_in}
 use Rattle.sg_protocol.proofs.Enough.{has-kept}
-use Rattle.sg_role.specs.Stepping.{first_bad, send_rows, delta_of, commitments_after, own_text, step_commitments, step_item, items_after, frame_with, plain_step, step_frame, step_notes}
+use Rattle.sg_role.specs.Stepping.{first_bad, send_rows, delta_of, own_text, step_commitments, step_item, items_after, plain_step, step_frame, step_notes}
 
 after_last_map : (g : Graph) (r : ℕ) (es : List (Entry Item (List ℕ))) → after_last (λ (i : Item). i.role) r (map (item_of g) es) ≡ map (item_of g) (after_last (λ (e : Entry Item (List ℕ)). e.step.role) r es)
 after_last_map g r [] = refl

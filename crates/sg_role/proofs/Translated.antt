@@ -1,7 +1,7 @@
 -- What a role looks at by what it keeps is what the definition looks at, in each session that its state represents.
 use Rattle.std.proofs.Common.{◌≡◌, ℕ, zero, suc, ◌+◌, ◌<◌, ◌==◌, ◌&&◌, Bool, true, false, not, if◌then◌else◌, List, [], ◌∷◌, ◌++◌, map, length, slice_set, refl, sym, ap, ◌∙◌, arith, inl, inr, Option, Some, None, option_map, find, position, append_assoc, append-nil}
 use Rattle.std.specs.List.{AllByRecursion}
-use Rattle.std.specs.Option.{option_or, option_map_or}
+use Rattle.std.specs.Option.{option_or}
 use Rattle.std.proofs.lemmas.Bool.{and_parts, cases_Bool, eqb-true, eq-eqb, ne_eqb}
 use Rattle.sg_model.specs.Last.{Map}
 use Rattle.sg_model.specs.Lists.{below, range_from, keys_of, value_at, rises_from, same_text, first_some, is_in}
@@ -21,7 +21,7 @@ use Rattle.sg_protocol.specs.Verdict.{row, bad_time, has_frame_tag, has_item_tag
 use Rattle.sg_protocol.proofs.Ends.{below_same, committed-append}
 use Rattle.sg_protocol.proofs.Following.{get_below}
 use Rattle.sg_protocol.proofs.Known.{value_none}
-use Rattle.sg_role.specs.Looking.{bare, overwritten, overwritten_by, is_seen, text_for, texts_from, opens, opening_row, evidence_row, rows_from}
+use Rattle.sg_role.specs.Looking.{overwritten, overwritten_by, is_seen, text_for, texts_from, opens, opening_row, evidence_row, rows_from}
 use Rattle.sg_role.proofs.Rising.{not_below}
 use Rattle.sg_role.proofs.Shown.{seen_frame}
 

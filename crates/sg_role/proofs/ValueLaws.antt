@@ -1,17 +1,14 @@
 -- Which values an edge takes, variable by variable, and the rows of a step.
-use Rattle.std.proofs.Common.{◌≡◌, ℕ, zero, suc, ◌+◌, ◌-◌, ◌<◌, ◌≤◌, ◌==◌, ◌&&◌, ◌||◌, nat_lt, Bool, true, false, not, List, [], ◌∷◌, map, find, length, take, get_or, subst, refl, sym, ◌∙◌, ap, Option, Some, None, option_map, IsTrue, arith, inl, inr, add-one}
+use Rattle.std.proofs.Common.{◌≡◌, ℕ, zero, suc, ◌+◌, ◌-◌, ◌<◌, ◌≤◌, ◌==◌, ◌&&◌, ◌||◌, nat_lt, Bool, true, false, not, List, [], ◌∷◌, map, find, length, take, get_or, subst, refl, sym, ◌∙◌, ap, Some, None, IsTrue, arith, inl, inr, add-one}
 use Rattle.std.specs.List.{list_any, list_all, AllByRecursion}
 use Rattle.std.proofs.lemmas.Bool.{cases_Bool}
 use Rattle.std.proofs.lemmas.Bool.Decides.{nat_tests}
 use Rattle.std.proofs.lemmas.Bool.{and_parts, eqb-true, ne_eqb}
 use Rattle.sg_model.specs.Last.{Map}
-use Rattle.sg_model.specs.Lists.{below, range_from, is_in, keys_of, rises_from}
+use Rattle.sg_model.specs.Lists.{range_from, is_in, keys_of, rises_from}
 use Rattle.sg_model.specs.Values.{Value}
 use Rattle.sg_protocol.specs.Acting.{is_bad, is_typed, is_out_of_order}
-use Rattle.sg_protocol.specs.Calls.{SendFault}
 use Rattle.sg_protocol.specs.Graph.{Graph, writes, AreNumbers}
-use Rattle.sg_protocol.specs.Keyring.{Program}
-use Rattle.sg_protocol.specs.Representation.{Held}
 use Rattle.sg_protocol.proofs.Named.{out_of_order_in, untyped_in}
 use Rattle.sg_role.specs.Stepping.{first_bad}
 

@@ -1,5 +1,5 @@
 -- Lists that are walked from the front: what is done of them and what is left.
-use Rattle.std.proofs.Common.{◌≡◌, ℕ, ◌+◌, ◌<◌, ◌==◌, ◌||◌, List, [], ◌∷◌, ◌++◌, map, filter_map, length, take, get_or, sym, ◌∙◌, ap, Option, Some, None, append_assoc, append-nil}
+use Rattle.std.proofs.Common.{◌≡◌, ℕ, ◌+◌, ◌<◌, List, [], ◌∷◌, ◌++◌, map, length, take, get_or, sym, ◌∙◌, ap, append_assoc, append-nil}
 use Rattle.std.proofs.lemmas.List.{take_more, map-append}
 use Rattle.sg_protocol.specs.Notes.{Note, Notes}
 use Rattle.sg_role.specs.Stepping.{Extends}
@@ -7,6 +7,14 @@ use Rattle.sg_role.specs.Stepping.{Extends}
 -- one element more
 pub map_more : {A B : Type 0} (f : A → B) (xs : List A) (i : ℕ) (x : A) → i < length xs → x ≡ get_or xs i x → map f (take (i + 1) xs) ≡ map f (take i xs) ++ f x ∷ []
 map_more f xs i x l e = ap (map f) (take_more xs i x l) ∙ map-append f (take i xs) (get_or xs i x ∷ []) ∙ ap (λ y. map f (take i xs) ++ f y ∷ []) (sym e)
+
+-- what is made of one element more, if this was made of those before it
+pub made_more : {A B : Type 0} (f : A → B) (xs : List A) (i : ℕ) (x : A) (y : B) (made more : List B) → i < length xs → x ≡ get_or xs i x → y ≡ f x → made ≡ map f (take i xs) → more ≡ made ++ y ∷ [] → more ≡ map f (take (i + 1) xs)
+made_more f xs i x y made more l e its before after = after ∙ (λ j. before j ++ its j ∷ []) ∙ sym (map_more f xs i x l e)
+
+-- the same after what was there
+pub put_more : {A B : Type 0} (f : A → B) (old : List B) (xs : List A) (i : ℕ) (x : A) → i < length xs → x ≡ get_or xs i x → (old ++ map f (take i xs)) ++ f x ∷ [] ≡ old ++ map f (take (i + 1) xs)
+put_more f old xs i x l e = append_assoc old (map f (take i xs)) (f x ∷ []) ∙ ap (λ l. old ++ l) (sym (map_more f xs i x l e))
 
 -- ---- notes
 

@@ -4,5 +4,6 @@ pub mod Keeping
 pub mod Looking
 pub mod Sending
 pub mod Model
+pub mod Noting
 pub mod Invariant
 pub mod Stepping

@@ -10,7 +10,7 @@ use Rattle.sg_protocol.specs.Acting.{is_bad}
 use Rattle.sg_protocol.specs.Calls.{SendFault, NoSuchLabel, BadValues, TimeSpent}
 use Rattle.sg_protocol.specs.Frame.{Item, Frame}
 use Rattle.sg_protocol.specs.Graph.{Graph, shape, reads}
-use Rattle.sg_protocol.specs.Kept.{KeptState, kept_items}
+use Rattle.sg_protocol.specs.Kept.{kept_items}
 use Rattle.sg_protocol.specs.Keyring.{Keyring, Program, targets_of}
 use Rattle.sg_protocol.specs.Notes.{Note, Notes, note_of}
 use Rattle.sg_protocol.specs.Sending.{tag_for, tags_left, text_of}

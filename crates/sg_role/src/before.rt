@@ -1,5 +1,5 @@
 //! What a role keeps before what comes next.
-ghost use Rattle.std.specs.Prelude.{◌≡◌, ◌+◌, length, get_or, IfOk, IsTrue, None, ◌↔◌};
+ghost use Rattle.std.specs.Prelude.{◌≡◌, length, get_or, IfOk, IsTrue, None, ◌↔◌};
 ghost use Rattle.std.specs.Option.{option_copied};
 ghost use Rattle.sg_vis.specs.Model.{origin_of};
 ghost use Rattle.sg_protocol.specs.Reachable.{IsReachableBefore};

@@ -1,14 +1,15 @@
 //! What a role keeps with its own item, and what of it is shown.
 ghost use Rattle.std.specs.Prelude.{◌≡◌, ◌≤◌, ◌++◌, [], ◌∷◌, Some, None, not, length, slice_set, filter, filter_map, drop, get_or, IfOk};
-ghost use Rattle.std.specs.Option.{option_or, option_copied};
-ghost use Rattle.sg_model.specs.Last.{has, after_last, merge};
-ghost use Rattle.sg_model.specs.Lists.{in_order, is_in, below, value_at};
+ghost use Rattle.std.specs.Option.{option_or};
+ghost use Rattle.sg_model.specs.Last.{has, after_last};
+ghost use Rattle.sg_model.specs.Lists.{is_in, below};
 ghost use Rattle.sg_protocol.specs.Graph.{Graph};
 ghost use Rattle.sg_protocol.specs.Kept.{kept_items};
 ghost use Rattle.sg_protocol.specs.Sending.{tags_left};
 ghost use Rattle.sg_protocol.specs.Session.{opening_in};
 ghost use Rattle.sg_role.specs.Stepping.{openings_after};
 
+use crate::kept_state::copied;
 use crate::next::{has_role, kept_with, opening_of};
 use sg_base::{Opening, OutOfMemory, Role, Seq, Tag, Var, VarSet};
 use sg_frame::Item;
@@ -58,11 +59,19 @@ fn shown_item(alloc: Global, item: &Item, later: &[Item]) -> Result<Item, OutOfM
     ensures { IfOk result (λ i. i ≡ record item.now { tags = filter (λ t. not (has (λ j. j.role) t.0 later.now)) item.now.tags }) }
 {
     let tags = tags_without(alloc, item.tags.as_slice(), later)?;
+    let shown = with_tags(alloc, item, tags)?;
+    Ok(shown)
+}
+
+// The item with other tags.
+fn with_tags(alloc: Global, item: &Item, tags: Seq<(Role, Tag)>) -> Result<Item, OutOfMemory>
+    ensures { IfOk result (λ i. i ≡ record item.now { tags = tags }) }
+{
     Ok(Item {
         role: item.role,
         label: item.label,
         time: item.time,
-        delta: Seq::from_vec(item.delta.as_slice().to_vec(alloc)?),
+        delta: Seq::from_vec(copied(alloc, item.delta.as_slice())?),
         tags,
     })
 }

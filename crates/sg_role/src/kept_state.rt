@@ -7,6 +7,7 @@ ghost use Rattle.sg_protocol.specs.Session.{principal};
 ghost use Rattle.sg_protocol.specs.Representation.{nothing_kept};
 ghost use Rattle.sg_protocol.specs.Texts.{real, session_id};
 ghost use Rattle.sg_role.specs.Accepting.{goes_on};
+ghost use Rattle.sg_vis.specs.Model.{origin_of};
 ghost use Rattle.sg_role.specs.Model.{state_of};
 
 use sg_base::{Label, Name, NodeId, Opening, OutOfMemory, Role, Sid, Time};
@@ -64,18 +65,66 @@ impl<'p> KeptState<'p> {
         }) }
     {
         let count = program.graph().vars();
+        let commitments = nothing(alloc, count)?;
+        let openings = nothing(alloc, count)?;
+        let cast = SharedCast::new(alloc, cast)?;
         Ok(KeptState {
             program,
             sid,
-            cast: SharedCast::new(alloc, cast)?,
+            cast,
             from: Origin::Start,
             own_time: Time(0),
             time: Time(0),
             place: NodeId(0),
             items: Vec::new(alloc),
-            commitments: no_commitments(alloc, count)?,
-            openings: no_openings(alloc, count)?,
+            commitments,
+            openings,
         })
+    }
+
+    /// What is kept of the same session after a step, on the heap: the role's own last label and its time, the time and the place of the
+    /// step, and the lists with it.
+    pub fn stepped(
+        &self,
+        alloc: Global,
+        from: Origin,
+        own_time: Time,
+        time: Time,
+        place: NodeId,
+        items: Vec<Item>,
+        commitments: Vec<Option<[u8; 32]>>,
+        openings: Vec<Option<Opening>>,
+    ) -> Result<Rc<KeptState<'p>>, OutOfMemory>
+        ensures { IfOk result (λ k. state_of k.value ≡ record {
+          program = (state_of self.now).program;
+          held = record (state_of self.now).held {
+            kept = record {
+              origin = origin_of from;
+              own_time = own_time;
+              time = time;
+              place = place;
+              items = items.items;
+              commitments = commitments.items;
+              openings = openings.items;
+            };
+          };
+        }) }
+    {
+        let cast = self.cast.share()?;
+        let next = KeptState {
+            program: self.program,
+            sid: self.sid,
+            cast,
+            from,
+            own_time,
+            time,
+            place,
+            items,
+            commitments,
+            openings,
+        };
+        let held = shared(alloc, next)?;
+        Ok(held)
     }
 
     /// The principal of a role, or `None` if the role isn't one of the cast. It takes no memory.
@@ -111,33 +160,21 @@ impl<'p> KeptState<'p> {
     }
 }
 
-/// The same commitments.
-pub(crate) fn copied(
-    alloc: Global,
-    commitments: &[Option<[u8; 32]>],
-) -> Result<Vec<Option<[u8; 32]>>, OutOfMemory>
-    ensures { IfOk result (λ v. v.items ≡ commitments.now) }
+/// The same items.
+pub(crate) fn copied<T: Copy + Drop>(alloc: Global, items: &[T]) -> Result<Vec<T>, OutOfMemory>
+    ensures { IfOk result (λ v. v.items ≡ items.now) }
 {
+    // Not `to_vec`, which says that these are clones: that they are the same takes longer to prove than this loop.
     let mut list = Vec::new(alloc);
-    for at in 0..commitments.len() {
-        list.push(commitments[at])?;
+    for at in 0..items.len() {
+        list.push(items[at])?;
     }
     Ok(list)
 }
 
+// As many times nothing.
 #[tactic(auto, using(crate::proofs::Lists::const_more))]
-fn no_commitments(alloc: Global, count: u8) -> Result<Vec<Option<[u8; 32]>>, OutOfMemory>
-    ensures { IfOk result (λ v. v.items ≡ map (λ x. None) (below count)) }
-{
-    let mut list = Vec::new(alloc);
-    for _ in 0..count {
-        list.push(None)?;
-    }
-    Ok(list)
-}
-
-#[tactic(auto, using(crate::proofs::Lists::const_more))]
-fn no_openings(alloc: Global, count: u8) -> Result<Vec<Option<Opening>>, OutOfMemory>
+fn nothing<T: Drop>(alloc: Global, count: u8) -> Result<Vec<Option<T>>, OutOfMemory>
     ensures { IfOk result (λ v. v.items ≡ map (λ x. None) (below count)) }
 {
     let mut list = Vec::new(alloc);

@@ -16,7 +16,7 @@ ghost use Rattle.sg_role.specs.Model.{state_of};
 ghost use Rattle.sg_role.specs.Invariant.{HoldsBefore};
 ghost use Rattle.sg_role.specs.Keeping.{kept_from};
 
-use crate::kept_state::{KeptState, shared};
+use crate::kept_state::KeptState;
 use crate::own::commitment_in;
 use crate::view::last_of;
 use sg_base::{Label, NodeId, Opening, OutOfMemory, Role, Seq, Time, Value, Var};
@@ -46,22 +46,18 @@ pub(crate) fn after_frame<'p>(
     let opened = frame.openings.as_slice();
     let items = kept_with(alloc, count, kept.items.as_slice(), shown)?;
     let openings = openings_with(alloc, count, kept.openings.as_slice(), opened)?;
-    let cast = kept.cast.share()?;
     let (time, place) = ended(kept, shown);
-    let next = KeptState {
-        program: kept.program,
-        sid: kept.sid,
-        cast,
-        from: kept.from,
-        own_time: kept.own_time,
+    let next = kept.stepped(
+        alloc,
+        kept.from,
+        kept.own_time,
         time,
         place,
         items,
         commitments,
         openings,
-    };
-    let held = shared(alloc, next)?;
-    Ok(held)
+    )?;
+    Ok(next)
 }
 
 // The time and the place after these items.

@@ -1,10 +1,10 @@
 //! Whether the openings of a frame are right.
-ghost use Rattle.std.specs.Prelude.{◌≡◌, ◌≢◌, ◌<◌, ◌++◌, ◌&&◌, Err, None, map, get_or, length, All, IfOk, IfErr};
+ghost use Rattle.std.specs.Prelude.{◌≡◌, ◌≢◌, ◌<◌, ◌++◌, Err, None, map, get_or, length, All, IfOk, IfErr};
 ghost use Rattle.sg_model.specs.Lists.{same_text};
 ghost use Rattle.sg_protocol.specs.Texts.{commitment_text_of};
 ghost use Rattle.sg_protocol.specs.Verdict.{has_kind};
 ghost use Rattle.sg_role.specs.Faults.{Refuses};
-ghost use Rattle.sg_role.specs.Looking.{hashed_from, opening_row, opens, KeepsNotes};
+ghost use Rattle.sg_role.specs.Looking.{hashed_from, opening_row, KeepsNotes};
 
 use crate::Refusal;
 use crate::own::note_commitment;

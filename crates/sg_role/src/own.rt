@@ -217,11 +217,9 @@ fn tag_target(
     }) }
     ensures same { OnErr result (notes.new ≡ notes.old) }
 {
-    let version = kept.cast.version();
-    let peer = name_of(&kept.cast, target);
     let text = item_text(
         alloc,
-        version,
+        kept.cast.version(),
         &kept.sid,
         kept.program.role(),
         target,
@@ -229,6 +227,27 @@ fn tag_target(
         Time(kept.time.0 + 1),
         commitments,
     )?;
+    make_tag(alloc, &kept.cast, keys, target, text, notes)
+}
+
+/// The tag of a text for the principal of a role. The text is noted.
+pub(crate) fn make_tag(
+    alloc: Global,
+    cast: &SharedCast,
+    keys: &Keyring,
+    role: Role,
+    text: Vec<u8>,
+    notes: &mut Notes,
+) -> Result<Tag, OutOfMemory>
+    requires { role < length cast.now.names }
+    ensures value { IfOk result (λ t. t ≡ tag_for real keys.now cast.now role text.items) }
+    ensures noted { OnOk result (notes.new ≡ record notes.old {
+      made = notes.old.made ++ note_of keys.now.me (principal cast.now role) text.items ∷ [];
+    }) }
+    ensures same { OnErr result (notes.new ≡ notes.old) }
+{
+    let version = cast.version();
+    let peer = name_of(cast, role);
     let (made, pair) = tag_to(keys, &peer, version, text.as_slice());
     notes.note_made(note_for(alloc, keys, pair, peer, text)?)?;
     Ok(made)
@@ -242,14 +261,9 @@ pub(crate) fn name_of(cast: &SharedCast, role: Role) -> Name
     cast.get().names()[role.0 as usize]
 }
 
-/// The tag of a text under the key shared with a principal, or under no bytes if none is shared, as the version sends it; and the two
-/// that share a key.
-pub(crate) fn tag_to<'k>(
-    keys: &'k Keyring,
-    peer: &Name,
-    version: u8,
-    text: &[u8],
-) -> (Tag, Option<&'k Pair>)
+// The tag of a text under the key shared with a principal, or under no bytes if none is shared, as the version sends it; and the two
+// that share a key.
+fn tag_to<'k>(keys: &'k Keyring, peer: &Name, version: u8, text: &[u8]) -> (Tag, Option<&'k Pair>)
     requires { IsVersion version }
     ensures tag { result.0 ≡ cut version (hmac real (unwrap_or (key_of keys.now peer.now) []) text.now) }
     ensures pair { IfSome result.1 (λ p. p.now ≡ pair_of keys.now.me peer.now) }

@@ -7,6 +7,13 @@ use sg_base::{Name, Opening, Role, Tag, Var};
 use sg_crypt::Cast;
 use sg_frame::Item;
 
+// What is compared part by part.
+trait SameAs {
+    // Whether both are the same.
+    fn same(&self, other: &Self) -> bool
+        ensures { IsTrue result ↔ (self.now ≡ other.now) };
+}
+
 /// Whether both keep the same of a session. It takes no memory.
 #[tactic(auto, using(crate::proofs::SameHeld::same_held))]
 pub(crate) fn same(one: &KeptState, other: &KeptState) -> bool
@@ -20,37 +27,8 @@ fn same_session(one: &KeptState, other: &KeptState) -> bool
     ensures { IsTrue result ↔ ((one.now.sid ≡ other.now.sid) × (one.now.cast ≡ other.now.cast) × ((state_of one.now).held.role ≡ (state_of other.now).held.role)) }
 {
     one.sid == other.sid
-        && same_cast(one.cast.get(), other.cast.get())
+        && one.cast.get().same(other.cast.get())
         && one.program.role() == other.program.role()
-}
-
-fn same_cast(one: &Cast, other: &Cast) -> bool
-    ensures { IsTrue result ↔ (one.now ≡ other.now) }
-{
-    one.version() == other.version()
-        && one.graph() == other.graph()
-        && one.nonce() == other.nonce()
-        && same_names(one.names(), other.names())
-}
-
-fn same_names(one: &[Name], other: &[Name]) -> bool
-    ensures { IsTrue result ↔ (one.now ≡ other.now) }
-{
-    if one.len() != other.len() {
-        return false;
-    }
-    for at in 0..one.len() {
-        if !same_name(&one[at], &other[at]) {
-            return false;
-        }
-    }
-    true
-}
-
-fn same_name(one: &Name, other: &Name) -> bool
-    ensures { IsTrue result ↔ (one.now ≡ other.now) }
-{
-    one.as_bytes() == other.as_bytes()
 }
 
 // Whether both are at one step.
@@ -69,120 +47,80 @@ fn same_lists(one: &KeptState, other: &KeptState) -> bool
     ensures { IsTrue result ↔ ((one.now.items.items ≡ other.now.items.items) × (one.now.commitments.items ≡ other.now.commitments.items)
         × (one.now.openings.items ≡ other.now.openings.items)) }
 {
-    same_items(one.items.as_slice(), other.items.as_slice())
-        && same_commitments(one.commitments.as_slice(), other.commitments.as_slice())
-        && same_openings(one.openings.as_slice(), other.openings.as_slice())
+    all_same(one.items.as_slice(), other.items.as_slice())
+        && all_same(one.commitments.as_slice(), other.commitments.as_slice())
+        && all_same(one.openings.as_slice(), other.openings.as_slice())
 }
 
-fn same_items(one: &[Item], other: &[Item]) -> bool
+// Whether both lists have the same elements.
+fn all_same<T: SameAs>(one: &[T], other: &[T]) -> bool
     ensures { IsTrue result ↔ (one.now ≡ other.now) }
 {
     if one.len() != other.len() {
         return false;
     }
     for at in 0..one.len() {
-        if !same_item(&one[at], &other[at]) {
+        if !one[at].same(&other[at]) {
             return false;
         }
     }
     true
 }
 
-fn same_item(one: &Item, other: &Item) -> bool
-    ensures { IsTrue result ↔ (one.now ≡ other.now) }
-{
-    one.role == other.role
-        && one.label == other.label
-        && one.time == other.time
-        && same_delta(one.delta.as_slice(), other.delta.as_slice())
-        && same_tags(one.tags.as_slice(), other.tags.as_slice())
+impl SameAs for Cast {
+    fn same(&self, other: &Cast) -> bool {
+        self.version() == other.version()
+            && self.graph() == other.graph()
+            && self.nonce() == other.nonce()
+            && all_same(self.names(), other.names())
+    }
 }
 
-fn same_delta(one: &[(Var, [u8; 32])], other: &[(Var, [u8; 32])]) -> bool
-    ensures { IsTrue result ↔ (one.now ≡ other.now) }
-{
-    if one.len() != other.len() {
-        return false;
+impl SameAs for Name {
+    fn same(&self, other: &Name) -> bool {
+        self.as_bytes() == other.as_bytes()
     }
-    for at in 0..one.len() {
-        if !same_written(&one[at], &other[at]) {
-            return false;
+}
+
+impl SameAs for Item {
+    fn same(&self, other: &Item) -> bool {
+        self.role == other.role
+            && self.label == other.label
+            && self.time == other.time
+            && all_same(self.delta.as_slice(), other.delta.as_slice())
+            && all_same(self.tags.as_slice(), other.tags.as_slice())
+    }
+}
+
+impl SameAs for (Var, [u8; 32]) {
+    fn same(&self, other: &(Var, [u8; 32])) -> bool {
+        self.0 == other.0 && self.1 == other.1
+    }
+}
+
+impl SameAs for (Role, Tag) {
+    fn same(&self, other: &(Role, Tag)) -> bool {
+        self.0 == other.0 && self.1 == other.1
+    }
+}
+
+impl SameAs for Option<[u8; 32]> {
+    fn same(&self, other: &Option<[u8; 32]>) -> bool {
+        match (self, other) {
+            (None, None) => true,
+            (Some(one), Some(other)) => *one == *other,
+            _ => false,
         }
     }
-    true
 }
 
-fn same_written(one: &(Var, [u8; 32]), other: &(Var, [u8; 32])) -> bool
-    ensures { IsTrue result ↔ (one.now ≡ other.now) }
-{
-    one.0 == other.0 && one.1 == other.1
-}
-
-fn same_tags(one: &[(Role, Tag)], other: &[(Role, Tag)]) -> bool
-    ensures { IsTrue result ↔ (one.now ≡ other.now) }
-{
-    if one.len() != other.len() {
-        return false;
-    }
-    for at in 0..one.len() {
-        if !same_tag(&one[at], &other[at]) {
-            return false;
+impl SameAs for Option<Opening> {
+    fn same(&self, other: &Option<Opening>) -> bool {
+        match (self, other) {
+            (None, None) => true,
+            (Some(one), Some(other)) => opens_same(one, other),
+            _ => false,
         }
-    }
-    true
-}
-
-fn same_tag(one: &(Role, Tag), other: &(Role, Tag)) -> bool
-    ensures { IsTrue result ↔ (one.now ≡ other.now) }
-{
-    one.0 == other.0 && one.1 == other.1
-}
-
-fn same_commitments(one: &[Option<[u8; 32]>], other: &[Option<[u8; 32]>]) -> bool
-    ensures { IsTrue result ↔ (one.now ≡ other.now) }
-{
-    if one.len() != other.len() {
-        return false;
-    }
-    for at in 0..one.len() {
-        if !same_commitment(&one[at], &other[at]) {
-            return false;
-        }
-    }
-    true
-}
-
-fn same_commitment(one: &Option<[u8; 32]>, other: &Option<[u8; 32]>) -> bool
-    ensures { IsTrue result ↔ (one.now ≡ other.now) }
-{
-    match (one, other) {
-        (None, None) => true,
-        (Some(one), Some(other)) => *one == *other,
-        _ => false,
-    }
-}
-
-fn same_openings(one: &[Option<Opening>], other: &[Option<Opening>]) -> bool
-    ensures { IsTrue result ↔ (one.now ≡ other.now) }
-{
-    if one.len() != other.len() {
-        return false;
-    }
-    for at in 0..one.len() {
-        if !same_opening(&one[at], &other[at]) {
-            return false;
-        }
-    }
-    true
-}
-
-fn same_opening(one: &Option<Opening>, other: &Option<Opening>) -> bool
-    ensures { IsTrue result ↔ (one.now ≡ other.now) }
-{
-    match (one, other) {
-        (None, None) => true,
-        (Some(one), Some(other)) => opens_same(one, other),
-        _ => false,
     }
 }
 

@@ -1,5 +1,5 @@
 //! What a role sends at its turn.
-ghost use Rattle.std.specs.Prelude.{◌≡◌, ◌+◌, ◌<◌, map, length, Some, None, IfOk, IfErr};
+ghost use Rattle.std.specs.Prelude.{◌≡◌, ◌<◌, length, Some, None, IfOk, IfErr};
 ghost use Rattle.std.specs.List.{list_any};
 ghost use Rattle.sg_protocol.specs.Evidence.{same_origin};
 ghost use Rattle.sg_role.specs.Model.{state_of};

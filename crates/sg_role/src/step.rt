@@ -1,6 +1,7 @@
 //! What a step makes while the state stays as it is.
-ghost use Rattle.std.specs.Prelude.{◌≡◌, ◌<◌, ◌≤◌, ◌+◌, ◌-◌, ◌++◌, [], ◌∷◌, Some, None, if◌then◌else◌, map, length, take, replicate, IfOk, OnOk, OnErr};
+ghost use Rattle.std.specs.Prelude.{◌≡◌, ◌<◌, ◌≤◌, ◌+◌, ◌-◌, ◌++◌, [], ◌∷◌, Some, None, if◌then◌else◌, map, filter_map, get_or, length, take, replicate, IfOk, OnOk, OnErr};
 ghost use Rattle.std.specs.List.{AllByRecursion};
+ghost use Rattle.std.specs.Option.{option_or};
 ghost use Rattle.sg_model.specs.Limits.{most_time};
 ghost use Rattle.sg_model.specs.Lists.{first_some};
 ghost use Rattle.sg_model.specs.Shape.{receiver};
@@ -11,24 +12,24 @@ ghost use Rattle.sg_protocol.specs.IsSchedule.{IsProgram};
 ghost use Rattle.sg_protocol.specs.Keyring.{targets_of};
 ghost use Rattle.sg_protocol.specs.Notes.{note_of};
 ghost use Rattle.sg_protocol.specs.Sending.{tag_for, text_of};
-ghost use Rattle.sg_protocol.specs.Session.{principal};
+ghost use Rattle.sg_protocol.specs.Session.{opening_in, principal};
 ghost use Rattle.sg_protocol.specs.Spelling.{HasSpelling, spelling};
 ghost use Rattle.sg_protocol.specs.Bounds.{IsShortFrame};
-ghost use Rattle.sg_protocol.specs.Texts.{real, commitment_text_of};
+ghost use Rattle.sg_protocol.specs.Texts.{real};
 ghost use Rattle.sg_walk.specs.Model.{event_of, values_of};
 ghost use Rattle.sg_role.specs.Sending.{with_notes, step_of};
 ghost use Rattle.sg_role.specs.Model.{state_of};
+ghost use Rattle.sg_role.specs.Noting.{with_item};
 ghost use Rattle.sg_role.specs.Invariant.{HoldsTurn};
 ghost use Rattle.sg_role.specs.Stepping.{send_rows, own_text, step_commitments, step_item, items_after, step_frame, step_held, step_notes, frame_with, held_next, Extends};
 
 use crate::evidence::{items_with, openings_of, shown_to, take_over, vars_of};
-use crate::kept_state::{KeptState, shared};
+use crate::kept_state::KeptState;
 use crate::next::{copied_openings, has_role};
 use crate::own::{
-    commit_each, commitments_with, copy_values, name_of, roles_of, tag_to, tags_for,
+    commit_each, commitments_with, copy_values, make_tag, name_of, roles_of, tags_for,
     written_openings,
 };
-use crate::tags::note_for;
 use crate::values::facts_of_values;
 use sg_base::{Label, Opening, OutOfMemory, Role, Sealed, Seq, Tag, Time, Value, Var};
 use sg_crypt::{Notes, SharedCast, frame_text};
@@ -99,11 +100,7 @@ fn next_items(
     ensures program { IfOk result (λ r. IsProgram real (state_of kept.now).program) }
     ensures items { IfOk result (λ r. r.0.items ≡ items_after (state_of kept.now).program.graph (state_of kept.now).held (step_item keys.now (state_of kept.now).program (state_of kept.now).held label written.now)) }
     ensures commitments { IfOk result (λ r. r.1.items ≡ step_commitments (state_of kept.now).program (state_of kept.now).held written.now) }
-    ensures noted { OnOk result (notes.new ≡ record {
-      made = notes.old.made ++ map (λ t. note_of keys.now.me (principal kept.now.cast t) (own_text (state_of kept.now).held label (step_commitments (state_of kept.now).program (state_of kept.now).held written.now) t)) (targets_of (state_of kept.now).program label);
-      found = notes.old.found;
-      hashed = notes.old.hashed ++ map (commitment_text_of kept.now.sid) written.now;
-    }) }
+    ensures noted { OnOk result (notes.new ≡ with_item keys.now (state_of kept.now).program (state_of kept.now).held label written.now notes.old) }
     ensures keeps { Extends notes.old notes.new }
 {
     let (own, commitments) = own_item(alloc, kept, keys, label, written, notes)?;
@@ -153,22 +150,11 @@ fn next_kept<'p>(
 {
     let mut openings = copied_openings(alloc, kept.openings.as_slice())?;
     take_over(&mut openings, written);
-    let cast = kept.cast.share()?;
     let time = next_time(kept);
-    let next = KeptState {
-        program: kept.program,
-        sid: kept.sid,
-        cast,
-        from: Origin::After(label),
-        own_time: time,
-        time,
-        place: kept.program.graph().edge(label).target,
-        items,
-        commitments,
-        openings,
-    };
-    let held = shared(alloc, next)?;
-    Ok(held)
+    let place = kept.program.graph().edge(label).target;
+    let from = Origin::After(label);
+    let next = kept.stepped(alloc, from, time, time, place, items, commitments, openings)?;
+    Ok(next)
 }
 
 // What the role does.
@@ -222,14 +208,9 @@ fn own_item(
     requires counted { length kept.now.cast.names ≡ length (state_of kept.now).program.graph.roles }
     ensures item { IfOk result (λ r. r.0 ≡ step_item keys.now (state_of kept.now).program (state_of kept.now).held label written.now) }
     ensures commitments { IfOk result (λ r. r.1.items ≡ step_commitments (state_of kept.now).program (state_of kept.now).held written.now) }
-    ensures noted { OnOk result (notes.new ≡ record {
-      made = notes.old.made ++ map (λ t. note_of keys.now.me (principal kept.now.cast t) (own_text (state_of kept.now).held label (step_commitments (state_of kept.now).program (state_of kept.now).held written.now) t)) (targets_of (state_of kept.now).program label);
-      found = notes.old.found;
-      hashed = notes.old.hashed ++ map (commitment_text_of kept.now.sid) written.now;
-    }) }
+    ensures noted { OnOk result (notes.new ≡ with_item keys.now (state_of kept.now).program (state_of kept.now).held label written.now notes.old) }
     ensures keeps { Extends notes.old notes.new }
 {
-    let targets = step_targets(alloc, kept, label)?;
     let delta = commit_each(alloc, &kept.sid, written, notes)?;
     let count = kept.program.graph().vars();
     let commitments = commitments_with(
@@ -238,15 +219,7 @@ fn own_item(
         kept.commitments.as_slice(),
         delta.as_slice(),
     )?;
-    let tags = tags_for(
-        alloc,
-        kept,
-        keys,
-        label,
-        commitments.as_slice(),
-        targets.as_slice(),
-        notes,
-    )?;
+    let tags = step_tags(alloc, kept, keys, label, commitments.as_slice(), notes)?;
     let own = Item {
         role: kept.program.role(),
         label,
@@ -255,6 +228,37 @@ fn own_item(
         tags: Seq::from_vec(tags),
     };
     Ok((own, commitments))
+}
+
+// The tag of the own item for each target of the step, with these commitments. Each text is noted.
+fn step_tags(
+    alloc: Global,
+    kept: &KeptState,
+    keys: &Keyring,
+    label: Label,
+    commitments: &[Option<[u8; 32]>],
+    notes: &mut Notes,
+) -> Result<Vec<(Role, Tag)>, OutOfMemory>
+    requires label { label < length (state_of kept.now).program.graph.edges }
+    requires time { kept.now.time < most_time }
+    requires counted { length kept.now.cast.names ≡ length (state_of kept.now).program.graph.roles }
+    ensures value { IfOk result (λ d. d.items ≡ map (λ t. (t, tag_for real keys.now kept.now.cast t (own_text (state_of kept.now).held label commitments.now t))) (targets_of (state_of kept.now).program label)) }
+    ensures noted { OnOk result (notes.new ≡ record notes.old {
+      made = notes.old.made ++ map (λ t. note_of keys.now.me (principal kept.now.cast t) (own_text (state_of kept.now).held label commitments.now t)) (targets_of (state_of kept.now).program label);
+    }) }
+    ensures keeps { Extends notes.old notes.new }
+{
+    let targets = step_targets(alloc, kept, label)?;
+    let tags = tags_for(
+        alloc,
+        kept,
+        keys,
+        label,
+        commitments,
+        targets.as_slice(),
+        notes,
+    )?;
+    Ok(tags)
 }
 
 // The frame that shows these kept items, with zeros for its tag.
@@ -270,10 +274,9 @@ fn untagged(
     ensures receiver { IfOk result (λ f. f.receiver < length (state_of kept.now).program.graph.roles) }
 {
     let to = kept.program.graph().receiver(label);
-    let shown = shown_to(alloc, items, to)?;
-    let reads = step_reads(alloc, kept, label)?;
-    let openings = openings_of(alloc, reads.as_slice(), written, kept.openings.as_slice())?;
     let join = join_for(kept, to)?;
+    let shown = shown_to(alloc, items, to)?;
+    let openings = step_openings(alloc, kept, label, written)?;
     Ok(Frame {
         version: kept.cast.version(),
         sid: kept.sid,
@@ -295,6 +298,21 @@ fn join_for(kept: &KeptState, to: Role) -> Result<Option<SharedCast>, OutOfMemor
     } else {
         Ok(Some(kept.cast.share()?))
     }
+}
+
+// The openings of what the step's edge reads: the written ones take precedence.
+fn step_openings(
+    alloc: Global,
+    kept: &KeptState,
+    label: Label,
+    written: &[Opening],
+) -> Result<Seq<Opening>, OutOfMemory>
+    requires { label < length (state_of kept.now).program.graph.edges }
+    ensures { IfOk result (λ os. os ≡ filter_map (λ x. option_or (opening_in written.now x) (get_or kept.now.openings.items x None)) (reads (state_of kept.now).program.graph label)) }
+{
+    let reads = step_reads(alloc, kept, label)?;
+    let openings = openings_of(alloc, reads.as_slice(), written, kept.openings.as_slice())?;
+    Ok(openings)
 }
 
 // What the step's edge reads.
@@ -328,12 +346,11 @@ fn seal(
     ensures same { OnErr result (notes.new ≡ notes.old) }
 {
     let version = kept.cast.version();
-    let peer = name_of(&kept.cast, frame.receiver);
     let bytes = encode(alloc, frame)?;
     let len = body_len(version, bytes.as_slice());
     let text = frame_text(alloc, version, &bytes.as_slice()[..len])?;
-    let (made, pair) = tag_to(keys, &peer, version, text.as_slice());
-    notes.note_made(note_for(alloc, keys, pair, peer, text)?)?;
+    let made = make_tag(alloc, &kept.cast, keys, frame.receiver, text, notes)?;
+    let peer = name_of(&kept.cast, frame.receiver);
     Ok(Sealed::seal(peer, with_tag(bytes, len, &made)))
 }
 

@@ -1,5 +1,5 @@
 //! Whether the tags of a frame and of its items are right.
-ghost use Rattle.std.specs.Prelude.{◌≡◌, ◌≢◌, ◌<◌, ◌≤◌, ◌++◌, [], ◌∷◌, Err, None, true, false, nat_lt, not, length, unwrap_or, All, IfOk, IfErr, IfSome, bytes_eq};
+ghost use Rattle.std.specs.Prelude.{◌≡◌, ◌≢◌, ◌<◌, ◌≤◌, ◌++◌, [], ◌∷◌, Err, None, true, false, nat_lt, not, length, unwrap_or, All, IfOk, IfErr, IfSome, OnErr, bytes_eq};
 ghost use Rattle.sg_crypt.specs.Model.{pair_of};
 ghost use Rattle.sg_model.specs.Lists.{value_at};
 ghost use Rattle.sg_protocol.specs.Calls.{BadFrameTag};
@@ -47,11 +47,10 @@ pub(crate) fn check_frame_tag(
         return Err(Refusal::BadFrameTag);
     };
     let text = text_of_frame(alloc, frame, bytes)?;
-    let (right, pair) = is_tag(keys, &peer, frame.version, text.as_slice(), &frame.tag);
+    let right = note_right(alloc, keys, peer, frame.version, text, &frame.tag, notes)?;
     if !right {
         return Err(Refusal::BadFrameTag);
     }
-    notes.note_found(note_for(alloc, keys, pair, peer, text)?)?;
     Ok(())
 }
 
@@ -62,6 +61,33 @@ fn text_of_frame(alloc: Global, frame: &Frame, bytes: &[u8]) -> Result<Vec<u8>, 
 {
     let body = &bytes[..body_len(frame.version, bytes)];
     frame_text(alloc, frame.version, body)
+}
+
+// Whether this is the tag of a text under the key shared with a principal, or under no bytes if none is shared. If so, the text is
+// noted.
+fn note_right(
+    alloc: Global,
+    keys: &Keyring,
+    peer: Name,
+    version: u8,
+    text: Vec<u8>,
+    tag: &Tag,
+    notes: &mut Notes,
+) -> Result<bool, OutOfMemory>
+    requires { IsVersion version }
+    ensures same { IfOk result (λ right. right ≡ bytes_eq (cut version (hmac real (unwrap_or (key_of keys.now peer) []) text.items)) tag.now) }
+    ensures turned { IfOk result (λ right. right ≡ bytes_eq tag.now (cut version (hmac real (unwrap_or (key_of keys.now peer) []) text.items))) }
+    ensures noted { IfOk result (λ right. right ≡ true → notes.new ≡ record notes.old {
+      found = notes.old.found ++ note_of keys.now.me peer text.items ∷ [];
+    }) }
+    ensures wrong { IfOk result (λ right. right ≡ false → notes.new ≡ notes.old) }
+    ensures lacks { OnErr result (notes.new ≡ notes.old) }
+{
+    let (right, pair) = is_tag(keys, &peer, version, text.as_slice(), tag);
+    if right {
+        notes.note_found(note_for(alloc, keys, pair, peer, text)?)?;
+    }
+    Ok(right)
 }
 
 // Whether this is the tag of a text under the key shared with a principal, or under no bytes if none is shared; and the two that share
@@ -177,11 +203,10 @@ fn check_item(
         item.time,
         commitments,
     )?;
-    let (right, pair) = is_tag(keys, &peer, version, text.as_slice(), &tag);
+    let right = note_right(alloc, keys, peer, version, text, &tag, notes)?;
     if !right {
         return Err(Refusal::BadEvidence { item: number });
     }
-    notes.note_found(note_for(alloc, keys, pair, peer, text)?)?;
     Ok(())
 }
 

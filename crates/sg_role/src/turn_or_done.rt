@@ -2,7 +2,7 @@
 use crate::Turn;
 
 /// The end of a role's part in a session.
-#[derive(Debug, Drop)]
+#[derive(Drop)]
 pub struct Done(pub(crate) ());
 
 /// What becomes of a role that waits and accepts a frame.

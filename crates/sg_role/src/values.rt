@@ -1,6 +1,6 @@
 //! Whether a step can be sent with the values that it is given.
-ghost use Rattle.std.specs.Prelude.{◌≡◌, ◌≢◌, Err, ◌<◌, ◌≤◌, ◌+◌, ◌==◌, ℕ, false, ◌&&◌, ◌||◌, nat_lt, not, drop, IsTrue, None, Some, length, find, option_map, IfOk, IfErr};
-ghost use Rattle.sg_model.specs.Lists.{below, first_some, is_in, keys_of};
+ghost use Rattle.std.specs.Prelude.{◌≡◌, ◌≢◌, Err, ◌<◌, ◌≤◌, ◌+◌, ◌==◌, ℕ, false, ◌&&◌, ◌||◌, nat_lt, not, drop, IsTrue, None, Some, length, IfOk, IfErr};
+ghost use Rattle.sg_model.specs.Lists.{first_some, is_in, keys_of};
 ghost use Rattle.sg_protocol.specs.Acting.{is_bad, is_out_of_order, is_typed};
 ghost use Rattle.std.specs.List.{list_all, list_any, AllByRecursion};
 ghost use Rattle.sg_base.specs.Model.{value_of};

@@ -1,9 +1,9 @@
 //! Whether a frame shows what a role can be shown.
-ghost use Rattle.std.specs.Prelude.{◌≡◌, ◌<◌, ◌≤◌, [], ◌&&◌, ◌==◌, Some, None, true, false, not, length, map, filter, slice_get, bytes_eq, All, IfOk, IfErr, MatchOption};
-ghost use Rattle.std.specs.List.{AllByRecursion, list_all};
+ghost use Rattle.std.specs.Prelude.{◌≡◌, ◌<◌, [], ◌&&◌, ◌==◌, Some, None, true, false, not, length, map, filter, slice_get, bytes_eq, All, IfOk, IfErr, MatchOption};
+ghost use Rattle.std.specs.List.{list_all};
 ghost use Rattle.std.specs.Option.{option_map_or};
 ghost use Rattle.sg_model.specs.Last.{has, last};
-ghost use Rattle.sg_model.specs.Lists.{is_in, keys_of, rises_from};
+ghost use Rattle.sg_model.specs.Lists.{is_in, keys_of};
 ghost use Rattle.sg_model.specs.Shape.{sender};
 ghost use Rattle.sg_protocol.specs.Calls.{NoSuchView};
 ghost use Rattle.sg_protocol.specs.Graph.{AreNumbers, shape, reads};

@@ -27,24 +27,7 @@ returns c =
     let shown : c.as_slice-shown.result.now ≡ f.items = c.as_slice-shown.ensures ∙ ap (λ (f : Frame). f.items) c.frame.view_is in
     let opened : c.as_slice-opened.result.now ≡ f.openings = c.as_slice-opened.ensures ∙ ap (λ (f : Frame). f.openings) c.frame.view_is in
     let count : length p.graph.variables ≡ c.vars-count.result = sym (c.vars-count.ensures.count ∙ ap (λ (g : Graph). length g.variables) c.graph.ensures.graph) in
-    ap state_of c.in_ok-held.ensures
-    ∙ (λ j. record {
-      program = p;
-      held = record {
-        sid = h.sid;
-        cast = c.in_ok-cast.ensures j;
-        role = h.role;
-        kept = record {
-          origin = h.kept.origin;
-          own_time = h.kept.own_time;
-          time = c.ended-time.result.0;
-          place = c.ended-time.result.1;
-          items = c.in_ok-items.items.items;
-          commitments = c.args.commitments.items;
-          openings = c.in_ok-openings.openings.items;
-        };
-      };
-    })
+    c.in_ok-next.ensures
     ∙ ap (λ (z : Held). record { program = p; held = z }) (next_is p c.graph.ensures.program h refl f c.requires.holds c.requires.spelled c.requires.seen
     c.ended-time.result.0 c.ended-time.result.1 c.in_ok-items.items.items c.args.commitments.items c.in_ok-openings.openings.items
     (c.ended-time.ensures.time ∙ ap (λ (is : List Item). unwrap_or (option_map (λ (i : Item). i.time) (last is)) h.kept.time) shown)

@@ -1,4 +1,4 @@
-use Rattle.std.proofs.Common.{◌≡◌, ◌||◌, ◌+◌, Bool, true, false, Some, drop, length, sym, ap, ◌∙◌, arith}
+use Rattle.std.proofs.Common.{◌||◌, ◌+◌, Bool, Some, drop, sym, ap, ◌∙◌, arith}
 use Rattle.std.specs.List.{list_any}
 use Rattle.sg_model.proofs.Small.{length_map, drop_end}
 use Rattle.sg_protocol.specs.Evidence.{View, same_origin}

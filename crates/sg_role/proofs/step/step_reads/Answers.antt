@@ -1,4 +1,4 @@
-use Rattle.std.proofs.Common.{◌≡◌, filter, ap, ◌∙◌}
+use Rattle.std.proofs.Common.{filter, ap, ◌∙◌}
 use Rattle.sg_graph.specs.declared.edge.Edge.{Edge}
 use Rattle.sg_model.specs.Lists.{is_in, below}
 use Rattle.sg_protocol.specs.Graph.{Graph, reads}

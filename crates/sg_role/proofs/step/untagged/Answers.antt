@@ -1,11 +1,9 @@
-use Rattle.std.proofs.Common.{◌≡◌, ℕ, None, Some, if◌then◌else◌, filter_map, get_or, replicate, ap, ◌∙◌}
-use Rattle.std.specs.Option.{option_or}
+use Rattle.std.proofs.Common.{◌≡◌, ℕ, None, Some, if◌then◌else◌, replicate, ap, ◌∙◌}
 use Rattle.sg_model.specs.Last.{has, after_last}
 use Rattle.sg_model.specs.Shape.{receiver}
 use Rattle.sg_protocol.specs.Frame.{Item}
 use Rattle.sg_protocol.specs.Graph.{Graph, shape}
 use Rattle.sg_protocol.specs.Sending.{tags_left}
-use Rattle.sg_protocol.specs.Session.{opening_in}
 use Rattle.sg_role.proofs.step.untagged.Goals as goal
 
 pub returns-clause-frame : goal.returns-clause-frame
@@ -19,7 +17,6 @@ returns-clause-frame c =
       receiver = to j;
       join = (c.in_ok-join.ensures ∙ ap (λ (t : ℕ). if has (λ (i : Item). i.role) t k.items.items then None else Some k.cast) to) j;
       items = (c.in_ok-shown.ensures ∙ ap (λ (t : ℕ). tags_left (after_last (λ (i : Item). i.role) t c.args.items.now)) to) j;
-      openings = (c.in_ok-openings.ensures
-          ∙ (λ i. filter_map (λ x. option_or (opening_in c.args.written.now x) (get_or (c.as_slice-2.ensures.value i) x None)) ((c.as_slice.ensures.value ∙ c.in_ok-reads.ensures) i))) j;
+      openings = c.in_ok-openings.ensures j;
       tag = replicate 32 0;
     }

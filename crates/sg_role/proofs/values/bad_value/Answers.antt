@@ -1,4 +1,4 @@
-use Rattle.std.proofs.Common.{◌≡◌, ℕ, Bool, true, false, Some, sym, ap, ◌∙◌, arith}
+use Rattle.std.proofs.Common.{◌≡◌, ℕ, true, false, Some, sym, ap, ◌∙◌, arith}
 use Rattle.sg_protocol.specs.Acting.{is_bad}
 use Rattle.sg_walk.specs.Model.{values_of}
 use Rattle.sg_role.proofs.ValueLaws.{first_here, first_later, first_end, first_start}

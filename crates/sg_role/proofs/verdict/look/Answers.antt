@@ -1,4 +1,4 @@
-use Rattle.std.proofs.Common.{rules, ◌≡◌, ◌<◌, Result, Err, List, ℕ, length, All, refl, sym, ap, subst, ◌∙◌}
+use Rattle.std.proofs.Common.{rules, ◌≡◌, ◌<◌, Result, Err, List, length, All, refl, sym, ap, subst, ◌∙◌}
 use Rattle.sg_model.specs.Values.{Opening}
 use Rattle.sg_protocol.specs.Frame.{Item, Frame}
 use Rattle.sg_protocol.specs.Graph.{Graph}

@@ -1,4 +1,4 @@
-use Rattle.std.proofs.Common.{◌≡◌, List, Option, Err, ap, ◌∙◌, subst}
+use Rattle.std.proofs.Common.{List, Option, Err, ap, ◌∙◌, subst}
 use Rattle.sg_model.specs.Lists.{first_some}
 use Rattle.sg_protocol.specs.Calls.{SendFault}
 use Rattle.sg_walk.specs.Model.{values_of}
