@@ -1,13 +1,13 @@
 //! Answers of a few words.
-ghost use Rattle.std.specs.Prelude.{◌≡◌, ◌<◌, ◌++◌, ◌∷◌, [], false, OnOk};
-ghost use Rattle.std.specs.Fmt.{digit_glyph};
+ghost use Rattle.std.specs.Prelude.{◌≡◌, ◌++◌, ◌∷◌, [], OnOk};
 ghost use Rattle.sg_text.specs.Sessions.{numbered};
 ghost use Rattle.sg_answers.specs.Answers.{again_text, failed_text, hex_text, id_text, nothing_text, over_text, quiet_text, unknown_text, unsent_text, waits_text, wrong_text};
 
 use sg_base::{ByteOut, Name, OutOfMemory, Sid};
+use sg_text::hex_digit;
 
 /// What is wrong with a line.
-#[derive(Debug, Clone, Copy, PartialEq, Eq)]
+#[derive(Clone, Copy, PartialEq, Eq)]
 pub enum Wrong {
     /// It is of no form.
     Form,
@@ -124,15 +124,4 @@ fn put_hex(out: &mut ByteOut, bytes: &[u8]) -> Result<(), OutOfMemory>
         out.bytes(&[hex_digit(byte / 16), hex_digit(byte % 16)])?;
     }
     Ok(())
-}
-
-fn hex_digit(digit: u8) -> u8
-    requires { digit < 16 }
-    ensures { result ≡ digit_glyph false digit }
-{
-    if digit < 10 {
-        b'0' + digit
-    } else {
-        b'a' - 10 + digit
-    }
 }

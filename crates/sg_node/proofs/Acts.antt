@@ -43,8 +43,9 @@ use Rattle.sg_node.specs.Slots.{Slot, state_in, held_at, held_in, is_of, first_i
 use Rattle.sg_role.specs.Faults.{RefusesToSend}
 use Rattle.sg_role.specs.declared.fault.SendFault.{SendFault as RoleFault}
 use Rattle.sg_role.specs.declared.fault.SendFault.TheVariants as sending
-use Rattle.sg_node.specs.declared.answer.Happened.{Happened}
-use Rattle.sg_node.specs.Answers.{IsAnswerOfAct, GoesOn, is_sending}
+use Rattle.sg_receipt.specs.declared.answer.Happened.{Happened}
+use Rattle.sg_receipt.specs.Answers.{IsAnswerOfAct}
+use Rattle.sg_node.specs.Answers.{GoesOn, is_sending}
 use Rattle.sg_node.specs.Faults.{send_fault}
 use Rattle.sg_node.specs.Invariant.{IsLiveAt, IfLive, IsSlot, HoldsNode, node_state}
 use Rattle.sg_node.proofs.Indices.{live_at, Tests, First, held_first}

@@ -29,12 +29,14 @@ use Rattle.sg_role.specs.Sending.{with_notes}
 use Rattle.sg_role.specs.Model.{RoleState}
 use Rattle.sg_role.specs.declared.fault.Refusal.{Refusal as RoleRefusal}
 use Rattle.sg_role.specs.declared.fault.Refusal.TheVariants as role
-use Rattle.sg_node.specs.Answers.{answer_of_delivery, graph_named, graph_of_delivery, may_take_memory}
-use Rattle.sg_node.specs.declared.refusal.DeliveryRefusal.{DeliveryRefusal}
-use Rattle.sg_node.specs.Receipts.{Receipt, IsReceiptAt}
+use Rattle.sg_receipt.specs.Answers.{answer_of_delivery, graph_named, graph_of_delivery}
+use Rattle.sg_node.specs.Answers.{may_take_memory}
+use Rattle.sg_receipt.specs.declared.refusal.DeliveryRefusal.{DeliveryRefusal}
+use Rattle.sg_receipt.specs.Receipts.{Receipt, IsReceiptAt}
 use Rattle.sg_node.specs.declared.node.Node.TheInside.{Inside}
 use Rattle.sg_node.specs.declared.sessions.Live.TheVariants.{AtTurn, Waiting}
-use Rattle.sg_node.specs.Faults.{delivery_refusal, role_refusal}
+use Rattle.sg_receipt.specs.Refusals.{delivery_refusal}
+use Rattle.sg_node.specs.Faults.{role_refusal}
 use Rattle.sg_node.specs.Taking.{TakesFrame}
 use Rattle.sg_node.specs.Slots.{Slot, state_in, held_at, held_in, is_for, first_index, left_after}
 use Rattle.sg_node.specs.Invariant.{IsSlot, HoldsNode, node_state}

@@ -35,14 +35,16 @@ use Rattle.sg_role.specs.Model.{RoleState}
 use Rattle.sg_role.specs.Sending.{with_notes}
 use Rattle.sg_role.specs.declared.fault.Refusal.{Refusal as RoleRefusal}
 use Rattle.sg_role.specs.declared.fault.Refusal.TheVariants as role
-use Rattle.sg_node.specs.Answers.{answer_of_delivery, graph_named, graph_of_delivery, may_take_memory}
-use Rattle.sg_node.specs.declared.refusal.DeliveryRefusal.{DeliveryRefusal}
+use Rattle.sg_receipt.specs.Answers.{answer_of_delivery, graph_named, graph_of_delivery}
+use Rattle.sg_node.specs.Answers.{may_take_memory}
+use Rattle.sg_receipt.specs.declared.refusal.DeliveryRefusal.{DeliveryRefusal}
 use Rattle.sg_node.specs.Taking.{TakesFrame}
-use Rattle.sg_node.specs.Receipts.{Receipt, IsReceiptAt}
+use Rattle.sg_receipt.specs.Receipts.{Receipt, IsReceiptAt}
 use Rattle.sg_node.specs.declared.join.Obstacle.{Obstacle}
 use Rattle.sg_node.specs.declared.join.Obstacle.TheVariants as Why
 use Rattle.sg_node.specs.declared.node.Node.TheInside.{Inside}
-use Rattle.sg_node.specs.Faults.{delivery_refusal, role_refusal}
+use Rattle.sg_receipt.specs.Refusals.{delivery_refusal}
+use Rattle.sg_node.specs.Faults.{role_refusal}
 use Rattle.sg_node.specs.Joining.{JoinsBy, obstacle_to, refusal_for}
 use Rattle.sg_node.specs.Slots.{Slot, held_at, held_in, slot_of, left_after}
 use Rattle.sg_node.specs.Invariant.{IsSlot, HoldsNode, node_state}

@@ -22,7 +22,7 @@ use Rattle.sg_role.proofs.Edges.{goes_on_by}
 use Rattle.sg_role.specs.Accepting.{goes_on}
 use Rattle.sg_node.specs.declared.join.Obstacle.TheVariants as Why
 use Rattle.sg_node.specs.declared.sessions.Live.{Live}
-use Rattle.sg_node.specs.Faults.{start_refusal}
+use Rattle.sg_receipt.specs.Refusals.{start_refusal}
 use Rattle.sg_node.specs.Joining.{obstacle_to, start_refusal_for}
 use Rattle.sg_node.specs.Slots.{Slot, held_at, held_in, slot_of}
 use Rattle.sg_node.specs.Invariant.{IfLive, IsSlot}

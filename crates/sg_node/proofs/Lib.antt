@@ -8,7 +8,6 @@ pub mod Going
 pub mod InSlots
 pub mod Acts
 pub mod Refusing
-pub mod Shown
 pub mod ToldApart
 pub mod Joined
 pub mod Memory

@@ -18,7 +18,7 @@ use Rattle.sg_protocol.specs.Verdict.{row, bad_time, decided, is_shown, has_fram
 use Rattle.sg_node.specs.Answers.{may_take_memory}
 use Rattle.sg_node.specs.declared.join.Obstacle.{Obstacle}
 use Rattle.sg_node.specs.declared.join.Obstacle.TheVariants as Why
-use Rattle.sg_node.specs.Faults.{start_refusal}
+use Rattle.sg_receipt.specs.Refusals.{start_refusal}
 use Rattle.sg_node.specs.Joining.{start_refusal_for}
 
 -- a start that comes to the obstacles

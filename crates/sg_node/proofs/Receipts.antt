@@ -23,9 +23,10 @@ use Rattle.sg_role.specs.Model.{RoleState}
 use Rattle.sg_role.specs.declared.fault.Refusal.{Refusal as RoleRefusal}
 use Rattle.sg_role.specs.declared.fault.Refusal.TheVariants as role
 use Rattle.sg_protocol.specs.Graph.{Graph}
-use Rattle.sg_node.specs.declared.refusal.DeliveryRefusal.{DeliveryRefusal}
-use Rattle.sg_node.specs.Answers.{answer_of_delivery, graph_named, graph_of_delivery, may_take_memory}
-use Rattle.sg_node.specs.Receipts.{Receipt}
+use Rattle.sg_receipt.specs.declared.refusal.DeliveryRefusal.{DeliveryRefusal}
+use Rattle.sg_receipt.specs.Answers.{answer_of_delivery, graph_named, graph_of_delivery}
+use Rattle.sg_node.specs.Answers.{may_take_memory}
+use Rattle.sg_receipt.specs.Receipts.{Receipt}
 use Rattle.sg_node.specs.declared.sessions.Live.TheVariants.{AtTurn}
 use Rattle.sg_node.specs.Faults.{role_refusal}
 use Rattle.sg_node.specs.Slots.{held_at, left_after}

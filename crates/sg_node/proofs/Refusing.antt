@@ -6,10 +6,11 @@ use Rattle.sg_protocol.specs.Calls.{Answer, ActFault, NotActed, Send, SendFault}
 use Rattle.sg_protocol.specs.Graph.{Graph}
 use Rattle.sg_role.specs.declared.fault.SendFault.{SendFault as RoleFault}
 use Rattle.sg_role.specs.declared.fault.SendFault.TheVariants as sending
-use Rattle.sg_node.specs.declared.answer.Happened.{Happened}
-use Rattle.sg_node.specs.declared.refusal.ActRefusal.{ActRefusal}
-use Rattle.sg_node.specs.Answers.{IsAnswerOfAct, graph_named, graph_of_act}
-use Rattle.sg_node.specs.Faults.{act_refusal, graph_of_act_refusal, send_fault}
+use Rattle.sg_receipt.specs.declared.answer.Happened.{Happened}
+use Rattle.sg_receipt.specs.declared.refusal.ActRefusal.{ActRefusal}
+use Rattle.sg_receipt.specs.Answers.{IsAnswerOfAct, graph_named, graph_of_act}
+use Rattle.sg_receipt.specs.Refusals.{act_refusal, graph_of_act_refusal}
+use Rattle.sg_node.specs.Faults.{send_fault}
 
 module _ {E : Type 0} (res : Result (Result (Happened × (List ℕ × List ℕ)) ActRefusal) E) (refused : IfOk res (λ r. IsErr r)) where
   -- whatever follows from any refusal

@@ -7,13 +7,15 @@ use Rattle.std.proofs.lemmas.Bool.{eq-eqb}
 use Rattle.sg_model.specs.Lists.{first_some}
 use Rattle.sg_model.specs.Shape.{role_at}
 use Rattle.sg_protocol.specs.Acting.{started, rows_of_start, answer_start}
-use Rattle.sg_protocol.specs.Calls.{Answer, Start, Started, Happened, NotStarted, UnknownGraph, BadCast, UnknownPeer, Joined, CacheFull, SessionsFull}
+use Rattle.sg_protocol.specs.Calls.{Answer, StartFault, Start, Started, Happened, NotStarted, UnknownGraph, BadCast, UnknownPeer, Joined, CacheFull, SessionsFull}
 use Rattle.sg_protocol.specs.Frame.{Cast}
 use Rattle.sg_protocol.specs.IsSchedule.{IsProgram}
 use Rattle.sg_protocol.specs.Keyring.{Program, may_return}
 use Rattle.sg_protocol.specs.Node.{Node, starter, program_for, is_cast, stranger, has_joined}
-use Rattle.sg_protocol.specs.NodeStates.{RepresentsNode, begun, is_spent, unless_spent, state_after}
-use Rattle.sg_protocol.specs.Notes.{Notes, notes_of_start}
+use Rattle.sg_protocol.specs.NodeStates.{NodeState, RepresentsNode, RepresentsPast, IsReachableLive, begun, is_spent, unless_spent, state_after}
+use Rattle.sg_protocol.specs.Notes.{Notes, no_notes, notes_of_start}
+use Rattle.sg_protocol.specs.Past.{Past, node_of}
+use Rattle.sg_protocol.specs.Ranges.{IsCast}
 use Rattle.sg_protocol.specs.Representation.{nothing_kept}
 use Rattle.sg_protocol.specs.Texts.{real, session_id, session_text_of}
 use Rattle.sg_protocol.specs.Verdict.{row}
@@ -26,23 +28,29 @@ use Rattle.sg_role.specs.Model.{RoleState}
 use Rattle.sg_protocol.specs.Graph.{Graph, shape}
 use Rattle.sg_protocol.specs.Session.{Session, new_session}
 use Rattle.sg_protocol.specs.Named.{graph_of_call}
-use Rattle.sg_node.specs.declared.answer.Happened.{Happened as Begun}
-use Rattle.sg_node.specs.declared.refusal.StartRefusal.{StartRefusal}
-use Rattle.sg_node.specs.Answers.{answer_of_start, graph_named, graph_of_start, may_take_memory}
+use Rattle.sg_receipt.specs.declared.answer.Happened.{Happened as Begun}
+use Rattle.sg_receipt.specs.declared.refusal.StartRefusal.{StartRefusal}
+use Rattle.sg_receipt.specs.Answers.{answer_of_start, graph_named, graph_of_start}
+use Rattle.sg_node.specs.Answers.{GoesOn, may_take_memory}
 use Rattle.sg_node.specs.declared.join.Obstacle.{Obstacle}
 use Rattle.sg_node.specs.declared.join.Obstacle.TheVariants as Why
 use Rattle.sg_node.specs.declared.node.Node.TheInside.{Inside}
 use Rattle.sg_node.specs.declared.sessions.Live.TheVariants.{AtTurn}
-use Rattle.sg_node.specs.Faults.{start_refusal}
+use Rattle.sg_receipt.specs.Refusals.{start_refusal}
 use Rattle.sg_node.specs.Joining.{obstacle_to, start_refusal_for}
 use Rattle.sg_node.specs.Slots.{held_in}
 use Rattle.sg_node.specs.Invariant.{IsSlot, HoldsNode, node_state}
+use Rattle.sg_node.proofs.Acts.{with_none}
+use Rattle.sg_node.proofs.Going.{all_reachable, goes_on as past_goes_on}
 use Rattle.sg_node.proofs.Joined.{as_many, held_more, slots_more, rows_of_obstacles, start_goes_on}
 use Rattle.sg_node.proofs.Memory.{started_may}
 
 module _ (m : Node) (c : Cast) where
   abbrev under : Option Program → Answer
   under o = option_map_or (λ p. started (session_id real c) p.role (first_some (rows_of_start m p (session_id real c) c))) o (NotStarted UnknownGraph)
+
+  pub no_starter : starter m.programs c.graph ≡ None → answer_start real m c ≡ NotStarted UnknownGraph
+  no_starter e = ap under e
 
   module _ (p : Program) (e : starter m.programs c.graph ≡ Some p) where
     abbrev by_test : Bool → Option (List ℕ) → Answer
@@ -68,6 +76,15 @@ module _ (m : Node) (c : Cast) where
     -- once the graph, the cast and the keys are right, memory may be taken
     pub start_may : is_cast m.keys p.graph c p.role ≡ true → stranger m.keys c ≡ None → may_take_memory (answer_start real m c) ≡ true
     start_may f g = ap may_take_memory (by_obstacles f g) ∙ started_may (session_id real c) p.role (obstacle_to m.joins (length m.live) (session_id real c) p.role)
+
+-- a start that is refused before anything is noted leaves the node and the notes
+pub refused_start : (n : Inside) → HoldsNode n → {here : NodeState} → node_state n ≡ here → (c : Cast) → IsCast c → (fault : StartFault) → notes_of_start c (NotStarted fault) ≡ no_notes → (before : Notes) → (past : Past) → RepresentsPast here past
+    → answer_start real (node_of past) c ≡ NotStarted fault → GoesOn here here (Start c) past × (before ≡ with_notes before (notes_of_start c (answer_start real (node_of past) c)))
+refused_start n h {here} is c good fault quiet before past st a = (
+  past_goes_on here here (Start c) past (subst (λ (z : NodeState). AllByRecursion (IsProgram real) z.programs) is h.programs) (subst (λ (z : NodeState). AllByRecursion (IsReachableLive real z.programs) z.live) is (all_reachable n h)) good st
+      (ap (state_after here (Start c)) (sym a)),
+  with_none before ∙ ap (with_notes before) (sym (ap (notes_of_start c) a ∙ quiet)),
+)
 
 -- the graph of a start is that of its program
 pub start_graph : (n : Node) (c : Cast) (p : Program) → starter n.programs c.graph ≡ Some p → graph_of_call real n (Start c) ≡ Some p.graph

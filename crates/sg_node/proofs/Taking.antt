@@ -14,10 +14,11 @@ use Rattle.sg_protocol.specs.Past.{Past, node_of}
 use Rattle.sg_protocol.specs.Reading.{read}
 use Rattle.sg_protocol.specs.Texts.{real}
 use Rattle.sg_protocol.specs.Verdict.{rows, receipt, decided, verdict_on}
-use Rattle.sg_node.specs.declared.refusal.DeliveryRefusal.{DeliveryRefusal}
-use Rattle.sg_node.specs.Answers.{GoesOn, answer_of_delivery}
-use Rattle.sg_node.specs.Faults.{delivery_refusal}
-use Rattle.sg_node.specs.Receipts.{Receipt}
+use Rattle.sg_receipt.specs.declared.refusal.DeliveryRefusal.{DeliveryRefusal}
+use Rattle.sg_receipt.specs.Answers.{answer_of_delivery}
+use Rattle.sg_node.specs.Answers.{GoesOn}
+use Rattle.sg_receipt.specs.Refusals.{delivery_refusal}
+use Rattle.sg_receipt.specs.Receipts.{Receipt}
 use Rattle.sg_node.proofs.Going.{goes_on}
 
 module _ (old new : NodeState) (past : Past) (bytes : List ℕ) (programs : AllByRecursion (IsProgram real) old.programs) (reachable : AllByRecursion (IsReachableLive real old.programs) old.live) (good : IsBytes bytes) (st : RepresentsPast old past) where

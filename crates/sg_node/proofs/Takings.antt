@@ -15,10 +15,11 @@ use Rattle.sg_protocol.specs.Verdict.{verdict_on}
 use Rattle.sg_role.specs.Sending.{with_notes}
 use Rattle.sg_role.specs.declared.fault.Refusal.{Refusal as RoleRefusal}
 use Rattle.sg_role.specs.declared.fault.Refusal.TheVariants as role
-use Rattle.sg_node.specs.declared.refusal.DeliveryRefusal.{DeliveryRefusal}
-use Rattle.sg_node.specs.Answers.{answer_of_delivery, graph_named, graph_of_delivery}
-use Rattle.sg_node.specs.Faults.{delivery_refusal, role_refusal}
-use Rattle.sg_node.specs.Receipts.{Receipt}
+use Rattle.sg_receipt.specs.declared.refusal.DeliveryRefusal.{DeliveryRefusal}
+use Rattle.sg_receipt.specs.Answers.{answer_of_delivery, graph_named, graph_of_delivery}
+use Rattle.sg_receipt.specs.Refusals.{delivery_refusal}
+use Rattle.sg_node.specs.Faults.{role_refusal}
+use Rattle.sg_receipt.specs.Receipts.{Receipt}
 use Rattle.sg_node.specs.Taking.{TakesFrame}
 use Rattle.sg_node.proofs.Receipts.{err_gives, in_err, no_err, no_ok}
 

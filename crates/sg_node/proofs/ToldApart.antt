@@ -2,16 +2,18 @@
 use Rattle.std.specs.Prelude.{◌≡◌, Some, None, Err, Result}
 use Rattle.std.proofs.Common.{ap, sym, ◌∙◌}
 use Rattle.sg_role.specs.declared.fault.SendFault.TheVariants as sending
-use Rattle.sg_node.specs.declared.fault.StartFault.{StartFault}
-use Rattle.sg_node.specs.declared.fault.StartFault.TheVariants as starting
+use Rattle.sg_receipt.specs.declared.fault.StartFault.{StartFault}
+use Rattle.sg_receipt.specs.declared.fault.StartFault.TheVariants as starting
 use Rattle.sg_node.specs.declared.fault.ActFault.{ActFault}
 use Rattle.sg_node.specs.declared.fault.ActFault.TheVariants as acting
-use Rattle.sg_node.specs.declared.fault.Refusal.{Refusal}
-use Rattle.sg_node.specs.declared.fault.Refusal.TheVariants as refusals
-use Rattle.sg_node.specs.declared.refusal.StartRefusal.{StartRefusal}
-use Rattle.sg_node.specs.declared.refusal.ActRefusal.{ActRefusal}
-use Rattle.sg_node.specs.declared.refusal.DeliveryRefusal.{DeliveryRefusal}
-use Rattle.sg_node.specs.Faults.{start_fault, start_refusal, act_fault, act_refusal, refusal, delivery_refusal}
+use Rattle.sg_receipt.specs.declared.fault.Refusal.{Refusal}
+use Rattle.sg_receipt.specs.declared.fault.Refusal.TheVariants as refusals
+use Rattle.sg_receipt.specs.declared.refusal.StartRefusal.{StartRefusal}
+use Rattle.sg_receipt.specs.declared.refusal.ActRefusal.{ActRefusal}
+use Rattle.sg_receipt.specs.declared.refusal.DeliveryRefusal.{DeliveryRefusal}
+use Rattle.sg_receipt.specs.Refusals.{start_refusal, act_refusal, delivery_refusal}
+use Rattle.sg_receipt.specs.Faults.{start_fault, refusal}
+use Rattle.sg_node.specs.Faults.{act_fault}
 
 module _ {T : Type 0} where
   -- of a start

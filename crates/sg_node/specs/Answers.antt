@@ -1,9 +1,8 @@
 -- What the node answers, as an answer of the definitions.
-use Rattle.std.specs.Prelude.{◌≡◌, ℕ, Bool, true, false, List, Option, None, Some, option_map, if◌then◌else◌, Result, Ok, Err, All, ⊤}
+use Rattle.std.specs.Prelude.{◌≡◌, ℕ, Bool, true, false, List, Option, None, Some, option_map, Result, Ok, Err, All, ⊤}
 use Rattle.sg_protocol.specs.Calls.{Call, Answer, Sends, Abandoned, NotStarted, NotActed, NotAbandoned, NotDelivered}
 use Rattle.sg_protocol.specs.Calls as Protocol
 use Rattle.sg_protocol.specs.Frame.{Frame}
-use Rattle.sg_protocol.specs.Graph.{Graph}
 use Rattle.sg_protocol.specs.Past.{Past, node_of, past_after, new_node, AreAnswers}
 use Rattle.sg_protocol.specs.Ranges.{IsCallInRange}
 use Rattle.sg_protocol.specs.NodeStates.{NodeState, RepresentsPast, state_after}
@@ -12,17 +11,13 @@ use Rattle.sg_protocol.specs.Acting.{answer}
 use Rattle.sg_protocol.specs.Texts.{real}
 use Rattle.sg_walk.specs.declared.event.Event.{Event}
 use Rattle.sg_walk.specs.Model.{event_of}
-use Rattle.sg_node.specs.declared.fault.StartFault.{StartFault}
+use Rattle.sg_receipt.specs.declared.fault.StartFault.{StartFault}
 use Rattle.sg_node.specs.declared.fault.ActFault.{ActFault}
-use Rattle.sg_node.specs.declared.fault.Refusal.{Refusal}
+use Rattle.sg_receipt.specs.declared.fault.Refusal.{Refusal}
 use Rattle.sg_node.specs.declared.fault.UnknownSession.{UnknownSession}
-use Rattle.sg_protocol.specs.Named.{names_numbers}
-use Rattle.sg_node.specs.declared.answer.Happened.{Happened}
-use Rattle.sg_node.specs.declared.refusal.StartRefusal.{StartRefusal}
-use Rattle.sg_node.specs.declared.refusal.ActRefusal.{ActRefusal}
-use Rattle.sg_node.specs.declared.refusal.DeliveryRefusal.{DeliveryRefusal}
-use Rattle.sg_node.specs.Faults.{start_fault, act_fault, refusal, start_refusal, act_refusal, delivery_refusal, graph_of_act_refusal, graph_of_delivery_refusal}
-use Rattle.sg_node.specs.Receipts.{Receipt}
+use Rattle.sg_receipt.specs.Faults.{start_fault, refusal}
+use Rattle.sg_node.specs.Faults.{act_fault}
+pub use Rattle.sg_receipt.specs.Answers.{answer_of_start, IsAnswerOfAct, answer_of_delivery, graph_of_start, graph_of_act, graph_of_delivery, graph_named}
 
 -- it is this answer, or memory ran out
 abbrev pub IsAnswer : Answer → Option Answer → Type 0
@@ -65,40 +60,6 @@ abandon_answer (Err fault) = NotAbandoned
 abbrev pub delivery_answer : Result Event Refusal → Option Answer
 delivery_answer (Ok e) = Some (Protocol.Answer.Happened (event_of e))
 delivery_answer (Err fault) = option_map NotDelivered (refusal fault)
-
--- ---- answers that want of memory is apart from
-
--- the answer to a start
-abbrev pub answer_of_start : Result Happened StartRefusal → Answer
-answer_of_start (Ok h) = Protocol.Answer.Happened (event_of h.event)
-answer_of_start (Err why) = NotStarted (start_refusal why)
-
--- it answers an act: the frame is the one whose spelling is sealed, for the principal that it goes to
-abbrev pub IsAnswerOfAct : Answer → Result (Happened × (List ℕ × List ℕ)) ActRefusal → Type 0
-IsAnswerOfAct a (Ok r) = (f : Frame) × (a ≡ Sends (event_of (r.0).event) (r.1).0 f) × ((r.1).1 ≡ spelling f)
-IsAnswerOfAct a (Err why) = a ≡ NotActed (act_refusal why)
-
--- the answer to a delivery
-abbrev pub answer_of_delivery : Result Receipt DeliveryRefusal → Answer
-answer_of_delivery (Ok r) = Protocol.Answer.Happened r.event
-answer_of_delivery (Err why) = NotDelivered (delivery_refusal why)
-
--- the graph that an answer has beside its numbers
-abbrev pub graph_of_start : Result Happened StartRefusal → Option Graph
-graph_of_start (Ok h) = Some h.graph.now
-graph_of_start (Err why) = None
-
-abbrev pub graph_of_act : Result (Happened × (List ℕ × List ℕ)) ActRefusal → Option Graph
-graph_of_act (Ok r) = Some (r.0).graph.now
-graph_of_act (Err why) = graph_of_act_refusal why
-
-abbrev pub graph_of_delivery : Result Receipt DeliveryRefusal → Option Graph
-graph_of_delivery (Ok r) = Some r.program.graph
-graph_of_delivery (Err why) = graph_of_delivery_refusal why
-
--- the graph of a call, if its answer names a role, a label or a variable by its number
-abbrev pub graph_named : Answer → Option Graph → Option Graph
-graph_named a g = if names_numbers a then g else None
 
 -- ---- pasts
 

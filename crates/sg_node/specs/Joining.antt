@@ -7,10 +7,10 @@ use Rattle.sg_protocol.specs.Node.{has_joined, is_cast, program_for, stranger}
 use Rattle.sg_protocol.specs.NodeStates.{NodeState}
 use Rattle.sg_node.specs.declared.join.Obstacle.{Obstacle}
 use Rattle.sg_node.specs.declared.join.Obstacle.TheVariants.{Joined, Cache, Sessions}
-use Rattle.sg_node.specs.declared.refusal.StartRefusal.{StartRefusal}
-use Rattle.sg_node.specs.declared.refusal.StartRefusal.TheVariants as starts
-use Rattle.sg_node.specs.declared.refusal.DeliveryRefusal.{DeliveryRefusal}
-use Rattle.sg_node.specs.declared.refusal.DeliveryRefusal.TheVariants as deliveries
+use Rattle.sg_receipt.specs.declared.refusal.StartRefusal.{StartRefusal}
+use Rattle.sg_receipt.specs.declared.refusal.StartRefusal.TheVariants as starts
+use Rattle.sg_receipt.specs.declared.refusal.DeliveryRefusal.{DeliveryRefusal}
+use Rattle.sg_receipt.specs.declared.refusal.DeliveryRefusal.TheVariants as deliveries
 
 -- the first of the three causes that holds
 abbrev pub obstacle_to : List (List ℕ × ℕ) → ℕ → List ℕ → ℕ → Option Obstacle

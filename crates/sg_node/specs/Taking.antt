@@ -7,9 +7,9 @@ use Rattle.sg_protocol.specs.Notes.{Notes, notes_of_read, session_of_frame}
 use Rattle.sg_protocol.specs.Texts.{real}
 use Rattle.sg_protocol.specs.Verdict.{verdict_on}
 use Rattle.sg_role.specs.Sending.{with_notes}
-use Rattle.sg_node.specs.Answers.{answer_of_delivery, graph_named, graph_of_delivery}
-use Rattle.sg_node.specs.Receipts.{IsReceiptAt, Receipt}
-use Rattle.sg_node.specs.declared.refusal.DeliveryRefusal.{DeliveryRefusal}
+use Rattle.sg_receipt.specs.Answers.{answer_of_delivery, graph_named, graph_of_delivery}
+use Rattle.sg_receipt.specs.Receipts.{IsReceiptAt, Receipt}
+use Rattle.sg_receipt.specs.declared.refusal.DeliveryRefusal.{DeliveryRefusal}
 
 -- a node takes a frame: what it answers and leaves, and the notes after it, which were `first` before it and `before` in the call
 pub record TakesFrame {E : Type 0} (old new : NodeState) (first before after : Notes) (f : Frame) (result : Result (Result Receipt DeliveryRefusal) E) : Type 0 where

@@ -12,9 +12,10 @@ ghost use Rattle.sg_walk.specs.Model.{values_of};
 ghost use Rattle.sg_role.specs.Sending.{with_notes};
 ghost use Rattle.sg_node.specs.Answers.{IsAnswer, IsActAnswer, start_answer, delivery_answer, GoesOn, is_sending, may_take_memory};
 
-use crate::{ActFault, Node, Refusal, StartFault};
+use crate::{ActFault, Node};
 use sg_base::{Label, Sealed, Sid, Value, Var};
 use sg_crypt::{Cast, Notes};
+use sg_receipt::{Refusal, StartFault};
 use sg_role::SendFault;
 use sg_walk::Event;
 

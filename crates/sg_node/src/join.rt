@@ -11,17 +11,17 @@ ghost use Rattle.sg_node.specs.Slots.{held_in, left_after, slot_of};
 ghost use Rattle.sg_node.specs.Joining.{obstacle_to};
 ghost use Rattle.sg_node.specs.declared.sessions.Live.TheVariants.{AtTurn};
 
-use crate::Receipt;
 use crate::sessions::{Live, Sessions};
 use sg_base::{OutOfMemory, Role, Sid};
 use sg_cache::{Cache, Ticket};
 use sg_crypt::{Cast, Hashed, Notes, SharedCast, session_text};
+use sg_receipt::Receipt;
 use sg_role::{Accepted, Await, Before, Turn, TurnOrDone};
 use sg_walk::Event;
 use std::alloc::Global;
 
 /// Why a pair of session and role can't be joined, the first cause that holds.
-#[derive(Debug, Clone, Copy, PartialEq, Eq)]
+#[derive(Clone, Copy)]
 pub(crate) enum Obstacle {
     /// It was joined before.
     Joined,

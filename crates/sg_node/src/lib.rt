@@ -16,7 +16,6 @@
 #![tactic(auto)]
 
 mod act;
-mod answer;
 mod calls;
 mod cast;
 mod deliver;
@@ -25,11 +24,8 @@ mod graphs;
 mod join;
 pub mod laws;
 mod node;
-mod refusal;
 mod sessions;
 mod start;
 
-pub use answer::{Happened, Receipt};
-pub use fault::{ActFault, Refusal, StartFault, UnknownSession};
+pub use fault::{ActFault, UnknownSession};
 pub use node::Node;
-pub use refusal::{ActRefusal, DeliveryRefusal, StartRefusal};

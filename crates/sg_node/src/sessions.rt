@@ -1,8 +1,7 @@
 //! The table of a node's sessions.
-ghost use Rattle.std.specs.Prelude.{◌≡◌, ◌<◌, ◌++◌, [], ◌∷◌, if◌then◌else◌, length, None, Some, map, option_and_then, option_map, slice_get, Contains, OnOk};
+ghost use Rattle.std.specs.Prelude.{◌≡◌, ◌<◌, ◌++◌, [], ◌∷◌, if◌then◌else◌, length, None, Some, map, option_and_then, slice_get, Contains, OnOk};
 ghost use Rattle.std.specs.Option.{option_copied};
 ghost use Rattle.indexmap.specs.IndexMap.{set_value_at, spare};
-ghost use Rattle.sg_node.specs.Invariant.{IsReachable};
 ghost use Rattle.sg_node.specs.Slots.{first_index, has_version, held_in, is_for, is_live, is_of, is_of_role, state_in};
 
 use indexmap::IndexMap;
@@ -17,20 +16,6 @@ use std::marker::Model;
 pub(crate) enum Live<'p> {
     AtTurn(Turn<'p>),
     Waiting(Await<'p>),
-}
-
-/// Tells what stands behind a live session.
-pub(crate) fn facts_of_live(live: &Live)
-    ensures { IsReachable live.now }
-{
-    match live {
-        Live::AtTurn(turn) => {
-            let _ = turn.node();
-        }
-        Live::Waiting(wait) => {
-            let _ = wait.before();
-        }
-    }
 }
 
 /// A slot for each join of a node's life, in the order of joining, empty if the session is over; the number of those that aren't;
@@ -137,16 +122,6 @@ impl<'p> Sessions<'p> {
         match self.slots.get_index(index) {
             Some((_, Some(live))) => Some(live),
             _ => None,
-        }
-    }
-
-    /// The role of a slot. It takes no memory.
-    pub fn role(&self, index: usize) -> Option<Role>
-        ensures { result ≡ option_map (λ s. (s.0).1) (slice_get self.now.slots index) }
-    {
-        match self.slots.get_index(index) {
-            Some(((_, role), _)) => Some(*role),
-            None => None,
         }
     }
 

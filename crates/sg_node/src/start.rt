@@ -12,15 +12,17 @@ ghost use Rattle.sg_protocol.specs.Ranges.{IsCast};
 ghost use Rattle.sg_protocol.specs.Texts.{real};
 ghost use Rattle.sg_protocol.specs.Named.{graph_of_call};
 ghost use Rattle.sg_role.specs.Sending.{with_notes};
-ghost use Rattle.sg_node.specs.Answers.{GoesOn, answer_of_start, graph_named, graph_of_start, may_take_memory};
+ghost use Rattle.sg_receipt.specs.Answers.{answer_of_start, graph_named, graph_of_start};
+ghost use Rattle.sg_node.specs.Answers.{GoesOn, may_take_memory};
 ghost use Rattle.sg_node.specs.Joining.{start_refusal_for};
 
+use crate::Node;
 use crate::cast::{facts_of_starter, first_starter, is_cast};
 use crate::join::{Obstacle, begin_session, first_obstacle, make_room, note_session};
-use crate::{Happened, Node, StartRefusal};
 use sg_base::OutOfMemory;
 use sg_crypt::{Cast, Notes, session_id};
 use sg_program::Program;
+use sg_receipt::{Happened, StartRefusal};
 use sg_role::Before;
 use sg_walk::Event;
 

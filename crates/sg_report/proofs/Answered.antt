@@ -1,11 +1,11 @@
 -- What a node answers, and errors.
 use Rattle.std.proofs.Common.{◌≡◌, Result, Ok, Err, None, refl}
 use Rattle.sg_protocol.specs.Run.{frame_in}
-use Rattle.sg_node.specs.Answers.{answer_of_delivery, answer_of_start}
-use Rattle.sg_node.specs.Receipts.{Receipt}
-use Rattle.sg_node.specs.declared.answer.Happened.{Happened as Begun}
-use Rattle.sg_node.specs.declared.refusal.DeliveryRefusal.{DeliveryRefusal}
-use Rattle.sg_node.specs.declared.refusal.StartRefusal.{StartRefusal}
+use Rattle.sg_receipt.specs.Answers.{answer_of_delivery, answer_of_start}
+use Rattle.sg_receipt.specs.Receipts.{Receipt}
+use Rattle.sg_receipt.specs.declared.answer.Happened.{Happened as Begun}
+use Rattle.sg_receipt.specs.declared.refusal.DeliveryRefusal.{DeliveryRefusal}
+use Rattle.sg_receipt.specs.declared.refusal.StartRefusal.{StartRefusal}
 
 -- what failed so failed by one error
 pub err_same : {A E : Type 0} (r : Result A E) (d e : E) → r ≡ Err d → r ≡ Err e → d ≡ e

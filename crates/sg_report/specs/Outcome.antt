@@ -1,7 +1,7 @@
 -- The outcome of a step, as the program holds it, as what is reported of it, and the graph that it has beside its numbers.
 use Rattle.std.specs.Prelude.{Option, Some, None}
 use Rattle.sg_protocol.specs.Graph.{Graph}
-use Rattle.sg_node.specs.Faults.{start_refusal, act_refusal, delivery_refusal, graph_of_act_refusal, graph_of_delivery_refusal}
+use Rattle.sg_receipt.specs.Refusals.{start_refusal, act_refusal, delivery_refusal, graph_of_act_refusal, graph_of_delivery_refusal}
 use Rattle.sg_report.specs.Reported.{Reported, Happened, Sends, Abandoned, Crafted, NotStarted, NotActed, NotAbandoned, NotDelivered, NoFrame}
 use Rattle.sg_report.specs.declared.outcome.Outcome.{Outcome}
 use Rattle.sg_report.specs.declared.outcome.Outcome.TheVariants as held

@@ -1,7 +1,7 @@
 //! The outcome of a step.
 ghost use Rattle.std.specs.Prelude.{◌≡◌, ℕ, Result, Some, None, option_map};
 ghost use Rattle.std.specs.Option.{option_copied};
-ghost use Rattle.sg_node.specs.Answers.{answer_of_delivery, answer_of_start, graph_of_delivery, graph_of_start};
+ghost use Rattle.sg_receipt.specs.Answers.{answer_of_delivery, answer_of_start, graph_of_delivery, graph_of_start};
 ghost use Rattle.sg_protocol.specs.Calls.{sid_of};
 ghost use Rattle.sg_walk.specs.Model.{event_of};
 ghost use Rattle.sg_report.specs.Outcome.{graph_in, graph_of_event, outcome_of};
@@ -9,11 +9,11 @@ ghost use Rattle.sg_report.specs.Reported.{event_reported, reported_answer, sid_
 
 use sg_base::{Name, Sid};
 use sg_graph::Graph;
-use sg_node::{ActRefusal, DeliveryRefusal, Happened, Receipt, StartRefusal};
+use sg_receipt::{ActRefusal, DeliveryRefusal, Happened, Receipt, StartRefusal};
 use sg_walk::{Event, sid_of};
 
 /// The outcome of a step. What it names by a number has its name in the graph that stands beside, if that has it. None says that memory ran out.
-#[derive(Debug, Drop)]
+#[derive(Drop)]
 pub enum Outcome<'p> {
     /// The principal started a session.
     Started(Happened<'p>),

@@ -2,13 +2,13 @@
 ghost use Rattle.std.specs.Prelude.{◌≡◌, ◌++◌, ◌∷◌, [], OnErr, OnOk, Some, codes, length, take};
 ghost use Rattle.std.specs.Option.{option_copied, option_map};
 ghost use Rattle.sg_report.specs.Model.{forgery_of};
-ghost use Rattle.sg_report.specs.Report.{collision_line, premise_lines, unforged_line};
+ghost use Rattle.sg_report.specs.Report.{premise_lines, unforged_line};
 
 use crate::reason::put_number;
 use sg_base::{ByteOut, Name, OutOfMemory};
 
 /// A tag of two honest principals that was found right in a step, and that neither of them had made.
-#[derive(Debug, Clone, Copy)]
+#[derive(Clone, Copy)]
 pub struct Forgery {
     /// The step's number, from 1.
     pub step: u32,

@@ -1,14 +1,14 @@
 //! Why a step was refused, in words.
 ghost use Rattle.std.specs.Prelude.{◌≡◌, ◌++◌, OnErr, OnOk, codes, length, take};
 ghost use Rattle.std.specs.Fmt.{decimal};
-ghost use Rattle.sg_node.specs.Faults.{act_refusal, delivery_refusal, graph_of_act_refusal, graph_of_delivery_refusal, start_refusal};
+ghost use Rattle.sg_receipt.specs.Refusals.{act_refusal, delivery_refusal, graph_of_act_refusal, graph_of_delivery_refusal, start_refusal};
 ghost use Rattle.sg_protocol.specs.Graph.{variable_name};
 ghost use Rattle.sg_report.specs.Lines.{graph_or_none};
 ghost use Rattle.sg_report.specs.Reasons.{act_text, refusal_text, start_text};
 
 use sg_base::{ByteOut, Name, OutOfMemory, Time, Var};
 use sg_graph::{Graph, put_var};
-use sg_node::{ActRefusal, DeliveryRefusal, StartRefusal};
+use sg_receipt::{ActRefusal, DeliveryRefusal, StartRefusal};
 
 /// Writes why a start was refused.
 pub(crate) fn put_start_refusal(out: &mut ByteOut, why: &StartRefusal) -> Result<(), OutOfMemory>
@@ -16,12 +16,12 @@ pub(crate) fn put_start_refusal(out: &mut ByteOut, why: &StartRefusal) -> Result
     ensures prefix { OnErr result (take (length out.old) out.new ≡ out.old) }
 {
     match why {
-        StartRefusal::UnknownGraph => out.bytes(b"unknown-graph"),
-        StartRefusal::BadCast => out.bytes(b"bad-cast"),
+        StartRefusal::UnknownGraph => put_words(out, b"unknown-graph"),
+        StartRefusal::BadCast => put_words(out, b"bad-cast"),
         StartRefusal::UnknownPeer { name } => put_unknown_peer(out, name),
-        StartRefusal::Joined => out.bytes(b"joined"),
-        StartRefusal::CacheFull => out.bytes(b"cache-full"),
-        StartRefusal::SessionsFull => out.bytes(b"sessions-full"),
+        StartRefusal::Joined => put_words(out, b"joined"),
+        StartRefusal::CacheFull => put_words(out, b"cache-full"),
+        StartRefusal::SessionsFull => put_words(out, b"sessions-full"),
     }
 }
 
@@ -31,11 +31,11 @@ pub(crate) fn put_act_refusal(out: &mut ByteOut, why: &ActRefusal<'_>) -> Result
     ensures prefix { OnErr result (take (length out.old) out.new ≡ out.old) }
 {
     match why {
-        ActRefusal::UnknownSession => out.bytes(b"unknown-session"),
-        ActRefusal::NotYourTurn => out.bytes(b"not-your-turn"),
-        ActRefusal::NoSuchLabel => out.bytes(b"no-such-label"),
+        ActRefusal::UnknownSession => put_words(out, b"unknown-session"),
+        ActRefusal::NotYourTurn => put_words(out, b"not-your-turn"),
+        ActRefusal::NoSuchLabel => put_words(out, b"no-such-label"),
         ActRefusal::BadValues { var, graph } => put_variable(out, b"bad-values ", graph, *var),
-        ActRefusal::TimeSpent => out.bytes(b"time-spent"),
+        ActRefusal::TimeSpent => put_words(out, b"time-spent"),
     }
 }
 
@@ -49,17 +49,17 @@ pub(crate) fn put_delivery_refusal(
 {
     match why {
         DeliveryRefusal::Malformed { at } => put_number(out, b"malformed at ", *at),
-        DeliveryRefusal::UnknownGraph => out.bytes(b"unknown-graph"),
-        DeliveryRefusal::BadCast => out.bytes(b"bad-cast"),
+        DeliveryRefusal::UnknownGraph => put_words(out, b"unknown-graph"),
+        DeliveryRefusal::BadCast => put_words(out, b"bad-cast"),
         DeliveryRefusal::UnknownPeer { name } => put_unknown_peer(out, name),
-        DeliveryRefusal::BadSession => out.bytes(b"bad-session"),
-        DeliveryRefusal::Joined => out.bytes(b"joined"),
-        DeliveryRefusal::CacheFull => out.bytes(b"cache-full"),
-        DeliveryRefusal::SessionsFull => out.bytes(b"sessions-full"),
-        DeliveryRefusal::UnknownSession => out.bytes(b"unknown-session"),
-        DeliveryRefusal::NotWaiting => out.bytes(b"not-waiting"),
-        DeliveryRefusal::BadFrameTag => out.bytes(b"bad-frame-tag"),
-        DeliveryRefusal::NoSuchView => out.bytes(b"no-such-view"),
+        DeliveryRefusal::BadSession => put_words(out, b"bad-session"),
+        DeliveryRefusal::Joined => put_words(out, b"joined"),
+        DeliveryRefusal::CacheFull => put_words(out, b"cache-full"),
+        DeliveryRefusal::SessionsFull => put_words(out, b"sessions-full"),
+        DeliveryRefusal::UnknownSession => put_words(out, b"unknown-session"),
+        DeliveryRefusal::NotWaiting => put_words(out, b"not-waiting"),
+        DeliveryRefusal::BadFrameTag => put_words(out, b"bad-frame-tag"),
+        DeliveryRefusal::NoSuchView => put_words(out, b"no-such-view"),
         DeliveryRefusal::BadTime { item, got, least } => put_bad_time(out, *item, *got, *least),
         DeliveryRefusal::BadEvidence { item } => put_number(out, b"bad-evidence item ", *item),
         DeliveryRefusal::BadOpening { var, graph } => put_variable(
@@ -77,6 +77,14 @@ fn put_unknown_peer(out: &mut ByteOut, name: &Name) -> Result<(), OutOfMemory>
 {
     out.bytes(b"unknown-peer ")?;
     out.bytes(name.as_bytes())
+}
+
+// Writes words.
+fn put_words(out: &mut ByteOut, words: &[u8]) -> Result<(), OutOfMemory>
+    ensures ok { OnOk result (out.new ≡ out.old ++ words.now) }
+    ensures prefix { OnErr result (take (length out.old) out.new ≡ out.old) }
+{
+    out.bytes(words)
 }
 
 /// Writes words and a number.

@@ -74,7 +74,8 @@ pub fn put_escaped(out: &mut ByteOut, byte: u8) -> Result<(), OutOfMemory>
     out.bytes(&[b'\\', b'x', hex_digit(byte / 16), hex_digit(byte % 16)])
 }
 
-fn hex_digit(digit: u8) -> u8
+/// The hexadecimal digit of a number below 16, with small letters.
+pub fn hex_digit(digit: u8) -> u8
     requires { digit < 16 }
     ensures { result ≡ digit_glyph false digit }
 {

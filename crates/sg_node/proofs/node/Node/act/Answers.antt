@@ -5,9 +5,10 @@ use Rattle.sg_protocol.specs.Calls.{Act, NotActed}
 use Rattle.sg_protocol.specs.Past.{node_of}
 use Rattle.sg_protocol.specs.Texts.{real}
 use Rattle.sg_walk.specs.Model.{values_of}
-use Rattle.sg_node.specs.Answers.{IsAnswer, IsAnswerOfAct}
-use Rattle.sg_node.specs.declared.answer.Happened.{Happened}
-use Rattle.sg_node.specs.declared.refusal.ActRefusal.{ActRefusal}
+use Rattle.sg_receipt.specs.Answers.{IsAnswerOfAct}
+use Rattle.sg_node.specs.Answers.{IsAnswer}
+use Rattle.sg_receipt.specs.declared.answer.Happened.{Happened}
+use Rattle.sg_receipt.specs.declared.refusal.ActRefusal.{ActRefusal}
 use Rattle.sg_node.proofs.ToldApart.{act_told, act_whole}
 use Rattle.sg_node.proofs.node.Node.act.Goals as goal
 

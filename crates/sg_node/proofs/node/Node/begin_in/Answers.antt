@@ -11,7 +11,7 @@ use Rattle.sg_protocol.specs.Notes.{notes_of_start}
 use Rattle.sg_protocol.specs.Texts.{real, session_id}
 use Rattle.sg_role.specs.Model.{RoleState}
 use Rattle.sg_role.specs.Sending.{with_notes}
-use Rattle.sg_node.specs.Faults.{start_refusal}
+use Rattle.sg_receipt.specs.Refusals.{start_refusal}
 use Rattle.sg_node.specs.Joining.{obstacle_to}
 use Rattle.sg_node.specs.Slots.{Slot, held_in}
 use Rattle.sg_node.specs.Invariant.{IsSlot}

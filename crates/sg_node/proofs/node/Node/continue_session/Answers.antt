@@ -10,7 +10,7 @@ use Rattle.sg_protocol.specs.NodeStates.{NodeState, RepresentsNode}
 use Rattle.sg_protocol.specs.Spelling.{SpellsFrame}
 use Rattle.sg_role.specs.Model.{RoleState}
 use Rattle.sg_role.specs.declared.fault.Refusal.TheVariants as role
-use Rattle.sg_node.specs.declared.refusal.DeliveryRefusal.TheVariants as deliveries
+use Rattle.sg_receipt.specs.declared.refusal.DeliveryRefusal.TheVariants as deliveries
 use Rattle.sg_node.specs.Invariant.{IsSlot}
 use Rattle.sg_node.specs.declared.sessions.Live.TheVariants.{Waiting}
 use Rattle.sg_node.proofs.Acts.{with_none}

@@ -4,9 +4,10 @@ use Rattle.sg_protocol.specs.Acting.{answer}
 use Rattle.sg_protocol.specs.Calls.{Deliver, Happened, NotDelivered}
 use Rattle.sg_protocol.specs.Past.{node_of}
 use Rattle.sg_protocol.specs.Texts.{real}
-use Rattle.sg_node.specs.Answers.{IsAnswer, answer_of_delivery}
-use Rattle.sg_node.specs.Receipts.{Receipt}
-use Rattle.sg_node.specs.declared.refusal.DeliveryRefusal.{DeliveryRefusal}
+use Rattle.sg_receipt.specs.Answers.{answer_of_delivery}
+use Rattle.sg_node.specs.Answers.{IsAnswer}
+use Rattle.sg_receipt.specs.Receipts.{Receipt}
+use Rattle.sg_receipt.specs.declared.refusal.DeliveryRefusal.{DeliveryRefusal}
 use Rattle.sg_node.proofs.ToldApart.{delivery_told}
 use Rattle.sg_node.proofs.node.Node.deliver.Goals as goal
 

@@ -5,7 +5,7 @@ use Rattle.sg_protocol.specs.Keyring.{Keyring, Program}
 use Rattle.sg_protocol.specs.Node.{program_for, is_cast}
 use Rattle.sg_protocol.specs.NodeStates.{NodeState, RepresentsNode}
 use Rattle.sg_protocol.specs.Notes.{no_notes}
-use Rattle.sg_node.specs.declared.refusal.DeliveryRefusal.TheVariants as deliveries
+use Rattle.sg_receipt.specs.declared.refusal.DeliveryRefusal.TheVariants as deliveries
 use Rattle.sg_node.specs.Invariant.{node_state}
 use Rattle.sg_node.specs.Joining.{JoinsBy}
 use Rattle.sg_node.proofs.Acts.{with_none}

@@ -11,7 +11,7 @@ use Rattle.sg_protocol.specs.Spelling.{SpellsFrame}
 use Rattle.sg_protocol.specs.Texts.{real, session_id}
 use Rattle.sg_role.specs.Model.{RoleState}
 use Rattle.sg_role.specs.declared.fault.Refusal.TheVariants as role
-use Rattle.sg_node.specs.declared.refusal.DeliveryRefusal.TheVariants as deliveries
+use Rattle.sg_receipt.specs.declared.refusal.DeliveryRefusal.TheVariants as deliveries
 use Rattle.sg_node.specs.Joining.{obstacle_to}
 use Rattle.sg_node.specs.Slots.{Slot, held_in}
 use Rattle.sg_node.specs.Invariant.{IsSlot}

@@ -14,8 +14,9 @@ use Rattle.sg_protocol.specs.Reading.{read}
 use Rattle.sg_protocol.specs.Texts.{real}
 use Rattle.sg_protocol.specs.Verdict.{verdict_on}
 use Rattle.sg_role.specs.Sending.{with_notes}
-use Rattle.sg_node.specs.Answers.{GoesOn, answer_of_delivery, graph_named, graph_of_delivery}
-use Rattle.sg_node.specs.Receipts.{IsReceiptAt}
+use Rattle.sg_receipt.specs.Answers.{answer_of_delivery, graph_named, graph_of_delivery}
+use Rattle.sg_node.specs.Answers.{GoesOn}
+use Rattle.sg_receipt.specs.Receipts.{IsReceiptAt}
 use Rattle.sg_node.proofs.Acts.{with_none}
 use Rattle.sg_node.proofs.Going.{all_reachable}
 use Rattle.sg_node.proofs.Memory.{not_read}

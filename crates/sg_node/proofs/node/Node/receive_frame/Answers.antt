@@ -14,7 +14,8 @@ use Rattle.sg_protocol.specs.Session.{Session}
 use Rattle.sg_protocol.specs.Texts.{real}
 use Rattle.sg_protocol.specs.Verdict.{verdict_on}
 use Rattle.sg_role.specs.Sending.{with_notes}
-use Rattle.sg_node.specs.Answers.{answer_of_delivery, may_take_memory}
+use Rattle.sg_receipt.specs.Answers.{answer_of_delivery}
+use Rattle.sg_node.specs.Answers.{may_take_memory}
 use Rattle.sg_node.proofs.Going.{all_reachable}
 use Rattle.sg_node.proofs.Receipts.{same_graph}
 use Rattle.sg_node.proofs.Taking.{goes_by}

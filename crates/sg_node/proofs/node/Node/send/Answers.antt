@@ -13,7 +13,8 @@ use Rattle.sg_protocol.specs.Named.{graph_of_call}
 use Rattle.sg_walk.specs.Model.{values_of}
 use Rattle.sg_role.specs.Sending.{with_notes}
 use Rattle.sg_role.specs.Model.{RoleState}
-use Rattle.sg_node.specs.Answers.{GoesOn, graph_named}
+use Rattle.sg_receipt.specs.Answers.{graph_named}
+use Rattle.sg_node.specs.Answers.{GoesOn}
 use Rattle.sg_node.specs.Slots.{held_in, left_by}
 use Rattle.sg_node.specs.Invariant.{IsSlot}
 use Rattle.sg_node.specs.declared.sessions.Live.TheVariants.{AtTurn, Waiting}

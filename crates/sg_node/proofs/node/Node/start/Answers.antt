@@ -4,9 +4,10 @@ use Rattle.sg_protocol.specs.Acting.{answer}
 use Rattle.sg_protocol.specs.Calls.{Start, NotStarted}
 use Rattle.sg_protocol.specs.Past.{node_of}
 use Rattle.sg_protocol.specs.Texts.{real}
-use Rattle.sg_node.specs.Answers.{IsAnswer, answer_of_start}
-use Rattle.sg_node.specs.declared.answer.Happened.{Happened}
-use Rattle.sg_node.specs.declared.refusal.StartRefusal.{StartRefusal}
+use Rattle.sg_receipt.specs.Answers.{answer_of_start}
+use Rattle.sg_node.specs.Answers.{IsAnswer}
+use Rattle.sg_receipt.specs.declared.answer.Happened.{Happened}
+use Rattle.sg_receipt.specs.declared.refusal.StartRefusal.{StartRefusal}
 use Rattle.sg_node.proofs.ToldApart.{start_told}
 use Rattle.sg_node.proofs.node.Node.start.Goals as goal
 

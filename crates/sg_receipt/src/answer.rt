@@ -2,7 +2,7 @@
 ghost use Rattle.std.specs.Prelude.{◌≡◌, ◌<◌, length, None};
 ghost use Rattle.std.specs.Option.{option_copied};
 ghost use Rattle.sg_walk.specs.Model.{event_of};
-ghost use Rattle.sg_node.specs.Receipts.{IsWalkOf};
+ghost use Rattle.sg_receipt.specs.Receipts.{IsWalkOf};
 
 use sg_base::Label;
 use sg_crypt::SharedCast;
@@ -13,7 +13,7 @@ use sg_walk::Event;
 use std::marker::Model;
 
 /// What a start or an act brought about, with the graph of the session, which has the event's role, label and variables.
-#[derive(Debug, Drop)]
+#[derive(Drop)]
 pub struct Happened<'p> {
     /// The event.
     pub event: Event,
@@ -23,7 +23,7 @@ pub struct Happened<'p> {
 
 /// A frame that was received: the event, the program of the receiver, the number of the view that the frame shows in the program's table,
 /// and the cast, if the frame joined. A clause sees these.
-#[derive(Debug, Drop)]
+#[derive(Drop)]
 pub struct Receipt<'p> {
     event: Event,
     program: &'p Program,
@@ -32,7 +32,7 @@ pub struct Receipt<'p> {
 }
 
 impl<'p> Model for Receipt<'p> {
-    ghost use Rattle.sg_node.specs.Receipts.{Receipt, receipt_of, HoldsReceipt};
+    ghost use Rattle.sg_receipt.specs.Receipts.{Receipt, receipt_of, HoldsReceipt};
 
     ghost Value = { Receipt };
 
@@ -42,10 +42,10 @@ impl<'p> Model for Receipt<'p> {
 }
 
 impl<'p> Receipt<'p> {
-    ghost use Rattle.sg_node.specs.Receipts.{Receipt};
+    ghost use Rattle.sg_receipt.specs.Receipts.{Receipt};
 
-    // A receipt of its parts.
-    pub(crate) fn new(
+    /// A receipt of its parts. It takes no memory.
+    pub fn new(
         event: Event,
         program: &'p Program,
         view: ViewId,

@@ -3,7 +3,7 @@ use sg_base::{Name, Time, Var};
 use sg_graph::Graph;
 
 /// Why a session is not started, the first cause that holds.
-#[derive(Debug, Clone, Copy)]
+#[derive(Clone, Copy)]
 pub enum StartRefusal {
     /// There is no program for the cast's graph and the role that starts it.
     UnknownGraph,
@@ -24,7 +24,7 @@ pub enum StartRefusal {
 }
 
 /// Why a node does not act, the first cause that holds.
-#[derive(Debug, Clone, Copy)]
+#[derive(Clone, Copy)]
 pub enum ActRefusal<'p> {
     /// No live session has the identifier.
     UnknownSession,
@@ -45,7 +45,7 @@ pub enum ActRefusal<'p> {
 }
 
 /// Why a delivery is refused, the first cause that holds.
-#[derive(Debug, Clone, Copy)]
+#[derive(Clone, Copy)]
 pub enum DeliveryRefusal<'p> {
     /// The bytes are no frame: the first field that is not there whole, or is out of its range, begins at this offset.
     Malformed {

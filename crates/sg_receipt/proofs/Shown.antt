@@ -6,7 +6,7 @@ use Rattle.std.proofs.lemmas.Option.{slice_get_within, slice_get-map, get_or_fro
 use Rattle.sg_model.specs.Shape.{Walk, target}
 use Rattle.sg_protocol.specs.Graph.{Graph, shape}
 use Rattle.sg_vis.specs.Table.{ShownView, Shows, views_of, walks_of}
-use Rattle.sg_node.specs.Receipts.{Receipt, IsWalkOf}
+use Rattle.sg_receipt.specs.Receipts.{Receipt, IsWalkOf}
 
 -- each label of a walk has an edge
 edges_of_walk : (g : Graph) (m : ℕ) (es : List ℕ) → Walk (shape g) m es → All (λ e. e < length g.edges) es

@@ -1,7 +1,7 @@
 use Rattle.std.proofs.Common.{subst}
-use Rattle.sg_node.specs.Receipts.{Receipt, receipt_of, IsWalkOf}
-use Rattle.sg_node.proofs.Shown.{in_table, walk_of}
-use Rattle.sg_node.proofs.answer.Receipt.walk.Goals as goal
+use Rattle.sg_receipt.specs.Receipts.{Receipt, receipt_of, IsWalkOf}
+use Rattle.sg_receipt.proofs.Shown.{in_table, walk_of}
+use Rattle.sg_receipt.proofs.answer.Receipt.walk.Goals as goal
 
 pub example-requires : goal.example-requires
 example-requires c = in_table (receipt_of c.self.inside) c.views.result.now c.views.ensures.views c.self.invariant

@@ -1,0 +1,4 @@
+pub mod Receipts
+pub mod Refusals
+pub mod Faults
+pub mod Answers
