@@ -4,8 +4,8 @@ use Rattle.std.specs.List.{list_all, list_any}
 use Rattle.std.proofs.Common.{arith}
 use Rattle.std.proofs.lemmas.Bool.{ltb-true, leb-true}
 use Rattle.sg_base.specs.Words.{number, from_one, up_to, value, is_digit, has_needless_zero}
-use Rattle.sg_model.specs.Limits.{most_deliveries, most_driven, most_seed}
-use Rattle.sg_args.specs.Command.{Command, Check, Compile, Run, Replay, Drive, Ledger, Keep, Stream, Audit, Compose, Suggest, Claims, Serve, CanBeDriven, command_of, driving, few, is_option, keeping, ledger_or, named, on_file, on_ledger, on_two, plain, running, serving, serving_over, sessions_of, streaming, tcp_or}
+use Rattle.sg_model.specs.Limits.{most_driven, most_seed}
+use Rattle.sg_args.specs.Command.{Command, Principal, Check, Compile, Run, Replay, Drive, Ledger, Keep, Stream, Audit, Compose, Suggest, Claims, Serve, CanBeDriven, command_of, driving, few, is_option, keeping, ledger_or, named, on_file, on_ledger, on_two, plain, principal_of, running, serving, serving_over, sessions_of, streaming, tcp_or}
 
 -- a number, if any, of at most `most`
 abbrev AtMost : ℕ → Option ℕ → Type 0
@@ -47,10 +47,10 @@ either : (b : Bool) (x y : Option Command) → CanBeDriven x → CanBeDriven y �
 either true x y h k = h
 either false x y h k = k
 
--- the command of a number, if any, as that of each
-each : (make : ℕ → Command) → ((n : ℕ) → CanBeDriven (Some (make n))) → (o : Option ℕ) → CanBeDriven (option_map make o)
+-- the command of a principal, if any, as that of each
+each : (make : Principal → Command) → ((p : Principal) → CanBeDriven (Some (make p))) → (o : Option Principal) → CanBeDriven (option_map make o)
 each make h None = tt
-each make h (Some n) = h n
+each make h (Some p) = h p
 
 driven : (file : List ℕ) (seed n : Option ℕ) → AreSessions n → CanBeDriven (option_and_then (λ s. option_map (λ k. Drive s k file) n) seed)
 driven file None n h = tt
@@ -65,16 +65,14 @@ drives (seed ∷ count ∷ file ∷ []) = driven file (number most_seed seed) (s
 drives (seed ∷ count ∷ file ∷ other ∷ more) = tt
 
 runs : (args : List (List ℕ)) → CanBeDriven (running args)
-runs (keys ∷ script ∷ n ∷ program ∷ more) = each (λ d. Run keys script d (program ∷ more)) (λ d. tt) (number most_deliveries n)
-runs _ = tt
+runs args = each (λ p. Run p.keys p.script p.deliveries p.programs) (λ p. tt) (principal_of args)
 
 keeps : (args : List (List ℕ)) → CanBeDriven (keeping args)
-keeps (file ∷ keys ∷ script ∷ n ∷ program ∷ more) = each (λ d. Keep file keys script d (program ∷ more)) (λ d. tt) (number most_deliveries n)
-keeps _ = tt
+keeps [] = tt
+keeps (file ∷ args) = each (λ p. Keep file p.keys p.script p.deliveries p.programs) (λ p. tt) (principal_of args)
 
 streams : (args : List (List ℕ)) → CanBeDriven (streaming args)
-streams (keys ∷ script ∷ n ∷ program ∷ more) = each (λ d. Stream keys script d (program ∷ more)) (λ d. tt) (number most_deliveries n)
-streams _ = tt
+streams args = each (λ p. Stream p.keys p.script p.deliveries p.programs) (λ p. tt) (principal_of args)
 
 file_alone : (name file : List ℕ) → CanBeDriven (on_file name file)
 file_alone name file =

@@ -49,42 +49,49 @@ few name (file ∷ []) = on_file name file
 few name (first ∷ second ∷ []) = on_two name first second
 few name (first ∷ second ∷ other ∷ more) = None
 
+-- what one principal runs with
+pub record Principal : Type 0 where
+  pub keys : List ℕ
+  pub script : List ℕ
+  pub deliveries : ℕ
+  pub programs : List (List ℕ)
+
 -- KEYS SCRIPT N PROGRAM.., at least one program, and N at most 1,000,000
+abbrev pub principal_of : List (List ℕ) → Option Principal
+principal_of [] = None
+principal_of (keys ∷ []) = None
+principal_of (keys ∷ script ∷ []) = None
+principal_of (keys ∷ script ∷ n ∷ []) = None
+principal_of (keys ∷ script ∷ n ∷ program ∷ more) = option_map (λ d. record { keys = keys; script = script; deliveries = d; programs = program ∷ more }) (number most_deliveries n)
+
+-- KEYS SCRIPT N PROGRAM..
 abbrev pub running : List (List ℕ) → Option Command
-running [] = None
-running (keys ∷ []) = None
-running (keys ∷ script ∷ []) = None
-running (keys ∷ script ∷ n ∷ []) = None
-running (keys ∷ script ∷ n ∷ program ∷ more) = option_map (λ d. Run keys script d (program ∷ more)) (number most_deliveries n)
+running args = option_map (λ (p : Principal). Run p.keys p.script p.deliveries p.programs) (principal_of args)
+
+-- the same, over connections
+abbrev pub streaming : List (List ℕ) → Option Command
+streaming args = option_map (λ (p : Principal). Stream p.keys p.script p.deliveries p.programs) (principal_of args)
+
+-- FILE KEYS SCRIPT N PROGRAM..
+abbrev pub keeping : List (List ℕ) → Option Command
+keeping [] = None
+keeping (file ∷ args) = option_map (λ (p : Principal). Keep file p.keys p.script p.deliveries p.programs) (principal_of args)
 
 -- how many sessions an argument asks for, from 1 to 2,000
 abbrev pub sessions_of : List ℕ → Option ℕ
 sessions_of arg = option_and_then from_one (number most_driven arg)
+
+-- a seed, a number of sessions and a file
+abbrev pub drive : (seed sessions file : List ℕ) → Option Command
+drive seed sessions file = option_and_then (λ s. option_map (λ n. Drive s n file) (sessions_of sessions)) (number most_seed seed)
 
 -- SEED SESSIONS FILE
 abbrev pub driving : List (List ℕ) → Option Command
 driving [] = None
 driving (seed ∷ []) = None
 driving (seed ∷ sessions ∷ []) = None
-driving (seed ∷ sessions ∷ file ∷ []) = option_and_then (λ s. option_map (λ n. Drive s n file) (sessions_of sessions)) (number most_seed seed)
+driving (seed ∷ sessions ∷ file ∷ []) = drive seed sessions file
 driving (seed ∷ sessions ∷ file ∷ other ∷ more) = None
-
--- FILE KEYS SCRIPT N PROGRAM.., at least one program, and N at most 1,000,000
-abbrev pub keeping : List (List ℕ) → Option Command
-keeping [] = None
-keeping (file ∷ []) = None
-keeping (file ∷ keys ∷ []) = None
-keeping (file ∷ keys ∷ script ∷ []) = None
-keeping (file ∷ keys ∷ script ∷ n ∷ []) = None
-keeping (file ∷ keys ∷ script ∷ n ∷ program ∷ more) = option_map (λ d. Keep file keys script d (program ∷ more)) (number most_deliveries n)
-
--- KEYS SCRIPT N PROGRAM.. again, over connections
-abbrev pub streaming : List (List ℕ) → Option Command
-streaming [] = None
-streaming (keys ∷ []) = None
-streaming (keys ∷ script ∷ []) = None
-streaming (keys ∷ script ∷ n ∷ []) = None
-streaming (keys ∷ script ∷ n ∷ program ∷ more) = option_map (λ d. Stream keys script d (program ∷ more)) (number most_deliveries n)
 
 -- ---- serve
 

@@ -3,13 +3,13 @@ ghost use Rattle.std.specs.Prelude.{◌≡◌, map, option_map};
 ghost use Rattle.std.specs.List.{list_any};
 ghost use Rattle.sg_base.specs.Words.{number};
 ghost use Rattle.sg_model.specs.Limits.{most_deliveries};
-ghost use Rattle.sg_args.specs.Command.{command_of, driving, few, is_option, keeping, ledger_or, named, on_file, on_ledger, on_two, plain, running, serving, serving_over, sessions_of, streaming, tcp_or};
-ghost use Rattle.sg_args.specs.Model.{command_held};
+ghost use Rattle.sg_args.specs.Command.{command_of, drive, driving, few, is_option, keeping, ledger_or, named, on_file, on_ledger, on_two, plain, principal_of, running, serving, serving_over, sessions_of, streaming, tcp_or};
+ghost use Rattle.sg_args.specs.Model.{command_held, principal_held};
 
 use sg_base::read_number;
 
 /// A command, with the arguments that it names.
-#[derive(Debug, Clone, Copy)]
+#[derive(Clone, Copy)]
 pub enum Command<'w> {
     /// Checks a graph.
     Check {
@@ -110,6 +110,15 @@ pub enum Command<'w> {
         /// The files of the programs, at least one.
         programs: &'w [&'w str],
     },
+}
+
+// What one principal runs with.
+#[derive(Clone, Copy)]
+struct Principal<'w> {
+    keys: &'w str,
+    script: &'w str,
+    deliveries: u32,
+    programs: &'w [&'w str],
 }
 
 /// The command, or `None` if the arguments are not in the table of commands. It takes no memory.
@@ -231,14 +240,14 @@ fn named<'w>(name: &str, args: &'w [&'w str]) -> Option<Command<'w>>
     }
 }
 
-// The command that runs one principal.
-fn running<'w>(args: &'w [&'w str]) -> Option<Command<'w>>
-    ensures { option_map command_held result ≡ running (map (λ s. s.now) args.now) }
+// The keys, the script, how many deliveries are taken at most, and one program or more.
+fn principal_of<'w>(args: &'w [&'w str]) -> Option<Principal<'w>>
+    ensures { option_map principal_held result ≡ principal_of (map (λ s. s.now) args.now) }
 {
     match args {
         [keys, script, deliveries, programs @ ..] if programs.len() > 0 => {
             let deliveries = deliveries_of(deliveries)?;
-            Some(Command::Run {
+            Some(Principal {
                 keys,
                 script,
                 deliveries,
@@ -247,6 +256,19 @@ fn running<'w>(args: &'w [&'w str]) -> Option<Command<'w>>
         }
         _ => None,
     }
+}
+
+// The command that runs one principal.
+fn running<'w>(args: &'w [&'w str]) -> Option<Command<'w>>
+    ensures { option_map command_held result ≡ running (map (λ s. s.now) args.now) }
+{
+    let principal = principal_of(args)?;
+    Some(Command::Run {
+        keys: principal.keys,
+        script: principal.script,
+        deliveries: principal.deliveries,
+        programs: principal.programs,
+    })
 }
 
 // The command that generates a run.
@@ -254,54 +276,50 @@ fn driving<'w>(args: &'w [&'w str]) -> Option<Command<'w>>
     ensures { option_map command_held result ≡ driving (map (λ s. s.now) args.now) }
 {
     match args {
-        [seed, sessions, file] => {
-            let seed = read_number(seed.as_bytes(), 4_294_967_295)? as u32;
-            let sessions = sessions_of(sessions)?;
-            Some(Command::Drive {
-                seed,
-                sessions,
-                file,
-            })
-        }
+        [seed, sessions, file] => drive(seed, sessions, file),
         _ => None,
     }
+}
+
+// So with this seed, this number of sessions and this file.
+fn drive<'w>(seed: &str, sessions: &str, file: &'w str) -> Option<Command<'w>>
+    ensures { option_map command_held result ≡ drive seed.now sessions.now file.now }
+{
+    let seed = read_number(seed.as_bytes(), 4_294_967_295)? as u32;
+    let sessions = sessions_of(sessions)?;
+    Some(Command::Drive {
+        seed,
+        sessions,
+        file,
+    })
 }
 
 // The command that runs one principal and keeps its joins.
 fn keeping<'w>(args: &'w [&'w str]) -> Option<Command<'w>>
     ensures { option_map command_held result ≡ keeping (map (λ s. s.now) args.now) }
 {
-    match args {
-        [file, keys, script, deliveries, programs @ ..] if programs.len() > 0 => {
-            let deliveries = deliveries_of(deliveries)?;
-            Some(Command::Keep {
-                file,
-                keys,
-                script,
-                deliveries,
-                programs,
-            })
-        }
-        _ => None,
-    }
+    let (file, rest) = args.split_first()?;
+    let principal = principal_of(rest)?;
+    Some(Command::Keep {
+        file: *file,
+        keys: principal.keys,
+        script: principal.script,
+        deliveries: principal.deliveries,
+        programs: principal.programs,
+    })
 }
 
 // The command that runs one principal over connections.
 fn streaming<'w>(args: &'w [&'w str]) -> Option<Command<'w>>
     ensures { option_map command_held result ≡ streaming (map (λ s. s.now) args.now) }
 {
-    match args {
-        [keys, script, most, programs @ ..] if programs.len() > 0 => {
-            let deliveries = deliveries_of(most)?;
-            Some(Command::Stream {
-                keys,
-                script,
-                deliveries,
-                programs,
-            })
-        }
-        _ => None,
-    }
+    let principal = principal_of(args)?;
+    Some(Command::Stream {
+        keys: principal.keys,
+        script: principal.script,
+        deliveries: principal.deliveries,
+        programs: principal.programs,
+    })
 }
 
 // How many sessions an argument asks for, from 1 to 2,000.

@@ -1,5 +1,5 @@
 -- Bytes spell the logs of one run at most, or have one first fault: what is spelled is read, and what is read is one.
-use Rattle.std.proofs.Common.{◌≡◌, ℕ, List, Result, Ok, Err, sym, ap, ◌∙◌}
+use Rattle.std.proofs.Common.{◌≡◌, Result, Ok, Err, sym, ap, ◌∙◌}
 use Rattle.sg_audit.specs.Laws.{FaultsAreOne, LogsAreOne, WrongIsNoLogs}
 use Rattle.sg_audit.specs.Read.{read}
 use Rattle.sg_audit.specs.Sessions.{Logs}

@@ -3,7 +3,7 @@ use sg_base::Time;
 use sg_walk::StoredWalk;
 
 /// What an audit says of the logs of a session.
-#[derive(Debug, Drop)]
+#[derive(Drop)]
 pub enum Audit {
     /// The logs agree with this walk.
     Yes(StoredWalk),

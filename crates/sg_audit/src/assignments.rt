@@ -1,11 +1,10 @@
 //! Variables with what a line gives them.
-ghost use Rattle.std.specs.Prelude.{◌≡◌, ◌<◌, ◌↔◌, [], if◌then◌else◌, option_map, Some, None, IfOk, IfSome, MatchOption};
+ghost use Rattle.std.specs.Prelude.{◌≡◌, ◌<◌, if◌then◌else◌, option_map, Some, None, IfOk, IfSome};
 ghost use Rattle.sg_graph.specs.Parts.{variable_names, edge_names};
 ghost use Rattle.sg_sched.specs.Format.Values.{spelled_value};
-ghost use Rattle.sg_walk.specs.Model.{writes_of};
 ghost use Rattle.sg_base.specs.Model.{value_of};
-ghost use Rattle.sg_audit.specs.LineContents.{numbered, both_assigned, nothing_assigned};
-ghost use Rattle.sg_audit.specs.Reading.{assigned, all_assigned, shown_or_hidden, parts};
+ghost use Rattle.sg_audit.specs.LineContents.{numbered, both_assigned};
+ghost use Rattle.sg_audit.specs.Reading.{assigned, all_assigned, shown_or_hidden};
 ghost use Rattle.sg_audit.specs.TakingLines.{assigned_values, assigned_writes};
 
 use sg_base::{Label, Name, OutOfMemory, Role, Seq, Value, Var};
@@ -14,7 +13,7 @@ use sg_sched::{Words, read_value, split_at};
 use std::alloc::Global;
 
 /// Those variables of a line that the graph declares, in the order of the line, and whether it declares all.
-#[derive(Debug, Drop)]
+#[derive(Drop)]
 pub(crate) struct Assignments<T> {
     pub pairs: Seq<(Var, T)>,
     pub known: bool,

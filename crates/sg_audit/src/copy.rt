@@ -1,5 +1,5 @@
 //! Copies of events.
-ghost use Rattle.std.specs.Prelude.{◌≡◌, ◌++◌, IfOk, OnOk};
+ghost use Rattle.std.specs.Prelude.{◌≡◌, IfOk};
 
 use sg_base::{OutOfMemory, Seq, Value, Var};
 use sg_walk::Event;

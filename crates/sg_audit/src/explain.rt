@@ -14,8 +14,9 @@ use crate::roles::roles_of;
 use crate::sent::sent_walk;
 use crate::session::SessionLog;
 use sg_base::OutOfMemory;
+use sg_explain::check_part;
 use sg_graph::Graph;
-use sg_walk::{Event, StoredWalk, check_part};
+use sg_walk::{Event, StoredWalk};
 use std::alloc::Global;
 
 /// Whether the logs of a session agree with the walk that is given, or, if each role has a log, with any walk.

@@ -30,7 +30,7 @@ pub enum LogFault {
 }
 
 // What can be wrong with a line.
-#[derive(Debug, Clone, Copy, PartialEq, Eq)]
+#[derive(Clone, Copy)]
 pub(crate) enum Mistake {
     Form,
     TooManyEvents,
@@ -39,7 +39,7 @@ pub(crate) enum Mistake {
 }
 
 // Why a line wasn't taken.
-#[derive(Debug, Clone, Copy, PartialEq, Eq)]
+#[derive(Clone, Copy)]
 pub(crate) enum Stop {
     Wrong(Mistake),
     OutOfMemory,

@@ -1,5 +1,5 @@
 //! What a line says, from its words.
-ghost use Rattle.std.specs.Prelude.{◌≡◌, ◌≤◌, option_map, true, false, IfOk, IfSome};
+ghost use Rattle.std.specs.Prelude.{◌≡◌, option_map, true, false, IfOk, IfSome};
 ghost use Rattle.sg_base.specs.Words.{name};
 ghost use Rattle.sg_audit.specs.Reading.{event_form, form, log_form, session_form, time, walk_form};
 ghost use Rattle.sg_audit.specs.TakingLines.{Fits, statement};
@@ -13,7 +13,7 @@ use sg_sched::Words;
 use std::alloc::Global;
 
 /// What a line says of a graph. A role or a label is `None` if the graph has none of the name.
-#[derive(Debug, Drop)]
+#[derive(Drop)]
 pub(crate) enum LogLine {
     Session(Name),
     Log(Option<Role>),

@@ -1,7 +1,7 @@
 //! The lines of a text with their numbers.
 ghost use Rattle.std.specs.Prelude.{◌≡◌, ◌<◌, ◌+◌, ◌^◌, ◌∷◌, [], length, MatchOption};
 ghost use Rattle.sg_sched.specs.Format.Spells.{closes};
-ghost use Rattle.sg_sched.specs.Text.{content, lines, words};
+ghost use Rattle.sg_sched.specs.Text.{lines, words};
 ghost use Rattle.sg_audit.specs.Read.{opens};
 
 use sg_sched::{Words, line_content, split_line};

@@ -139,8 +139,23 @@ fn take_sessions(
     ensures { MatchResult result (λ s. read_sessions graph.now (lines.old.number + 1) nothing lines.old.lines ≡ Ok (record { graph = graph.now; sessions = map session_of s })) (Refuses (read_sessions graph.now (lines.old.number + 1) nothing lines.old.lines)) }
 {
     let mut reader = LogsReader::new(alloc);
+    let sessions = sessions_of(alloc, graph, &mut reader, lines);
+    drop(reader);
+    sessions
+}
+
+// The sessions that the reader has so far, and those of all lines that are left.
+fn sessions_of(
+    alloc: Global,
+    graph: &Graph,
+    reader: &mut LogsReader,
+    lines: &mut Lines<'_>,
+) -> Result<Seq<SessionLog>, LogFault>
+    ensures { MatchResult result (λ s. read_sessions graph.now (lines.old.number + 1) reader.old lines.old.lines ≡ Ok (record { graph = graph.now; sessions = map session_of s }))
+        (Refuses (read_sessions graph.now (lines.old.number + 1) reader.old lines.old.lines)) }
+{
     'lines: while let Some(line) = lines.next() {
-        if let Err(stop) = take_line(alloc, graph, &mut reader, line) {
+        if let Err(stop) = take_line(alloc, graph, reader, line) {
             return Err(fault_at(lines.number(), stop));
         }
     }

@@ -1,7 +1,7 @@
 //! What the lines so far have said, and how one more line is taken.
-ghost use Rattle.std.specs.Prelude.{◌≡◌, ◌<◌, ◌≤◌, ◌^◌, ◌&&◌, not, [], None, length, map, option_map, is_some, is_none, OnOk, IfOk, IfSome};
-ghost use Rattle.std.specs.List.{list_any, list_all};
-ghost use Rattle.sg_audit.specs.SoFar.{nothing, all_logs, all_sessions, all_have_logs, is_whole, is_open, add, add_session, add_log, add_event, add_walk, open_log, count_event, put_event};
+ghost use Rattle.std.specs.Prelude.{◌≡◌, ◌<◌, ◌&&◌, [], None, map, option_map, is_some, is_none, OnOk, IfOk, IfSome};
+ghost use Rattle.std.specs.List.{list_all};
+ghost use Rattle.sg_audit.specs.SoFar.{nothing, all_logs, all_sessions, all_have_logs, is_whole, is_open, add, add_session, add_log, add_event, add_walk};
 ghost use Rattle.sg_audit.specs.Sessions.{event, stored_step};
 ghost use Rattle.sg_audit.specs.TakingLines.{Fits, Takes, statement, session_of, assigned_values, step_in_line};
 ghost use Rattle.sg_model.specs.Lists.{is_in, below};
@@ -246,12 +246,12 @@ impl LogsReader {
         Ok(())
     }
 
-    /// The sessions.
-    pub fn sessions(mut self) -> Result<Seq<SessionLog>, OutOfMemory>
-        ensures { IfOk result (λ s. map session_of s ≡ all_sessions self) }
+    /// The sessions, which are taken out.
+    pub fn sessions(&mut self) -> Result<Seq<SessionLog>, OutOfMemory>
+        ensures { IfOk result (λ s. map session_of s ≡ all_sessions self.old) }
     {
         self.close_session()?;
-        Ok(self.done)
+        Ok(mem::replace(&mut self.done, Seq::new(self.alloc)))
     }
 }
 

@@ -5,7 +5,7 @@ use sg_walk::{Event, StoredWalk};
 
 /// The logs of one session: of each role that has one, in the order of the text, what it sent and received, in its order; and, if a
 /// role has none, the walk that is given. Identifiers in events are zeros, and no receipt joins.
-#[derive(Debug, Drop)]
+#[derive(Drop)]
 pub struct SessionLog {
     /// The session's name.
     pub name: Name,
@@ -16,7 +16,7 @@ pub struct SessionLog {
 }
 
 /// The logs of a file: the graph, and its sessions in the order of the text.
-#[derive(Debug, Drop)]
+#[derive(Drop)]
 pub struct Logs {
     /// The graph of all sessions.
     pub graph: Graph,

@@ -11,7 +11,7 @@ use sg_sched::{Words, split_at};
 use std::alloc::Global;
 
 /// A step: its label, if the graph has it, and what it writes.
-#[derive(Debug, Drop)]
+#[derive(Drop)]
 pub(crate) struct LogStep {
     pub label: Option<Label>,
     pub writes: Assignments<Option<Value>>,

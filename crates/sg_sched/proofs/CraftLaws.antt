@@ -14,7 +14,7 @@ use Rattle.sg_base.specs.Words.{name, number}
 use Rattle.sg_sched.specs.Format.LineContents.{Word, Committed, TagSource, ItemContent, CraftContent, LineContent, MakeLine, from_words, item_words, join_words, list_words, option_words, joined_names}
 use Rattle.sg_sched.specs.Format.Forms.{is_committed, is_source, is_item, are_committed, is_join, is_wide, are_names}
 use Rattle.sg_sched.specs.Format.Reading.{WordsLeft, word, after, ended}
-use Rattle.sg_sched.specs.Format.CraftReading.{run, few, some_of, listed, source, repeated, item, all_names, name_list, sixteen, cast, optional, join_parts, join, opened, exactly, ends, ends_of, seal_form, some_items, craft_form}
+use Rattle.sg_sched.specs.Format.CraftReading.{run, few, some_of, listed, source, repeated, item, all_names, name_list, sixteen, cast, optional, join_parts, join, opened, exactly, ends, ends_of, seal_form, some_items, items, lists, craft_form}
 use Rattle.sg_sched.proofs.FormatWords.{both, name_list as pieces}
 use Rattle.sg_sched.proofs.FormLaws.{none_some, step, ended_is, line_up, name_is, Fits, fits}
 use Rattle.sg_sched.proofs.NumberLaws.{number_is, wide_is}
@@ -183,9 +183,13 @@ seal_is ws s h =
 abbrev made : Ends → Option CraftJoin → List Committed → List ItemContent → List Committed → TagSource → CraftContent
 made e j know items openings seal = record { session = e.0; from = e.1; to = e.2; join = j; know = know; items = items; openings = openings; seal = seal }
 
--- the openings and the seal, behind the items
-abbrev ending : Ends → Option CraftJoin → List Committed → List ItemContent → WordsLeft → Option LineContent
-ending e j know items = after opened λ openings. λ ws. option_map (λ seal. MakeLine (made e j know items openings seal)) (seal_form ws)
+-- the lists of a craft
+abbrev Lists : Type 0
+Lists = List Committed × List ItemContent × List Committed
+
+-- the seal, behind the lists
+abbrev sealing : Ends → Option CraftJoin → Lists → WordsLeft → Option LineContent
+sealing e j l ws = option_map (λ seal. MakeLine (made e j l.0 l.1 l.2 seal)) (seal_form ws)
 
 record Sealed (e : Ends) (j : Option CraftJoin) (know : List Committed) (items : List ItemContent) (openings : List Committed) (ws : WordsLeft) (s : LineContent) : Type 0 where
   pub seal : TagSource
@@ -199,27 +203,63 @@ sealed e j know items openings ws s h = by (seal_form ws) refl h
     by None q h = none_some h
     by (Some seal) q h = record { seal = seal; is = seal_is ws seal q; statement = h }
 
-some_there : (items : List ItemContent) (next : WordsLeft → Option LineContent) (ws : WordsLeft) (s : LineContent) → some_items items next ws ≡ Some s → (nat_le 1 (length items) ≡ true) × (next ws ≡ Some s)
-some_there [] next ws s h = none_some h
-some_there (i ∷ is) next ws s h = let some : (length (i ∷ is) == 0) ≡ false = grind (arith, common_steps) in (le-leb 1 (length (i ∷ is)) (omega arith), sym (ap (λ b. if b then None else next ws) some) ∙ h)
+record ItemsAre (ws : WordsLeft) (items : List ItemContent) (rest : WordsLeft) : Type 0 where
+  pub some : nat_le 1 (length items) ≡ true
+  pub was : repeated (codes "item") item 65535 ws ≡ took_then_of items rest
+
+items_are : (ws : WordsLeft) (is : List ItemContent) (rest : WordsLeft) → items ws ≡ took_then_of is rest → ItemsAre ws is rest
+items_are ws is rest h = by (repeated (codes "item") item 65535 ws) refl h
+  where
+    tested : (js : List ItemContent) (r : WordsLeft) → repeated (codes "item") item 65535 ws ≡ took_then_of js r → some_items (js, r) ≡ took_then_of is rest → ItemsAre ws is rest
+    tested [] r e h = none_some h
+    tested (j ∷ js) r e h =
+        let some : (length (j ∷ js) == 0) ≡ false = grind (arith, common_steps) in
+        let same : took_then_of (j ∷ js) r ≡ took_then_of is rest = sym (ap (λ b. if b then None else Some (j ∷ js, r)) some) ∙ h in
+        subst (λ (p : List ItemContent × WordsLeft). ItemsAre ws p.0 p.1) (some_same same) (record { some = le-leb 1 (length (j ∷ js)) (omega arith); was = e })
+
+    by : (o : Option (List ItemContent × WordsLeft)) → repeated (codes "item") item 65535 ws ≡ o → option_and_then some_items o ≡ took_then_of is rest → ItemsAre ws is rest
+    by None e h = none_some h
+    by (Some p) e h = tested p.0 p.1 e h
+
+record ListsAre (ws : WordsLeft) (l : Lists) (rest : WordsLeft) : Type 0 where
+  pub words : ws ≡ list_words (codes "know") l.0 ++ (flat_map item_words l.1 ++ (list_words (codes "open") l.2 ++ rest))
+  pub know : list_all is_committed l.0 ≡ true
+  pub some : nat_le 1 (length l.1) ≡ true
+  pub few : nat_le (length l.1) 65535 ≡ true
+  pub items : list_all is_item l.1 ≡ true
+  pub openings : are_committed l.2 ≡ true
+
+lists_are : (ws : WordsLeft) (l : Lists) (rest : WordsLeft) → lists ws ≡ took_then_of l rest → ListsAre ws l rest
+unfolding lists
+lists_are ws l rest h =
+    let c = took_then_is (listed (codes "know")) (λ know. after items λ is. after opened λ openings rest. took_then_of (know, is, openings) rest) ws (l, rest) h in
+    let d = took_then_is items (λ is. after opened λ openings rest. took_then_of (c.value, is, openings) rest) c.rest (l, rest) c.more in
+    let f = took_then_is opened (λ openings rest. took_then_of (c.value, d.value, openings) rest) d.rest (l, rest) d.more in
+    let n = items_are c.rest d.value d.rest d.was in
+    let kc = listed_is (codes "know") ws c.value c.rest c.was in
+    let id = repeated_is (codes "item") item item_print is_item item_is 65535 c.rest d.value d.rest n.was in
+    let of = opened_is d.rest f.value f.rest f.was in
+    subst (λ (p : Lists × WordsLeft). ListsAre ws p.0 p.1) (some_same f.more) (record {
+      words = kc.words ∙ ap (λ (r : WordsLeft). list_words (codes "know") c.value ++ r) (id.words ∙ ap (λ (r : WordsLeft). flat_map item_words d.value ++ r) of.words);
+      know = kc.form;
+      some = n.some;
+      few = le-leb (length d.value) 65535 id.few;
+      items = id.form;
+      openings = of.form;
+    })
 
 pub craft_sound : (ws : WordsLeft) (s : LineContent) → craft_form ws ≡ Some s → Fits (codes "craft" ∷ ws) s
 unfolding craft_form
 craft_sound ws s h =
-    let a = took_then_is ends (λ e. after join λ j. after (listed (codes "know")) λ know. after (repeated (codes "item") item 65535) λ is. some_items is (ending e j know is)) ws s h in
-    let b = took_then_is join (λ j. after (listed (codes "know")) λ know. after (repeated (codes "item") item 65535) λ is. some_items is (ending a.value j know is)) a.rest s a.more in
-    let c = took_then_is (listed (codes "know")) (λ know. after (repeated (codes "item") item 65535) λ is. some_items is (ending a.value b.value know is)) b.rest s b.more in
-    let d = took_then_is (repeated (codes "item") item 65535) (λ is. some_items is (ending a.value b.value c.value is)) c.rest s c.more in
-    let n = some_there d.value (ending a.value b.value c.value d.value) d.rest s d.more in
-    let f = took_then_is opened (λ openings. λ ws. option_map (λ seal. MakeLine (made a.value b.value c.value d.value openings seal)) (seal_form ws)) d.rest s n.1 in
-    let g = sealed a.value b.value c.value d.value f.value f.rest s f.more in
+    let a = took_then_is ends (λ e. after join λ j. after lists (sealing e j)) ws s h in
+    let b = took_then_is join (λ j. after lists (sealing a.value j)) a.rest s a.more in
+    let c = took_then_is lists (sealing a.value b.value) b.rest s b.more in
+    let g = sealed a.value b.value c.value.0 c.value.1 c.value.2 c.rest s c.more in
     let ea = ends_are ws a.value a.rest a.was in
     let jb = join_is a.rest b.value b.rest b.was in
-    let kc = listed_is (codes "know") b.rest c.value c.rest c.was in
-    let id = repeated_is (codes "item") item item_print is_item item_is 65535 c.rest d.value d.rest d.was in
-    let of = opened_is d.rest f.value f.rest f.was in
-    let tail : b.rest ≡ list_words (codes "know") c.value ++ (flat_map item_words d.value ++ (list_words (codes "open") f.value ++ codes "seal" ∷ from_words g.seal)) =
-    kc.words ∙ ap (λ (r : WordsLeft). list_words (codes "know") c.value ++ r) (id.words ∙ ap (λ (r : WordsLeft). flat_map item_words d.value ++ r) (of.words ∙ ap (λ (r : WordsLeft). list_words (codes "open") f.value ++ r) g.is.words)) in
-    fits {s = MakeLine (made a.value b.value c.value d.value f.value g.seal)}
+    let lc = lists_are b.rest c.value c.rest c.was in
+    let tail : b.rest ≡ list_words (codes "know") c.value.0 ++ (flat_map item_words c.value.1 ++ (list_words (codes "open") c.value.2 ++ codes "seal" ∷ from_words g.seal)) =
+    lc.words ∙ ap (λ (r : WordsLeft). list_words (codes "know") c.value.0 ++ (flat_map item_words c.value.1 ++ (list_words (codes "open") c.value.2 ++ r))) g.is.words in
+    fits {s = MakeLine (made a.value b.value c.value.0 c.value.1 c.value.2 g.seal)}
     (ap (λ (r : WordsLeft). codes "craft" ∷ r) (ea.words ∙ ap (λ (r : WordsLeft). ends_print a.value ++ r) (jb.words ∙ ap (λ (r : WordsLeft). join_words b.value ++ r) tail)))
-    (both (both (both (both (both (both (both ea.form jb.form) kc.form) n.0) (le-leb (length d.value) 65535 id.few)) id.form) of.form) g.is.form) g.statement
+    (both (both (both (both (both (both (both ea.form jb.form) lc.know) lc.some) lc.few) lc.items) lc.openings) g.is.form) g.statement

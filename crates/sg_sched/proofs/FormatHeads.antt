@@ -4,7 +4,7 @@ use Rattle.std.specs.Fmt.{digits}
 use Rattle.std.specs.Str.{is_utf8, chars}
 use lib.Utf8.{encode}
 use Rattle.hex.specs.Hex.{decode_pairs}
-use Rattle.sg_sched.proofs.FormatGraphs.{shop, relay}
+use Rattle.sg_protocol.proofs.Examples.{shop, relay}
 use Rattle.sg_base.specs.Words.{name, number}
 use Rattle.sg_sched.specs.Words.{frame, names}
 use Rattle.sg_sched.specs.Pair.{edge}
@@ -16,7 +16,7 @@ use Rattle.sg_sched.specs.Format.Faults.{fault}
 use Rattle.sg_sched.specs.Format.Spells.{Line, Add, Say}
 use Rattle.sg_protocol.specs.Schedule.{CraftJoin}
 use Rattle.sg_sched.specs.Format.Reading.{word, hex_of, hex, version, given as an_assignment, block_form, edge_form, honest_form, key_form, session_form, in_session, start_form, act_form, abandon_form, frame_form, what_form, deliver_form}
-use Rattle.sg_sched.specs.Format.CraftReading.{committed as a_commitment, cast, time, listed, copy_source, source, tag, item, join_parts, join, ends, seal_form, craft_form}
+use Rattle.sg_sched.specs.Format.CraftReading.{committed as a_commitment, cast, time, listed, copy_source, source, tag, item, join_parts, join, ends, seal_form, lists, craft_form}
 use Rattle.sg_sched.specs.Format.Form.{form}
 use Rattle.sg_sched.specs.Format.Items.{Item, GraphItem, EdgeItem, HonestItem, KeyItem, SessionItem}
 
@@ -28,7 +28,7 @@ on_literals = tt
 -- what the check of the form of a literal line unfolds
 unfoldable pub on_forms : ⊤
 unfolding on_literals form block_form edge_form honest_form key_form session_form in_session start_form act_form abandon_form deliver_form craft_form word name names frame hex_of hex version an_assignment frame_form what_form
-    a_commitment cast time listed copy_source source tag item join_parts join ends seal_form
+    a_commitment cast time listed copy_source source tag item join_parts join ends seal_form lists
 on_forms = tt
 
 -- a line of a form that is right adds its item

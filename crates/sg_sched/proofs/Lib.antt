@@ -3,7 +3,6 @@ pub mod NamesLaws
 pub mod SameBoth
 pub mod NodeNames
 pub mod PairLaws
-pub mod FormatGraphs
 pub mod FormatHeads
 mod FormatLines
 mod FormatCrafts

@@ -12,8 +12,8 @@ use Rattle.sg_protocol.specs.Schedule.{CraftJoin}
 use Rattle.sg_base.specs.Words.{number}
 use Rattle.sg_sched.specs.Format.LineContents.{Word, Committed, TagSource, ItemContent, CraftContent, LineContent, MakeLine, from_words, item_words, join_words, list_words, option_words, joined_names}
 use Rattle.sg_sched.specs.Format.Forms.{is_committed, is_source, is_item, are_committed, is_join, is_wide, are_names, is_craft}
-use Rattle.sg_sched.specs.Format.Reading.{WordsLeft, word, after, ended}
-use Rattle.sg_sched.specs.Format.CraftReading.{committed, run, few, some_of, listed, source, repeated, item, is_next, all_names, sixteen, cast, optional, join_parts, join, opened, ends, seal_form, some_items, craft_form}
+use Rattle.sg_sched.specs.Format.Reading.{WordsLeft, Taker, word, after, ended}
+use Rattle.sg_sched.specs.Format.CraftReading.{committed, run, few, some_of, listed, source, repeated, item, is_next, all_names, sixteen, cast, optional, join_parts, join, opened, ends, seal_form, some_items, lists, craft_form}
 use Rattle.sg_sched.proofs.FormatWords.{both, same_self, name_list-joined}
 use Rattle.sg_sched.proofs.FormLaws.{name_ok}
 use Rattle.sg_sched.proofs.NumberLaws.{number_ok, is_wide_of}
@@ -168,15 +168,25 @@ know_after : (cs : List Committed) (ws : WordsLeft) → After (list_words (codes
 know_after [] ws = record { no_join = refl; no_nonce = refl; no_cast = refl }
 know_after (c ∷ cs) ws = record { no_join = refl; no_nonce = refl; no_cast = refl }
 
+-- up to n items, one or more
+abbrev items_up_to : ℕ → Taker (List ItemContent)
+items_up_to n ws = option_and_then some_items (repeated (codes "item") item n ws)
+
+-- the lists of a craft with up to n items
+abbrev lists_up_to : ℕ → Taker (List Committed × List ItemContent × List Committed)
+lists_up_to n =
+    after (listed (codes "know")) λ know.
+    after (items_up_to n) λ is.
+    after opened λ openings rest.
+    Some ((know, is, openings), rest)
+
 -- the words of a craft with up to n items
 abbrev craft_up_to : ℕ → WordsLeft → Option LineContent
 craft_up_to n =
     after ends λ e.
     after join λ j.
-    after (listed (codes "know")) λ know.
-    after (repeated (codes "item") item n) λ is.
-    some_items is (after opened λ openings.
-    λ ws. option_map (λ seal. MakeLine (record { session = e.0; from = e.1; to = e.2; join = j; know = know; items = is; openings = openings; seal = seal })) (seal_form ws))
+    after (lists_up_to n) λ l.
+    λ ws. option_map (λ seal. MakeLine (record { session = e.0; from = e.1; to = e.2; join = j; know = l.0; items = l.1; openings = l.2; seal = seal })) (seal_form ws)
 
 craft_with : (n : ℕ) (c : CraftContent) (i : ItemContent) (is : List ItemContent) → CraftFacts c → length (i ∷ is) ≤ n → list_all is_item (i ∷ is) ≡ true
     → craft_up_to n (craft_rest (record c { items = i ∷ is })) ≡ Some (MakeLine (record c { items = i ∷ is }))
@@ -200,5 +210,5 @@ craft_found n c [] f some l a = absurd (cc some)
 craft_found n c (i ∷ is) f some l a = craft_with n c i is f l a
 
 pub craft_reads : (c : CraftContent) → is_craft c ≡ true → craft_form (craft_rest c) ≡ Some (MakeLine c)
-unfolding craft_form
+unfolding craft_form lists
 craft_reads c h = let f = craft_facts c h in craft_found 65535 c c.items f f.some f.count f.items

@@ -1,5 +1,5 @@
 //! The form of an act.
-ghost use Rattle.std.specs.Prelude.{◌≡◌, IfOk, IsNone, IsOk, IfSome, option_copied, option_map, Some, None, MatchOption, ◌<◌, length};
+ghost use Rattle.std.specs.Prelude.{◌≡◌, IfOk, IsNone, IsOk, option_map, Some, None, MatchOption, ◌<◌};
 ghost use Rattle.sg_sched.specs.Format.Reading.{split_at, given, assignments, act_form};
 ghost use Rattle.sg_sched.specs.Format.Early.{act_beginning};
 ghost use Rattle.sg_sched.specs.Format.Model.{statement};

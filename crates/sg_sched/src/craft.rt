@@ -6,7 +6,7 @@ use std::alloc::Global;
 use std::marker::Model;
 
 /// A frame to be made, in the words of its line. Commitments are held as the openings that they are made of.
-#[derive(Debug, Drop)]
+#[derive(Drop)]
 pub struct Craft {
     /// The index of the session in the list of those declared, from 0.
     pub session: u32,
@@ -46,7 +46,7 @@ impl Model for Craft {
 }
 
 /// A craft on the heap: it is by far the largest of the steps, and there are few. A clause sees it as the craft.
-#[derive(Debug, Drop)]
+#[derive(Drop)]
 pub struct HeldCraft {
     craft: Box<Craft>,
 }
@@ -78,7 +78,7 @@ impl HeldCraft {
 }
 
 /// Another nonce or other names for the cast of a crafted frame that joins.
-#[derive(Debug, Drop)]
+#[derive(Drop)]
 pub struct CraftJoin {
     /// The nonce, in the last eight of sixteen bytes, if it isn't the session's.
     pub nonce: Option<u64>,
@@ -95,7 +95,7 @@ impl Model for CraftJoin {
 }
 
 /// An item of a crafted frame.
-#[derive(Debug, Drop)]
+#[derive(Drop)]
 pub struct CraftItem {
     /// The label; its sender is the item's role.
     pub label: Label,
@@ -108,7 +108,7 @@ pub struct CraftItem {
 }
 
 impl Model for CraftItem {
-    ghost use Rattle.std.specs.Prelude.{ℕ, map};
+    ghost use Rattle.std.specs.Prelude.{map};
     ghost use Rattle.sg_protocol.specs.Schedule.{CraftItem};
     ghost use Rattle.sg_sched.specs.Format.Crafts.{tag_of};
 
@@ -118,7 +118,7 @@ impl Model for CraftItem {
 }
 
 /// Where a crafted tag comes from. If what is copied isn't there, it is 32 zero bytes.
-#[derive(Debug, Drop)]
+#[derive(Drop)]
 pub enum Source {
     /// It is made under the key of these two principals.
     Key(Name, Name),

@@ -1,9 +1,9 @@
 //! The form of a craft.
-ghost use Rattle.std.specs.Prelude.{◌≡◌, ◌≤◌, ◌<◌, ◌++◌, [], ◌∷◌, Some, None, true, false, IfOk, IsNone, IsOk, IfSome, MatchOption, codes, length, option_map, option_copied};
+ghost use Rattle.std.specs.Prelude.{◌≡◌, ◌<◌, ◌∷◌, Some, None, true, false, IfOk, IsNone, IsOk, MatchOption, codes, option_map};
 ghost use Rattle.sg_base.specs.Words.{name, number};
 ghost use Rattle.sg_sched.specs.Words.{frame};
 ghost use Rattle.sg_sched.specs.Format.Reading.{Taker, word};
-ghost use Rattle.sg_sched.specs.Format.CraftReading.{split_last, committed, name_list, cast, exactly, time, run, few, listed, copy_source, source, repeated, tag, item, is_next, optional, join_parts, join, opened, seal_form, ends, craft_form};
+ghost use Rattle.sg_sched.specs.Format.CraftReading.{split_last, committed, name_list, cast, exactly, time, run, few, listed, copy_source, source, repeated, tag, item, is_next, optional, join_parts, join, opened, seal_form, ends, items, lists, craft_form};
 ghost use Rattle.sg_sched.specs.Format.Early.{craft_beginning};
 ghost use Rattle.sg_sched.specs.Format.Sources.{from_of};
 ghost use Rattle.sg_sched.specs.Format.Model.{statement, taken};
@@ -294,14 +294,20 @@ fn take_item<'a>(alloc: Global, words: &mut Words<'a>) -> Result<Option<ItemLine
     }))
 }
 
-/// Items, up to 65,535, each after the word `item`.
+/// Items, one or more and up to 65,535, each after the word `item`.
 fn take_items<'a>(
     alloc: Global,
     words: &mut Words<'a>,
 ) -> Result<Option<Seq<ItemLine<'a>>>, OutOfMemory>
-    ensures { IfOk result (λ o. repeated (codes "item") item 65535 words.old ≡ taken o words.new) }
+    ensures { IfOk result (λ o. items words.old ≡ taken o words.new) }
 {
-    take_repeated(alloc, b"item", 65_535, words)
+    let Some(items) = take_repeated(alloc, b"item", 65_535, words)? else {
+        return Ok(None);
+    };
+    if items.len() == 0 {
+        return Ok(None);
+    }
+    Ok(Some(items))
 }
 
 /// The nonce after the word `nonce`, or nothing.
@@ -434,6 +440,26 @@ fn take_ends(words: &mut Words) -> Option<(Name, Name, Name)>
     Some((session, from, to))
 }
 
+/// The commitments that are known, the items and the openings.
+#[tactic(auto, unfolding(crate::specs::Format::CraftReading::lists))]
+fn take_lists<'a>(
+    alloc: Global,
+    words: &mut Words<'a>,
+) -> Result<Option<(Seq<Committed<'a>>, Seq<ItemLine<'a>>, Seq<Committed<'a>>)>, OutOfMemory>
+    ensures { IfOk result (λ o. lists words.old ≡ taken o words.new) }
+{
+    let Some(know) = take_listed(alloc, b"know", words)? else {
+        return Ok(None);
+    };
+    let Some(items) = take_items(alloc, words)? else {
+        return Ok(None);
+    };
+    let Some(openings) = take_opened(alloc, words)? else {
+        return Ok(None);
+    };
+    Ok(Some((know, items, openings)))
+}
+
 /// A craft, after its first word.
 #[tactic(auto, unfolding(crate::specs::Format::CraftReading::craft_form, crate::specs::Format::Early::craft_beginning))]
 pub(crate) fn craft<'a>(
@@ -449,16 +475,7 @@ pub(crate) fn craft<'a>(
     let Some(join) = take_join(alloc, words)? else {
         return Ok(None);
     };
-    let Some(know) = take_listed(alloc, b"know", words)? else {
-        return Ok(None);
-    };
-    let Some(items) = take_items(alloc, words)? else {
-        return Ok(None);
-    };
-    if items.len() == 0 {
-        return Ok(None);
-    }
-    let Some(openings) = take_opened(alloc, words)? else {
+    let Some((know, items, openings)) = take_lists(alloc, words)? else {
         return Ok(None);
     };
     match take_seal(words) {

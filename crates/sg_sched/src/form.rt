@@ -1,11 +1,11 @@
 //! The forms of a line, each read after its first word.
-ghost use Rattle.std.specs.Prelude.{◌≡◌, ◌≤◌, codes, IfOk, IsNone, IsOk, IfSome, option_map, option_copied, length};
+ghost use Rattle.std.specs.Prelude.{◌≡◌, ◌≤◌, codes, IfOk, IsNone, IsOk, IfSome, option_map, option_copied};
 ghost use Rattle.sg_base.specs.Words.{name, number};
 ghost use Rattle.sg_sched.specs.Words.{names, frame};
-ghost use Rattle.sg_sched.specs.Format.Reading.{word, hex_of, hex, short, version, given, assignments, block_form, edge_form, honest_form, key_form, session_form, in_session, start_form, act_form, abandon_form, frame_form, what_form, deliver_form};
+ghost use Rattle.sg_sched.specs.Format.Reading.{word, hex_of, hex, version, block_form, edge_form, honest_form, key_form, session_form, in_session, start_form, abandon_form, frame_form, what_form, deliver_form};
 ghost use Rattle.sg_sched.specs.Format.CraftReading.{exactly};
 ghost use Rattle.sg_sched.specs.Format.Early.{deliver_beginning, session_beginning};
-ghost use Rattle.sg_sched.specs.Format.Model.{statement, taken, delivered};
+ghost use Rattle.sg_sched.specs.Format.Model.{statement, taken};
 
 use crate::line::{Delivered, Line};
 use crate::names::read_names;

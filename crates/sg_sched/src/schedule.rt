@@ -7,7 +7,7 @@ use sg_graph::Graph;
 use std::marker::Model;
 
 /// A session by its name.
-#[derive(Debug, Drop)]
+#[derive(Drop)]
 pub struct NamedSession {
     /// The name that steps use.
     pub name: Name,

@@ -3,7 +3,7 @@ use crate::craft::HeldCraft;
 use sg_base::{Label, Name, Seq, Value, Var};
 
 /// A step. A session is its index in the list of those declared, from 0.
-#[derive(Debug, Drop)]
+#[derive(Drop)]
 pub enum Step {
     /// The principal starts the session.
     Start {
@@ -42,7 +42,7 @@ pub enum Step {
 }
 
 /// What is delivered.
-#[derive(Debug, Drop)]
+#[derive(Drop)]
 pub enum What {
     /// A recorded frame.
     Frame {
@@ -56,7 +56,7 @@ pub enum What {
 }
 
 /// What becomes of a recorded frame before it is delivered.
-#[derive(Debug, Clone, Copy, PartialEq, Eq)]
+#[derive(Clone, Copy, PartialEq, Eq)]
 pub enum Change {
     /// It stays as it is.
     Whole,

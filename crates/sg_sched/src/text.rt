@@ -1,5 +1,5 @@
 //! The lines of a text, and the words of a line.
-ghost use Rattle.std.specs.Prelude.{◌≡◌, ◌<◌, ◌≤◌, ◌==◌, ◌≢◌, [], ◌∷◌, length, take, drop, MatchOption};
+ghost use Rattle.std.specs.Prelude.{◌≡◌, ◌<◌, ◌≤◌, ◌==◌, ◌≢◌, [], ◌∷◌, length, MatchOption};
 ghost use Rattle.std.specs.List.{position_or_len};
 ghost use Rattle.sg_sched.specs.Text.{lines, content, words};
 

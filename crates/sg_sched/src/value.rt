@@ -1,11 +1,10 @@
 //! What written values and hexadecimal digits spell.
 ghost use Rattle.hex.specs.Hex.{decode_sized};
 ghost use Rattle.std.specs.Result.{result_ok};
-ghost use Rattle.std.specs.Prelude.{◌≡◌, ◌≢◌, ◌<◌, IfSome, ◌≤◌, ◌++◌, ◌==◌, [], ◌∷◌, option_map, option_copied, option_and_then, pos, neg_ℤ, IfOk, OnOk, MatchOption, length, Some};
+ghost use Rattle.std.specs.Prelude.{◌≡◌, ◌≢◌, ◌<◌, IfSome, ◌==◌, [], ◌∷◌, option_map, option_and_then, IfOk, MatchOption, length, Some};
 ghost use Rattle.sg_base.specs.Model.{value_of};
-ghost use Rattle.sg_model.specs.Values.{IntValue, TextValue};
-ghost use Rattle.sg_sched.specs.Format.Values.{int_value, is_plain, hex_byte, put_before, text_bytes, as_text, text_value, spelled_value, hex_bytes, is_hex_of, is_hex, is_value};
-ghost use Rattle.sg_base.specs.Words.{number, from_one};
+ghost use Rattle.sg_sched.specs.Format.Values.{int_value, is_plain, hex_byte, put_before, text_bytes, as_text, spelled_value, hex_bytes, is_hex_of, is_hex, is_value};
+ghost use Rattle.sg_base.specs.Words.{number};
 
 use hex::FromHexError;
 use sg_base::{Chars, CharsFault, OutOfMemory, Value, read_number};

@@ -1,5 +1,5 @@
 //! The graphs of blocks, found by their names without a scan.
-ghost use Rattle.std.specs.Prelude.{◌≡◌, ◌<◌, ◌≤◌, ◌++◌, [], ◌∷◌, false, length, map, bytes_eq, position, slice_get, IfSome, OnOk, Some};
+ghost use Rattle.std.specs.Prelude.{◌≡◌, ◌<◌, ◌++◌, [], ◌∷◌, false, length, map, bytes_eq, position, slice_get, IfSome, OnOk, Some};
 ghost use Rattle.sg_model.specs.Lists.{has_text};
 ghost use Rattle.sg_sched_text.specs.Holding.{HasRoles};
 

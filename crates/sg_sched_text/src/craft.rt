@@ -1,13 +1,11 @@
 //! Crafts: what is made of their words, if all names are declared.
-ghost use Rattle.std.specs.Prelude.{◌≡◌, map, position, bytes_eq, option_map, option_copied, IfOk, IfSome, IsTrue};
+ghost use Rattle.std.specs.Prelude.{◌≡◌, map, position, bytes_eq, option_map, option_copied, IfOk, IsTrue};
 ghost use Rattle.std.specs.List.{list_all};
-ghost use Rattle.sg_base.specs.Model.{value_of};
 ghost use Rattle.sg_protocol.specs.Schedule.{confounder};
 ghost use Rattle.sg_sched.specs.Format.Crafts.{source_of, tag_of};
 ghost use Rattle.sg_sched.specs.Format.Forms.{is_committed, is_item};
 ghost use Rattle.sg_sched.specs.Format.Items.{roles_of, variables_of, labels_of};
 ghost use Rattle.sg_sched.specs.Format.Sources.{from_of};
-ghost use Rattle.sg_sched.specs.Format.Values.{is_value, value_of as spelled};
 ghost use Rattle.sg_sched_text.specs.Crafting.{known_opening, known_source, known_tag, known_item};
 ghost use Rattle.sg_sched_text.specs.Numbers.{all_made};
 

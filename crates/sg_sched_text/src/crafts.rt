@@ -54,9 +54,11 @@ impl Declared {
         ensures { Takes (after_line self.old (MakeLine craft.entry)) self.new result }
     {
         if !rises(self.graph_for(&craft.session), &craft) {
+            drop(craft);
             return Err(Stop::Wrong(Kind::Form));
         }
         if !self.is_short(&craft)? {
+            drop(craft);
             return Err(Stop::Wrong(Kind::Form));
         }
         let step = self.craft_step(craft)?;
@@ -87,7 +89,8 @@ impl Declared {
     // All of the step but what the frame joins with, if all its names are declared.
     fn parts(&self, craft: &CraftLine<'_>) -> Result<Option<CraftParts>, OutOfMemory>
         requires { IsTrue (is_craft craft.now) }
-        ensures { IfOk result (λ o. option_map (λ p. craft_of craft.now (p.ends.0, (p.ends.1, p.ends.2)) p.lists (source_of p.seal)) o ≡ craft_step self.now (graph_for craft.now.session self.now) craft.now) }
+        ensures { IfOk result (λ o. option_map (λ p. craft_of craft.now (p.ends.0, (p.ends.1, p.ends.2)) p.lists (source_of p.seal)) o
+            ≡ craft_step self.now (graph_for craft.now.session self.now) craft.now) }
     {
         let graph = self.graph_for(&craft.session);
         let Some(ends) = self.ends(graph, craft) else {
@@ -145,7 +148,17 @@ fn joined(
     join: Option<CraftJoin>,
     parts: Result<Option<CraftParts>, OutOfMemory>,
 ) -> Result<Option<Step>, OutOfMemory>
-    ensures { MatchResult parts (λ p. IfOk result (λ o. option_map step_of o ≡ option_map (λ q. CraftStep (record { session = q.ends.0; from = q.ends.1; to = q.ends.2; join = join; know = q.lists.know; items = q.lists.items; openings = q.lists.openings; seal = source_of q.seal })) p)) (λ _. IsErr result) }
+    ensures { MatchResult parts (λ p. IfOk result (λ o. option_map step_of o
+        ≡ option_map (λ q. CraftStep (record {
+          session = q.ends.0;
+          from = q.ends.1;
+          to = q.ends.2;
+          join = join;
+          know = q.lists.know;
+          items = q.lists.items;
+          openings = q.lists.openings;
+          seal = source_of q.seal;
+        })) p)) (λ _. IsErr result) }
 {
     match parts? {
         Some(parts) => {
@@ -158,7 +171,16 @@ fn joined(
 
 // The craft of these parts with what the frame joins with.
 fn craft_of(join: Option<CraftJoin>, parts: CraftParts) -> Craft
-    ensures { result ≡ record { session = parts.ends.0; from = parts.ends.1; to = parts.ends.2; join = join; know = parts.lists.know; items = parts.lists.items; openings = parts.lists.openings; seal = source_of parts.seal } }
+    ensures { result ≡ record {
+      session = parts.ends.0;
+      from = parts.ends.1;
+      to = parts.ends.2;
+      join = join;
+      know = parts.lists.know;
+      items = parts.lists.items;
+      openings = parts.lists.openings;
+      seal = source_of parts.seal;
+    } }
 {
     let CraftParts { ends, lists, seal } = parts;
     let CraftLists {

@@ -124,6 +124,7 @@ impl Declared {
             version,
         };
         if self.sessions.has_like(&like) {
+            drop(like);
             return Err(Stop::Wrong(Kind::Twice));
         }
         self.sessions.add(name, like)?;

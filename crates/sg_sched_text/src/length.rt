@@ -1,5 +1,5 @@
 //! How long the frame of a craft is, up to 60,000 bytes.
-ghost use Rattle.std.specs.Prelude.{◌≡◌, ◌<◌, ◌≤◌, ◌+◌, nat_le, length, unwrap_or, IfOk, IfSome, IsTrue, MatchOption};
+ghost use Rattle.std.specs.Prelude.{◌≡◌, ◌<◌, ◌≤◌, ◌+◌, nat_le, IfOk, IsTrue, MatchOption};
 ghost use Rattle.std.specs.List.{list_all};
 ghost use Rattle.sg_model.specs.Limits.{most_frame_bytes};
 ghost use Rattle.sg_protocol.specs.Frame.{tag_len};
@@ -23,7 +23,8 @@ pub(crate) fn is_short(
     craft: &CraftLine<'_>,
 ) -> Result<bool, OutOfMemory>
     requires { IsTrue (is_craft craft.now) }
-    ensures { IfOk result (λ b. b ≡ nat_le (42 + join_len names.now craft.now.join + lens (item_len version) craft.now.items + lens opening_len craft.now.openings + tag_len version) most_frame_bytes) }
+    ensures { IfOk result (λ b. b
+        ≡ nat_le (42 + join_len names.now craft.now.join + lens (item_len version) craft.now.items + lens opening_len craft.now.openings + tag_len version) most_frame_bytes) }
 {
     let Some(join) = join_len(names, &craft.join) else {
         return Ok(false);

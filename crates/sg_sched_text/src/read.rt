@@ -32,7 +32,13 @@ pub fn read_schedule(alloc: Global, bytes: &[u8]) -> Result<Schedule, LineFault>
     let mut reader = ScheduleReader::new(alloc);
     let mut rest = bytes;
     'lines: while !rest.is_empty() {
-        rest = reader.next(rest)?;
+        match reader.next(rest) {
+            Ok(after) => rest = after,
+            Err(fault) => {
+                drop(reader);
+                return Err(fault);
+            }
+        }
     }
     let ScheduleReader {
         past,

@@ -1,5 +1,5 @@
 //! How a text is read, line by line and block by block.
-ghost use Rattle.std.specs.Prelude.{◌≡◌, ◌≢◌, ℕ, List, ◌+◌, ◌<◌, ◌≤◌, ◌^◌, [], false, length, IfOk, IsFalse, IsTrue, MatchResult, Ok, Err};
+ghost use Rattle.std.specs.Prelude.{◌≡◌, ◌≢◌, ℕ, List, ◌+◌, ◌<◌, ◌≤◌, ◌^◌, false, length, IfOk, IsFalse, IsTrue, MatchResult, Ok, Err};
 ghost use Rattle.sg_parse.specs.Grammar.{SpellsGraph};
 ghost use Rattle.sg_sched.specs.Text.{lines};
 ghost use Rattle.sg_sched.specs.Format.Forms.{is_form};
@@ -119,9 +119,11 @@ impl ScheduleReader {
         };
         let name = graph.name();
         if self.past.has_block(&name) {
+            drop(graph);
             return Err(fault_at(self.number, Stop::Wrong(Kind::Twice)));
         }
         if self.past.is_pair(&name) {
+            drop(graph);
             return Err(fault_at(self.first_edge, Stop::Wrong(Kind::Twice)));
         }
         match self.past.add_block(graph) {

@@ -1,5 +1,5 @@
 //! The sessions that are declared, found by their names, and by what makes two of them alike, without a scan.
-ghost use Rattle.std.specs.Prelude.{◌≡◌, ◌<◌, ◌++◌, [], ◌∷◌, false, length, map, bytes_eq, position, slice_get, option_map, IfOk, IfSome, OnOk, Some};
+ghost use Rattle.std.specs.Prelude.{◌≡◌, ◌<◌, ◌++◌, [], ◌∷◌, false, length, map, bytes_eq, position, slice_get, IfSome, OnOk, Some};
 ghost use Rattle.std.specs.List.{list_any};
 ghost use Rattle.sg_model.specs.Limits.{most_declared};
 ghost use Rattle.sg_model.specs.Lists.{has_text};

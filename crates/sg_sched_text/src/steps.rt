@@ -1,5 +1,5 @@
 //! Steps, of which a schedule has at most 200,000.
-ghost use Rattle.std.specs.Prelude.{◌≡◌, ◌||◌, false, if◌then◌else◌, map, option_map, IfOk, IsOk, IsTrue};
+ghost use Rattle.std.specs.Prelude.{◌≡◌, ◌||◌, false, option_map, IfOk, IsOk, IsTrue};
 ghost use Rattle.std.specs.List.{list_all};
 ghost use Rattle.sg_model.specs.Lists.{has_text};
 ghost use Rattle.sg_sched.specs.Format.LineContents.{StartLine, ActLine, AbandonLine, DeliverLine};
@@ -32,15 +32,18 @@ impl Declared {
         ensures early { honest ≡ false → IsRefusedEarly result }
     {
         if self.steps.len() >= MOST_STEPS {
+            drop(step);
             return Err(Stop::Wrong(Kind::TooManySteps));
         }
         let Some(step) = step else {
             return Err(Stop::Wrong(Kind::Unknown));
         };
         if repeated {
+            drop(step);
             return Err(Stop::Wrong(Kind::Twice));
         }
         if !honest {
+            drop(step);
             return Err(Stop::Wrong(Kind::NotHonest));
         }
         if let Err(_) = self.steps.push(step) {

@@ -3,7 +3,7 @@ use sg_base::OutOfMemory;
 use sg_sched::Kind;
 
 /// Why a line isn't taken.
-#[derive(Debug, Clone, Copy, PartialEq, Eq)]
+#[derive(Clone, Copy)]
 pub(crate) enum Stop {
     /// It is wrong.
     Wrong(Kind),

@@ -88,7 +88,8 @@ fn together(
     keys: Seq<PairKey>,
     steps: Seq<Step>,
 ) -> Result<Schedule, OutOfMemory>
-    ensures { MatchResult graphs (λ gs. MatchResult listed (λ l. IfOk result (λ s. s ≡ record { graphs = gs; honest = l.1; keys = keys; sessions = l.0; steps = map step_of steps })) (λ _. IsErr result)) (λ _. IsErr result) }
+    ensures { MatchResult graphs (λ gs. MatchResult listed (λ l. IfOk result (λ s. s
+        ≡ record { graphs = gs; honest = l.1; keys = keys; sessions = l.0; steps = map step_of steps })) (λ _. IsErr result)) (λ _. IsErr result) }
 {
     match (graphs, listed) {
         (Ok(graphs), Ok((sessions, honest))) => Ok(Schedule {

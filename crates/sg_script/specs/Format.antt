@@ -1,5 +1,5 @@
 -- The script: what the data of its TOML text spell beside the programs that the principal has, or the first fault.
-use Rattle.std.specs.Prelude.{◌≡◌, ℕ, ◌+◌, ℤ, pos, Bool, ◌&&◌, IsTrue, nat_le, bytes_eq, if◌then◌else◌, List, [], ◌∷◌, length, map, filter_map, find, position, get_or, codes, Option, Some, None, is_some, option_map, option_and_then, Result, Ok, Err}
+use Rattle.std.specs.Prelude.{◌≡◌, ℕ, ◌+◌, ℤ, pos, ◌&&◌, IsTrue, nat_le, bytes_eq, if◌then◌else◌, List, [], ◌∷◌, length, map, filter_map, find, position, get_or, codes, Option, Some, None, is_some, option_map, option_and_then, Result, Ok, Err}
 use Rattle.toml.specs.Data.{Data, string, integer, Members, get_member, as_str, as_integer, as_array, as_table}
 use Rattle.sg_base.specs.Words.{name}
 use Rattle.sg_graph.specs.Parts.{variable_names, node_names, edge_names}

@@ -1,6 +1,6 @@
 //! The entries of a script: its starts and its choices.
 ghost use Rattle.std.specs.Prelude.{◌≡◌, ◌≢◌, ℕ, ◌++◌, [], ◌∷◌, List, Option, Some, None, Err, Ok, map, option_and_then, option_map, IfErr, IfOk, OnOk};
-ghost use Rattle.toml.specs.Data.{Data, Members, as_table};
+ghost use Rattle.toml.specs.Data.{Members, as_table};
 ghost use Rattle.toml.specs.View.{view, table_view};
 ghost use Rattle.sg_protocol.specs.Keyring.{Program};
 ghost use Rattle.sg_script.specs.Format.{each_from, entries};

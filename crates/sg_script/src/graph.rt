@@ -1,11 +1,10 @@
 //! What a script names of the programs' graphs.
-ghost use Rattle.std.specs.Prelude.{◌≡◌, ◌<◌, codes, is_some, length, option_copied, string_bytes};
+ghost use Rattle.std.specs.Prelude.{◌≡◌, ◌<◌, codes, is_some, option_copied, string_bytes};
 ghost use Rattle.std.specs.BTreeMap.{keys};
 ghost use Rattle.std.specs.List.{list_all};
 ghost use Rattle.toml.specs.View.{table_view};
 ghost use Rattle.sg_graph.specs.Parts.{variable_names, node_names, edge_names};
 ghost use Rattle.sg_keys.specs.KeyFile.{all_keys, at};
-ghost use Rattle.sg_protocol.specs.Graph.{variable_name};
 ghost use Rattle.sg_script.specs.Format.{graph_named, number_of};
 
 use crate::table::read_name;

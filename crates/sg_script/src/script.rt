@@ -3,7 +3,7 @@ use sg_base::{Label, Name, NodeId, Seq, Value, Var};
 use std::marker::Model;
 
 /// A session that the principal starts.
-#[derive(Debug, Drop)]
+#[derive(Drop)]
 pub struct ScriptStart {
     /// The name of its graph.
     pub graph: Name,
@@ -22,7 +22,7 @@ impl Model for ScriptStart {
 }
 
 /// The step that the principal takes at a node, as often as it may.
-#[derive(Debug, Drop)]
+#[derive(Drop)]
 pub struct ScriptChoice {
     /// The name of the graph.
     pub graph: Name,
@@ -46,7 +46,7 @@ impl Model for ScriptChoice {
 }
 
 /// A script: what is started and what is chosen, each in the order of the file.
-#[derive(Debug, Drop)]
+#[derive(Drop)]
 pub struct Script {
     /// The sessions to start.
     pub starts: Seq<ScriptStart>,

@@ -175,16 +175,26 @@ seal_form =
     after source λ seal.
     ended (Some seal)
 
--- at least one item, before what follows
-abbrev pub some_items : List ItemContent → (WordsLeft → Option LineContent) → WordsLeft → Option LineContent
-some_items items next ws = if length items == 0 then None else next ws
+-- one item or more
+abbrev pub some_items : List ItemContent × WordsLeft → Option (List ItemContent × WordsLeft)
+some_items r = if length r.0 == 0 then None else Some r
+
+-- item .., one or more
+abbrev pub items : Taker (List ItemContent)
+items ws = option_and_then some_items (repeated (codes "item") item 65535 ws)
+
+-- [know ..] item .. [open ..]
+unfoldable pub lists : Taker (List Committed × List ItemContent × List Committed)
+lists =
+    after (listed (codes "know")) λ know.
+    after items λ is.
+    after opened λ openings rest.
+    Some ((know, is, openings), rest)
 
 -- SESSION from ROLE to ROLE [join ..] [know ..] item .. [open ..] seal SOURCE
 unfoldable pub craft_form : WordsLeft → Option LineContent
 craft_form =
     after ends λ e.
     after join λ j.
-    after (listed (codes "know")) λ know.
-    after (repeated (codes "item") item 65535) λ is.
-    some_items is (after opened λ openings.
-    λ ws. option_map (λ seal. MakeLine (record { session = e.0; from = e.1; to = e.2; join = j; know = know; items = is; openings = openings; seal = seal })) (seal_form ws))
+    after lists λ l.
+    λ ws. option_map (λ seal. MakeLine (record { session = e.0; from = e.1; to = e.2; join = j; know = l.0; items = l.1; openings = l.2; seal = seal })) (seal_form ws)
