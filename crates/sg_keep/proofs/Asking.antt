@@ -1,19 +1,14 @@
 -- What a keeper holds before a call, once its node was asked, once the join is kept, and once the turn was played.
-use Rattle.std.proofs.Common.{◌≡◌, ◌⊎◌, ℕ, List, [], ◌++◌, false, length, Option, Some, None, IfSome, Result, Ok, Err, OnOk, refl, sym, ap, ◌∙◌, subst}
+use Rattle.std.proofs.Common.{◌≡◌, ◌⊎◌, inl, inr, ⊎_elim, ℕ, List, [], ◌++◌, false, length, Option, None, IfSome, Result, Ok, Err, OnOk, refl, sym, ap, ◌∙◌, subst}
 use Rattle.std.proofs.lemmas.List.{append-nil}
 use Rattle.sg_report.specs.Outcome.{outcome_of}
 use Rattle.sg_report.specs.declared.outcome.Outcome.{Outcome}
 use Rattle.sg_ledger.specs.Format.{Join, OpenLedger, Represents}
-use Rattle.sg_node.proofs.Life.{pasts_go_on}
-use Rattle.sg_node.specs.Answers.{IsAnsweredPast}
-use Rattle.sg_protocol.specs.Acting.{answer}
-use Rattle.sg_protocol.specs.Calls as Protocol
-use Rattle.sg_protocol.specs.Calls.{Call, Answer}
+use Rattle.sg_protocol.specs.Calls.{Call}
 use Rattle.sg_protocol.specs.Keyring.{Keyring, Program}
-use Rattle.sg_protocol.specs.NodeStates.{NodeState}
-use Rattle.sg_protocol.specs.Past.{Past, node_of, past_after}
+use Rattle.sg_protocol.specs.Past.{Past, past_after}
 use Rattle.sg_protocol.specs.Texts.{real}
-use Rattle.sg_report.specs.Reported.{reported_answer, sid_left}
+use Rattle.sg_report.specs.Reported.{sid_left}
 use Rattle.sg_script.specs.Script.{Choice, Script}
 use Rattle.sg_play.specs.declared.fault.PlayFault.{PlayFault}
 use Rattle.sg_play.specs.declared.fault.PlayFault.TheVariants.{LinkFailed, WriteFailed, OutOfMemory}
@@ -28,26 +23,22 @@ use Rattle.sg_play.proofs.Reporting.{asked_by}
 use Rattle.sg_keep.specs.declared.fault.KeepFault.{KeepFault}
 use Rattle.sg_keep.specs.declared.fault.KeepFault.TheVariants.{Played, DiskFailed}
 use Rattle.sg_keep.specs.declared.keeper.Keeper.{Keeper}
-use Rattle.sg_keep.specs.Joins.{IsNew, join_in, join_reported, joins_made, with_join}
-use Rattle.sg_keep.specs.KeptRuns.{AllRepresent, AreOfJoins, HasKept}
-use Rattle.sg_keep.specs.Representation.{AskedOnce, Progressed, HasAskedNode, HoldsJoins, IsAsked, RepresentsKept}
+use Rattle.sg_joins.specs.Images.{AllRepresent}
+use Rattle.sg_joins.specs.Joins.{IsNew, join_reported, joins_made, with_join}
+use Rattle.sg_joins.proofs.Adding.{working}
+use Rattle.sg_joins.proofs.Asked.{answered_after, joins_after, new_join}
+use Rattle.sg_joins.proofs.NewJoins.{joins_of_node}
+use Rattle.sg_keep.specs.KeptRuns.{AreOfJoins, HasKept}
+use Rattle.sg_keep.specs.Representation.{Progressed, HasAskedNode, HoldsJoins, IsAsked, RepresentsKept}
 use Rattle.sg_keep.proofs.Ending.{IsBetween, end_on, not_kept, played_end, stopped}
 use Rattle.sg_keep.proofs.Going.{Goes, after_call, by_call, by_deliveries, by_starts, in_step_on, joined, quiet_joins, with_call}
-use Rattle.sg_keep.proofs.NewJoins.{any_call, joins_of_node, joins_with}
 use Rattle.sg_keep.proofs.Owning.{OwnsAll, none_sent, owned_past, sent_more}
-
--- an opened ledger that works, with these joins
-abbrev pub working : List Join → OpenLedger
-working joins = record { joins = joins; failed = false }
 
 -- ---- the node was asked
 
-abbrev pub asked_once : (old new : NodeState) (past : Past) (c : Call) (o : Outcome) → IsAnsweredPast past → IsAskedOfNode 0 old new past c o None → AskedOnce new o
-asked_once old new past c o answered came = record { past = past; call = c; number = 0; range = came.range; answered_before = answered; represents = came.goes_on.represents; is_reported = came.is_reported }
-
 pub asked_node : (k : Keeper) (pl : Player) (may_leave : List ℕ → Type 0) (c : Call) (o : Outcome) (h : HoldsJoins k may_leave) → IsAskedOfNode 0 k.player.node pl.node h.past c o None → HasAskedNode (record k { player = pl }) may_leave o
 asked_node k pl may_leave c o h came = record {
-  asked = asked_once k.player.node pl.node h.past c o h.answered came;
+  asked = record { past = h.past; call = c; number = 0; range = came.range; answered_before = h.answered; represents = came.goes_on.represents; is_reported = came.is_reported };
   ledger = h.ledger ∙ ap working h.represents.joins;
   images = subst (AllRepresent may_leave) h.represents.joins h.images;
 }
@@ -65,29 +56,6 @@ is_asked k pl may_leave p c o h s is its_asked stays = record {
 
 -- ---- the join of the outcome
 
-reported_join : (n : ℕ) (a : Answer) → join_reported (reported_answer n a) ≡ join_in a
-reported_join n (Protocol.Happened e) = refl
-reported_join n other = refl
-
-module _ {node : NodeState} {o : Outcome} (h : AskedOnce node o) where
-  join_is : (r : Option Join) → r ≡ join_reported (outcome_of o) → r ≡ join_in (answer real (node_of h.past) h.call)
-  join_is r e = e ∙ ap join_reported h.is_reported ∙ reported_join h.number (answer real (node_of h.past) h.call)
-
-  -- a pair that joins is new to the joins from before
-  pub new_join : IfSome (join_reported (outcome_of o)) (IsNew (node_of h.past).joins)
-  new_join = by (join_reported (outcome_of o)) refl
-    where
-      by : (r : Option Join) → r ≡ join_reported (outcome_of o) → IfSome r (IsNew (node_of h.past).joins)
-      by None e = tt
-      by (Some j) e = (any_call real (node_of h.past) h.call h.range).1 j (sym (join_is (Some j) e))
-
-  -- the node's joins are these with it
-  pub joins_after : node.joins ≡ with_join (node_of h.past).joins (join_reported (outcome_of o))
-  joins_after = h.represents.joins ∙ joins_with h.past h.call h.range ∙ ap (with_join (node_of h.past).joins) (sym (join_is (join_reported (outcome_of o)) refl))
-
-  pub answered_after : IsAnsweredPast (past_after real h.past h.call)
-  answered_after = pasts_go_on h.past h.call h.answered_before h.range
-
 module _ (k : Keeper) (may_leave : List ℕ → Type 0) (o : Outcome) (h : HasAskedNode k may_leave o) where
   pub is_new : IfSome (join_reported (outcome_of o)) (IsNew k.ledger.joins)
   is_new = subst (λ (l : OpenLedger). IfSome (join_reported (outcome_of o)) (IsNew l.joins)) (sym h.ledger) (new_join h.asked)
@@ -102,6 +70,11 @@ module _ (k : Keeper) (may_leave : List ℕ → Type 0) (o : Outcome) (h : HasAs
   pub node_joins : (r : Option Join) → r ≡ join_reported (outcome_of o) → k.player.node.joins ≡ with_join k.ledger.joins r
   node_joins r e = joins_after h.asked ∙ (λ i. with_join (sym (ap (λ (o : OpenLedger). o.joins) h.ledger) i) (sym e i))
 
+  -- it was not kept: the images have it or not
+  pub kept_or_not : (now_leaves : List ℕ → Type 0) → ((image : List ℕ) → now_leaves image → Represents image k.ledger.joins ⊎ Represents image (with_join k.ledger.joins (join_reported (outcome_of o))))
+      → (image : List ℕ) → now_leaves image → Represents image k.ledger.joins ⊎ Represents image k.player.node.joins
+  kept_or_not now_leaves between image left = ⊎_elim (λ s. inl s) (λ s. inr (subst (Represents image) (sym (node_joins (join_reported (outcome_of o)) refl)) s)) (between image left)
+
   -- the ledger has it
   pub holds_after : (l : OpenLedger) (now_leaves : List ℕ → Type 0) (r : Option Join) → r ≡ join_reported (outcome_of o) → l ≡ working (with_join k.ledger.joins r) → AllRepresent now_leaves l.joins → HoldsJoins (record k { ledger = l }) now_leaves
   holds_after l now_leaves r e is all = record {
@@ -114,7 +87,7 @@ module _ (k : Keeper) (may_leave : List ℕ → Type 0) (o : Outcome) (h : HasAs
 
 -- ---- the call is reported
 
-module _ (start now : Outside) (may_leave : List ℕ → Type 0) (k : Keeper) (p : Play) (c : Call) (o : Outcome) (a : IsAsked k p c o) where
+module _ (k : Keeper) (p : Play) (c : Call) (o : Outcome) (a : IsAsked k p c o) where
   -- the joins of the ledger, and those of the node with the call
   pub ledger_has : k.ledger.joins ≡ p.past.first ++ joins_made p.past.calls
   ledger_has = a.ledger ∙ joins_of_node p.past a.answered_before
@@ -122,16 +95,17 @@ module _ (start now : Outside) (may_leave : List ℕ → Type 0) (k : Keeper) (p
   pub node_has : k.player.node.joins ≡ (called p c).past.first ++ joins_made (called p c).past.calls
   node_has = a.asked.node.joins ∙ joins_of_node (past_after real p.past c) a.asked.answered_past
 
+module _ (start now : Outside) (may_leave : List ℕ → Type 0) (k : Keeper) (p : Play) (c : Call) (o : Outcome) (a : IsAsked k p c o) where
   -- its join was not kept
   pub unkept : (f : KeepFault) → IsBetween f → ((image : List ℕ) → may_leave image → Represents image k.ledger.joins ⊎ Represents image k.player.node.joins) → Whole start now p.steps → HasKept start now may_leave (with_turn p c) (Err f)
   unkept f causes images w =
       end_on start now may_leave (called p c) (with_turn p c) f (after_call p c).0
-      (not_kept start now may_leave p c f k.ledger.joins k.player.node.joins causes a.in_step a.sent ledger_has node_has images w)
+      (not_kept start now may_leave p c f k.ledger.joins k.player.node.joins causes a.in_step a.sent (ledger_has k p c o a) (node_has k p c o a) images w)
 
   -- its join is kept
   module _ (m : Keeper) (same : m.player ≡ k.player) (h : HoldsJoins m may_leave) where
     all : AllRepresent may_leave ((called p c).past.first ++ joins_made (called p c).past.calls)
-    all = subst (AllRepresent may_leave) (ap (λ (pl : Player). pl.node.joins) same ∙ node_has) h.images
+    all = subst (AllRepresent may_leave) (ap (λ (pl : Player). pl.node.joins) same ∙ node_has k p c o a) h.images
 
     owns : OwnsAll (called p c)
     owns = record { live = owned_past (past_after real p.past c) a.asked.answered_past; sent = sent_more p c (record { live = owned_past p.past a.answered_before; sent = a.sent }) }
@@ -219,13 +193,6 @@ not_begun start may_leave keys programs first script deliveries random all f e =
     (stopped start start may_leave begun refl (none_sent []) (subst (AllRepresent may_leave) (sym (append-nil first)) all) (whole_none start)))
 
 -- ---- a play ends
-
--- it ended early in its starts
-pub starts_ended : (start now : Outside) (may_leave : List ℕ → Type 0) (keys : Keyring) (programs : List Program) (first : List Join) (script : Script) (deliveries random : List (List ℕ)) (f : KeepFault)
-    → HasKept start now may_leave (all_starts (beginning keys programs first script.choices random) script.starts) (Err f) → HasKept start now may_leave (played keys programs first script deliveries random) (Err f)
-starts_ended start now may_leave keys programs first script deliveries random f h =
-    let started = all_starts (beginning keys programs first script.choices random) script.starts in
-    end_on start now may_leave started (all_deliveries started deliveries) f (by_deliveries started deliveries) h
 
 -- what was given and kept at its end
 pub came_kept : (start now : Outside) (may_leave : List ℕ → Type 0) (k : Keeper) (random : Option (List (List ℕ))) (p : Play) (r : Result (Unit {0}) KeepFault) → OnOk r (HoldsJoins k may_leave) → Progressed start now may_leave k random p r → HasKept start now may_leave p r

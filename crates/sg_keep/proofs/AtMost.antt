@@ -15,8 +15,9 @@ use Rattle.sg_play.specs.Played.{Play, all_deliveries, all_starts, answer_in, be
 use Rattle.sg_play.specs.Steps.{Step, lines_of}
 use Rattle.sg_play.proofs.Endings.{appends_more, appends_none}
 use Rattle.sg_play.proofs.Looping.{taken_part}
-use Rattle.sg_keep.specs.Joins.{join_in, joins_made}
-use Rattle.sg_keep.specs.KeptRuns.{AllRepresent, KeptThroughout, LeavesAtMost, RepresentsAtMost, RepresentsEither}
+use Rattle.sg_joins.specs.Joins.{join_in, joins_made}
+use Rattle.sg_joins.specs.Images.{AllRepresent, RepresentsEither}
+use Rattle.sg_keep.specs.KeptRuns.{KeptThroughout, LeavesAtMost, RepresentsAtMost}
 use Rattle.sg_keep.specs.Representation.{KeptFrom}
 use Rattle.sg_keep.proofs.Going.{Goes, after_call, by_deliveries, by_starts, deliveries_on, joined, nothing, with_call}
 use Rattle.sg_keep.proofs.Owning.{made_by}
@@ -130,6 +131,16 @@ module _ {D : Type 0} (moment : D → ℕ) (left_since : D → ℕ → List ℕ 
   leaves_then old mid new p q g n m few le first second =
       chained moment left_since old mid new (RepresentsAtMost p.past.first p.past.calls n) (RepresentsAtMost q.past.first q.past.calls m) (RepresentsAtMost q.past.first q.past.calls m) first second (at_most_on p q g n m few le) (λ image s. s)
 
+  -- a call or a start more
+  pub leaves_next : (old mid new : D) (q n z : Play) → n ≡ z → Goes q n → LeavesAtMost moment left_since old mid q (length q.past.calls) → LeavesAtMost moment left_since mid new n (length q.past.calls)
+      → LeavesAtMost moment left_since old new z (length z.past.calls)
+  leaves_next old mid new q n z is g first second =
+      let few = no_fewer_calls q n g in
+      let before = length q.past.calls in
+      let after = length n.past.calls in
+      subst (λ (x : Play). LeavesAtMost moment left_since old new x (length x.past.calls)) is
+      (leaves_then old mid new q n g before after (omega arith) few first (leaves_on mid new n n (nothing n) before after few few second))
+
   -- ---- what was written
 
   -- a play came to one, and more was written
@@ -145,6 +156,14 @@ module _ {D : Type 0} (moment : D → ℕ) (left_since : D → ℕ → List ℕ 
     },
     no_fewer_steps p q f,
   )
+
+  -- so if a call or a start more ended early
+  pub kept_early : (old mid new : D) (start middle now : Option (List ℕ)) (p q n z r : Play) → n ≡ z → Goes p q → Goes q n → Goes z r → Goes q r → length q.steps ≡ length q.past.calls → Appends start middle (lines_of q.steps)
+      → ((rest : List ℕ) × Appends middle now rest) → LeavesAtMost moment left_since old mid q (length q.past.calls) → LeavesAtMost moment left_since mid new n (length q.past.calls) → KeptFrom moment left_since old new start now p r
+  kept_early old mid new start middle now p q n z r is f g on h in_step whole more first second =
+      let before = length q.past.calls in
+      kept_by old new start middle now p q r f h in_step whole more
+      (leaves_on old new n r (subst (λ (x : Play). Goes x r) (sym is) on) before before (no_fewer_calls q n g) (omega arith) (leaves_then old mid new q n g before before (omega arith) (omega arith) first second))
 
   -- and nothing more
   pub kept_at : (old new : D) (start now : Option (List ℕ)) (p q r : Play) → Goes p q → Goes q r → length q.steps ≡ length q.past.calls → Appends start now (lines_of q.steps) → LeavesAtMost moment left_since old new q (length q.past.calls)

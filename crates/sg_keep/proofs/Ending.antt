@@ -13,8 +13,9 @@ use Rattle.sg_play.specs.Steps.{Step, frames_of}
 use Rattle.sg_keep.specs.declared.fault.KeepFault.{KeepFault}
 use Rattle.sg_keep.specs.declared.fault.KeepFault.TheVariants.{Played, DiskFailed}
 use Rattle.sg_keep.specs.declared.keeper.Keeper.{Keeper}
-use Rattle.sg_keep.specs.Joins.{joins_made}
-use Rattle.sg_keep.specs.KeptRuns.{AllRepresent, AreOfJoins, KeepsFirst, HasKept, KeptBegun, KeptPrefix, RepresentsFirst}
+use Rattle.sg_joins.specs.Joins.{joins_made}
+use Rattle.sg_joins.specs.Images.{AllRepresent}
+use Rattle.sg_keep.specs.KeptRuns.{AreOfJoins, KeepsFirst, HasKept, KeptBegun, KeptPrefix, RepresentsFirst}
 use Rattle.sg_keep.specs.Representation.{Progressed}
 use Rattle.sg_keep.proofs.Going.{Goes, by_call}
 use Rattle.sg_keep.proofs.Owning.{made_by, of_first_steps, of_more, of_step_more}

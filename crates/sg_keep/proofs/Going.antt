@@ -13,8 +13,8 @@ use Rattle.sg_play.specs.Played.{Play, abandons, act_by, all_deliveries, all_sta
 use Rattle.sg_play.specs.Steps.{Step}
 use Rattle.sg_play.proofs.Extends.{deliveries_both, over_deliveries, over_given, over_starts, starts_both}
 use Rattle.sg_play.proofs.Looping.{taken_part, whole_part}
-use Rattle.sg_keep.specs.Joins.{join_in, joins_made}
-use Rattle.sg_keep.proofs.NewJoins.{turns_join_none}
+use Rattle.sg_joins.specs.Joins.{join_in, joins_made}
+use Rattle.sg_joins.proofs.NewJoins.{turns_join_none}
 use Rattle.sg_keep.proofs.Owning.{OwnsAll, owns_on}
 use Rattle.std.specs.Prelude.{take, ◌≤◌}
 

@@ -1,11 +1,9 @@
-pub mod NewJoins
 pub mod Going
 pub mod Ending
 pub mod Counting
-pub mod Adding
 pub mod Asking
 pub mod Owning
-pub mod Reading
 pub mod Moments
 pub mod Silent
 pub mod AtMost
+pub mod Keeping

@@ -1,19 +1,14 @@
 -- What the images of a disk represent at each moment of a play.
-use Rattle.std.proofs.Common.{◌≡◌, ℕ, List, [], ◌∷◌, ◌++◌, Option, Some, None, Result, Ok, Err, OnOk, inl, ⊎_elim, refl, sym, ap, ◌∙◌, subst, append_assoc}
+use Rattle.std.proofs.Common.{◌≡◌, ℕ, List, [], ◌∷◌, ◌++◌, Option, Some, None, Result, Ok, Err, OnOk, ⊎_elim, refl, sym, ap, ◌∙◌, subst, append_assoc}
 use Rattle.std.proofs.lemmas.List.{append-nil}
-use Rattle.sg_report.specs.Outcome.{outcome_of}
-use Rattle.sg_report.specs.declared.outcome.Outcome.{Outcome}
 use Rattle.sg_ledger.specs.Disk.{LeavesOnly}
 use Rattle.sg_ledger.specs.Format.{Join, OpenLedger, Represents}
 use Rattle.sg_ledger.proofs.Moments.{chained, started, weakened}
 use Rattle.sg_keep.specs.declared.keeper.Keeper.{Keeper}
-use Rattle.sg_keep.specs.Joins.{join_reported, with_join}
-use Rattle.sg_keep.specs.KeptRuns.{AllRepresent, RepresentsEither, RepresentsMore}
+use Rattle.sg_joins.specs.Images.{AllRepresent, RepresentsEither}
+use Rattle.sg_joins.specs.Joins.{with_join}
+use Rattle.sg_keep.specs.KeptRuns.{RepresentsMore}
 use Rattle.sg_keep.specs.Representation.{HasMore, HoldsJoins}
-use Rattle.sg_play.specs.Asking.{IsAsked}
-use Rattle.sg_play.specs.declared.player.Player.{Player}
-use Rattle.sg_protocol.specs.Calls.{Call}
-use Rattle.sg_keep.proofs.Asking.{asked_node, node_joins}
 
 -- ---- joins, and then others
 
@@ -43,12 +38,6 @@ represents_either a b f image h = ⊎_elim (λ s. represents_all a image s) (λ 
 pub all_held : (k : Keeper) (may_leave : List ℕ → Type 0) → HoldsJoins k may_leave → AllRepresent may_leave k.ledger.joins
 all_held k may_leave h = subst (λ (l : OpenLedger). AllRepresent may_leave l.joins) (sym h.ledger) h.images
 
--- a node that was asked has these, and then what the call joined
-pub asked_more : (k : Keeper) (pl : Player) (may_leave : List ℕ → Type 0) (c : Call) (o : Outcome) (h : HoldsJoins k may_leave) → IsAsked 0 k.player.node pl.node h.past c o None → HasMore k.ledger.joins pl.node.joins
-asked_more k pl may_leave c o h came =
-    let join = join_reported (outcome_of o) in
-    subst (HasMore k.ledger.joins) (sym (node_joins (record k { player = pl }) may_leave o (asked_node k pl may_leave c o h came) join refl)) (more_with k.ledger.joins join)
-
 -- ---- over calls of a disk
 
 module _ {D : Type 0} (moment : D → ℕ) (left_since : D → ℕ → List ℕ → Type 0) where
@@ -56,9 +45,6 @@ module _ {D : Type 0} (moment : D → ℕ) (left_since : D → ℕ → List ℕ 
   module _ (disk : D) (may_leave : List ℕ → Type 0) (only_now : (image : List ℕ) → left_since disk (moment disk) image → may_leave image) (joins : List Join) (all : AllRepresent may_leave joins) where
     pub not_asked : LeavesOnly moment left_since disk disk (RepresentsMore joins)
     not_asked = started moment left_since disk (RepresentsMore joins) (λ image left. represents_all joins image (all image (only_now image left)))
-
-    pub not_asked_either : (after : List Join) → LeavesOnly moment left_since disk disk (RepresentsEither joins after)
-    not_asked_either after = started moment left_since disk (RepresentsEither joins after) (λ image left. inl (all image (only_now image left)))
 
   -- the joins after a call are more
   pub either_more : (old new : D) (before after : List Join) → HasMore before after → LeavesOnly moment left_since old new (RepresentsEither before after) → LeavesOnly moment left_since old new (RepresentsMore before)
@@ -68,8 +54,3 @@ module _ {D : Type 0} (moment : D → ℕ) (left_since : D → ℕ → List ℕ 
   pub more_on : (old mid new : D) (before now : List Join) → HasMore before now → LeavesOnly moment left_since old mid (RepresentsMore before) → LeavesOnly moment left_since mid new (RepresentsMore now)
       → LeavesOnly moment left_since old new (RepresentsMore before)
   more_on old mid new before now f g h = chained moment left_since old mid new (RepresentsMore before) (RepresentsMore now) (RepresentsMore before) g h (λ image s. s) (represents_more before now f)
-
--- the ledger has more joins, if a call was answered so
-pub more_on_ok : {T E : Type 0} (r : Result T E) (before after now : List Join) → HasMore before after → OnOk r (now ≡ after) → OnOk r (HasMore before now)
-more_on_ok (Ok v) before after now f e = subst (HasMore before) (sym e) f
-more_on_ok (Err fault) before after now f e = tt

@@ -38,9 +38,10 @@ use Rattle.sg_protocol.specs.Sending.{frame_sent}
 use Rattle.sg_protocol.specs.Spelling.{spelling}
 use Rattle.sg_protocol.specs.Texts.{Hash, real, session_id}
 use Rattle.sg_protocol.specs.Verdict.{decided, receipt, rows, verdict_on}
-use Rattle.sg_keep.specs.Joins.{join_in, joins_made, with_join}
-use Rattle.sg_keep.specs.KeptRuns.{AreOfJoins, IsOfJoin}
-use Rattle.sg_keep.proofs.NewJoins.{IsOfTurn, any_call, turns_join_none}
+use Rattle.sg_joins.specs.Joins.{join_in, joins_made, with_join}
+use Rattle.sg_joins.specs.Joins.{IsOfJoin}
+use Rattle.sg_keep.specs.KeptRuns.{AreOfJoins}
+use Rattle.sg_joins.proofs.NewJoins.{IsOfTurn, any_call, turns_join_none}
 
 -- ---- what a call adds to the joins, whatever these are
 

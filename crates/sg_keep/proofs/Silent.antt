@@ -10,7 +10,7 @@ use Rattle.sg_play.proofs.Endings.{appends_none}
 use Rattle.sg_keep.specs.declared.fault.KeepFault.{KeepFault}
 use Rattle.sg_keep.specs.declared.fault.KeepFault.TheVariants.{Played, DiskFailed}
 use Rattle.sg_keep.specs.declared.keeper.Keeper.{Keeper}
-use Rattle.sg_keep.specs.Joins.{joins_made}
+use Rattle.sg_joins.specs.Joins.{joins_made}
 use Rattle.sg_keep.specs.KeptRuns.{AreOfJoins, HasKept}
 use Rattle.sg_keep.specs.Representation.{RepresentsKept}
 

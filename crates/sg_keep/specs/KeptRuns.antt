@@ -1,5 +1,5 @@
 -- What a play over a ledger has given the outside and what it has kept, where it ended.
-use Rattle.std.specs.Prelude.{◌≡◌, ◌⊎◌, ◌≤◌, ◌+◌, ℕ, List, ◌++◌, length, take, Option, Result, Ok, Err, All, Contains}
+use Rattle.std.specs.Prelude.{◌≡◌, ◌≤◌, ◌+◌, ℕ, List, ◌++◌, length, take, Option, Result, Ok, Err, All}
 use Rattle.sg_base.specs.declared.address.Addr.{Addr}
 use Rattle.sg_base.specs.Outside.{Appends}
 use Rattle.sg_ledger.specs.Disk.{LeavesOnly}
@@ -8,30 +8,17 @@ use Rattle.sg_play.specs.Ends.{Begun, Outside, Whole, WholePrefix}
 use Rattle.sg_play.specs.Played.{Play}
 use Rattle.sg_play.specs.Steps.{frames_of, lines_of}
 use Rattle.sg_play.specs.declared.fault.PlayFault.TheVariants.{LinkFailed, WriteFailed, OutOfMemory}
-use Rattle.sg_protocol.specs.Frame.{Frame}
 use Rattle.sg_protocol.specs.Past.{AnsweredCall}
-use Rattle.sg_protocol.specs.Spelling.{spelling}
-use Rattle.sg_keep.specs.Joins.{joins_made}
+use Rattle.sg_joins.specs.Images.{AllRepresent}
+use Rattle.sg_joins.specs.Joins.{IsOfJoin, joins_made}
 use Rattle.sg_keep.specs.declared.fault.KeepFault.{KeepFault}
 use Rattle.sg_keep.specs.declared.fault.KeepFault.TheVariants.{Played, DiskFailed}
-
--- each image, what a crash may leave of the disk, represents these joins
-abbrev pub AllRepresent : (may_leave : List ℕ → Type 0) → List Join → Type 0
-AllRepresent may_leave joins = (image : List ℕ) → may_leave image → Represents image joins
 
 -- a file represents these joins, and then others
 abbrev pub RepresentsMore : List Join → (image : List ℕ) → Type 0
 RepresentsMore joins image = (more : List Join) × Represents image (joins ++ more)
 
--- a file represents the joins from before a call, or those from after it
-abbrev pub RepresentsEither : (before after : List Join) → (image : List ℕ) → Type 0
-RepresentsEither before after image = Represents image before ⊎ Represents image after
-
--- these bytes are a frame whose session and sender are one of these joins
-abbrev pub IsOfJoin : List Join → (bytes : List ℕ) → Type 0
-IsOfJoin joins bytes = (f : Frame) × (bytes ≡ spelling f) × Contains joins (f.sid, f.sender)
-
--- so is each of these frames, which stand beside the addresses that they go to
+-- each of these frames, which stand beside the addresses that they go to, is of one of these joins
 abbrev pub AreOfJoins : List Join → (frames : List (Addr × List ℕ)) → Type 0
 AreOfJoins joins frames = All (λ x. IsOfJoin joins x.1) frames
 

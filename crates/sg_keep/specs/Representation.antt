@@ -6,17 +6,15 @@ use Rattle.sg_play.specs.Ends.{Outside, Whole}
 use Rattle.sg_play.specs.Played.{Play}
 use Rattle.sg_play.specs.Representation.{HasAsked, RepresentsPlay}
 use Rattle.sg_play.specs.Steps.{frames_of}
-use Rattle.sg_protocol.specs.Acting.{answer}
 use Rattle.sg_protocol.specs.Calls.{Call}
-use Rattle.sg_protocol.specs.NodeStates.{NodeState, RepresentsPast}
-use Rattle.sg_protocol.specs.Past.{Past, node_of, past_after}
-use Rattle.sg_protocol.specs.Ranges.{IsCallInRange}
-use Rattle.sg_protocol.specs.Texts.{real}
-use Rattle.sg_report.specs.Outcome.{outcome_of}
-use Rattle.sg_report.specs.Reported.{reported_answer, sid_left}
+use Rattle.sg_protocol.specs.NodeStates.{RepresentsPast}
+use Rattle.sg_protocol.specs.Past.{Past, node_of}
+use Rattle.sg_report.specs.Reported.{sid_left}
 use Rattle.sg_report.specs.declared.outcome.Outcome.{Outcome}
-use Rattle.sg_keep.specs.Joins.{joins_made}
-use Rattle.sg_keep.specs.KeptRuns.{AllRepresent, AreOfJoins, HasKept, KeptThroughout}
+use Rattle.sg_joins.specs.Asked.{AskedOnce}
+use Rattle.sg_joins.specs.Images.{AllRepresent}
+use Rattle.sg_joins.specs.Joins.{joins_made}
+use Rattle.sg_keep.specs.KeptRuns.{AreOfJoins, HasKept, KeptThroughout}
 use Rattle.sg_keep.specs.declared.fault.KeepFault.{KeepFault}
 use Rattle.sg_keep.specs.declared.keeper.Keeper.{Keeper}
 
@@ -28,17 +26,7 @@ pub record HoldsJoins (k : Keeper) (may_leave : List ℕ → Type 0) : Type 0 wh
   pub ledger : k.ledger ≡ record { joins = k.player.node.joins; failed = false }
   pub images : AllRepresent may_leave k.player.node.joins
 
--- a node has been asked one more call after a valid past, and this is the outcome
-pub record AskedOnce (node : NodeState) (outcome : Outcome) : Type 0 where
-  pub past : Past
-  pub call : Call
-  pub number : ℕ
-  pub range : IsCallInRange call
-  pub answered_before : IsAnsweredPast past
-  pub represents : RepresentsPast node (past_after real past call)
-  pub is_reported : outcome_of outcome ≡ reported_answer number (answer real (node_of past) call)
-
--- so has the keeper's node; the ledger has the joins from before
+-- the keeper's node has been asked one more call, and this is the outcome; the ledger has the joins from before
 pub record HasAskedNode (k : Keeper) (may_leave : List ℕ → Type 0) (outcome : Outcome) : Type 0 where
   pub asked : AskedOnce k.player.node outcome
   pub ledger : k.ledger ≡ record { joins = (node_of asked.past).joins; failed = false }

@@ -2,10 +2,7 @@
 //!
 //! It plays as `sg_play` says, by a node that joined before what the ledger has. For each call that joins, the pair of session and role
 //! stands in the ledger before the line of the call is written, and before any turn of the session: so before any frame of the session
-//! is given to the link. If a ledger can't take a pair, the play ends there. That the pair is in the ledger already, or that the ledger
-//! is full, never happens, since the ledger has the joins of the node before each call.
-//!
-//! Who has an order of its own adds the join of a call by `add_join` before it writes or sends anything of the call.
+//! is given to the link (`sg_joins`). If a ledger can't take a pair, the play ends there.
 //!
 //! At each moment of the call a crash leaves a file that represents the joins that the ledger was opened with, and then others, whatever is
 //! known of link and random bytes (`any_moment`). If these are known, the others are those of the first calls of the play
@@ -17,12 +14,8 @@
 #![tactic(auto)]
 
 mod fault;
-mod join;
 mod keeper;
-mod laws;
 mod run;
 
 pub use fault::KeepFault;
-pub use keeper::add_join;
-pub use laws::{frames_show_their_joins, joins_of_a_node};
 pub use run::keep;

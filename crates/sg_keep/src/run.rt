@@ -7,7 +7,8 @@ ghost use Rattle.sg_protocol.specs.Calls.{Deliver};
 ghost use Rattle.sg_script.specs.Script.{IsScript, IsStart};
 ghost use Rattle.sg_keep.specs.Around.{KeepsBound};
 ghost use Rattle.sg_keep.specs.Faults.{CountsFaults};
-ghost use Rattle.sg_keep.specs.KeptRuns.{AllRepresent, HasKept, KeptThroughout, LeavesAtMost, RepresentsMore};
+ghost use Rattle.sg_joins.specs.Images.{AllRepresent};
+ghost use Rattle.sg_keep.specs.KeptRuns.{HasKept, KeptThroughout, LeavesAtMost, RepresentsMore};
 ghost use Rattle.sg_keep.specs.Representation.{Progressed, HasMore, HoldsJoins, KeptFrom, RepresentsKept};
 
 use crate::KeepFault;
@@ -15,15 +16,47 @@ use crate::keeper::Keeper;
 use sg_base::{Fresh, Link, LinkFault, Sink};
 use sg_keys::Keyring;
 use sg_ledger::{Disk, Ledger};
-use sg_node::Node;
-use sg_play::{PlayFault, Player};
+use sg_play::PlayFault;
 use sg_program::Programs;
 use sg_script::{Script, ScriptStart};
 use std::alloc::Global;
 
 impl<'p> Keeper<'p> {
-    /// Makes each start of a script in order, and plays the turn that it gives.
-    pub(crate) fn start_all<L: Link, R: Fresh, O: Sink, D: Disk>(
+    /// Makes each start of a script in order, and then takes at most `most` deliveries, up to the link's end. It plays the turn that each gives.
+    fn play<L: Link, R: Fresh, O: Sink, D: Disk>(
+        &mut self,
+        alloc: Global,
+        starts: &[ScriptStart],
+        most: u32,
+        link: &mut L,
+        fresh: &mut R,
+        out: &mut O,
+        disk: &mut D,
+    ) -> Result<(), KeepFault>
+        requires holds { HoldsJoins self.old (D.may_leave disk.old) }
+        requires starts { All (IsStart self.old.player.programs.now) starts.now }
+        ensures link_bound { L.bound link.new ≡ L.bound link.old }
+        ensures disk_bound { D.bound disk.new ≡ D.bound disk.old }
+        ensures faults { CountsFaults (record { link = L.faults link.old; out = O.faults out.old; disk = D.faults disk.old })
+            (record { link = L.faults link.new; out = O.faults out.new; disk = D.faults disk.new }) result }
+        ensures any_moment { LeavesOnly D.moment D.left_since disk.old disk.new (RepresentsMore self.old.ledger.joins) }
+        ensures kept { (p : Play) (start : Outside) (deliveries : List (List ℕ)) → L.deliveries link.old ≡ Some deliveries → RepresentsKept self.old p → R.random fresh.old ≡ Some p.random
+            → Whole start (record { written = O.written out.old; sent = L.sent link.old }) p.steps
+            → HasKept start (record { written = O.written out.new; sent = L.sent link.new }) (D.may_leave disk.new) (all_deliveries (all_starts p starts.now) (take most deliveries)) result }
+        ensures throughout { (p : Play) (start : Outside) (deliveries : List (List ℕ)) → L.deliveries link.old ≡ Some deliveries → RepresentsKept self.old p → R.random fresh.old ≡ Some p.random
+            → Whole start (record { written = O.written out.old; sent = L.sent link.old }) p.steps
+            → KeptThroughout D.moment D.left_since disk.old disk.new start.written (O.written out.new) (all_deliveries (all_starts p starts.now) (take most deliveries)) }
+        ensures left { OnOk result ((deliveries : List (List ℕ)) → L.deliveries link.old ≡ Some deliveries → L.deliveries link.new ≡ Some (drop most deliveries)) }
+        ensures at_most { (deliveries : List (List ℕ)) → L.deliveries link.old ≡ Some deliveries → (n : ℕ) × (n ≤ most) × (L.deliveries link.new ≡ Some (drop n deliveries)) }
+    {
+        match self.start_all(starts, link, fresh, out, disk) {
+            Ok(()) => self.take_all(alloc, most, link, fresh, out, disk),
+            Err(fault) => Err(fault),
+        }
+    }
+
+    // Makes each start of a script in order, and plays the turn that it gives.
+    fn start_all<L: Link, R: Fresh, O: Sink, D: Disk>(
         &mut self,
         starts: &[ScriptStart],
         link: &mut L,
@@ -77,13 +110,17 @@ impl<'p> Keeper<'p> {
     {
         let nonce = fresh.next();
         match self.player.ask_start(start_of, nonce) {
-            Ok(outcome) => self.report(&outcome, link, fresh, out, disk),
+            Ok(outcome) => {
+                let came = self.report(&outcome, link, fresh, out, disk);
+                drop(outcome);
+                came
+            }
             Err(fault) => Err(KeepFault::Played(fault)),
         }
     }
 
-    /// Takes at most `most` deliveries, up to the link's end, and plays the turn that each gives.
-    pub(crate) fn take_all<L: Link, R: Fresh, O: Sink, D: Disk>(
+    // Takes at most `most` deliveries, up to the link's end, and plays the turn that each gives.
+    fn take_all<L: Link, R: Fresh, O: Sink, D: Disk>(
         &mut self,
         alloc: Global,
         most: u32,
@@ -146,7 +183,11 @@ impl<'p> Keeper<'p> {
             → Progressed start (record { written = O.written out.new; sent = L.sent link.new }) (D.may_leave disk.new) self.new (R.random fresh.new) (with_turn p (Deliver bytes.now)) result }
     {
         match self.player.ask_deliver(bytes) {
-            Ok(outcome) => self.report(&outcome, link, fresh, out, disk),
+            Ok(outcome) => {
+                let came = self.report(&outcome, link, fresh, out, disk);
+                drop(outcome);
+                came
+            }
             Err(fault) => Err(KeepFault::Played(fault)),
         }
     }
@@ -198,17 +239,16 @@ pub fn keep<'p, L: Link, R: Fresh, O: Sink, D: Disk>(
     ensures at_most { (deliveries : List (List ℕ)) → L.deliveries link.old ≡ Some deliveries → (n : ℕ) × (n ≤ most) × (L.deliveries link.new ≡ Some (drop n deliveries)) }
 {
     let Script { starts, choices } = script;
-    let Ok(node) = Node::with_joins(alloc, keys_of_node, programs, ledger.joins()) else {
-        return Err(KeepFault::Played(PlayFault::OutOfMemory));
-    };
-    let player = match Player::new(alloc, node, keys, programs, choices) {
-        Ok(player) => player,
-        Err(fault) => return Err(KeepFault::Played(fault)),
-    };
-    let mut keeper = Keeper { player, ledger };
-    match keeper.start_all(starts.as_slice(), link, fresh, out, disk) {
-        Ok(()) => {}
-        Err(fault) => return Err(fault),
+    match Keeper::new(alloc, keys_of_node, keys, programs, choices, ledger) {
+        Ok(mut keeper) => {
+            let came = keeper.play(alloc, starts.as_slice(), most, link, fresh, out, disk);
+            drop(keeper);
+            drop(starts);
+            came
+        }
+        Err(fault) => {
+            drop(starts);
+            Err(KeepFault::Played(fault))
+        }
     }
-    keeper.take_all(alloc, most, link, fresh, out, disk)
 }

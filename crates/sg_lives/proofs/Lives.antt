@@ -2,7 +2,7 @@
 use Rattle.std.specs.Prelude.{◌≡◌, ℕ, zero, suc, ◌≤◌, List, [], ◌∷◌, ◌++◌, map, flat_map, take, length, refl, false, All, IsTrue}
 use Rattle.std.proofs.lemmas.Bool.{cases_lt}
 use Rattle.std.proofs.Common.{inl, inr, ap, sym, ◌∙◌, subst, arith}
-use Rattle.sg_keep.specs.Joins.{joins_made}
+use Rattle.sg_joins.specs.Joins.{joins_made}
 use Rattle.sg_keep.specs.KeptRuns.{RepresentsFirst}
 use Rattle.sg_ledger.specs.Format.{Join, Represents, SlotsRepresent, pairs_of}
 use Rattle.sg_protocol.specs.Calls.{Event, events_of_answer}

@@ -7,7 +7,7 @@ use Rattle.std.proofs.lemmas.List.{length-append, take-append-drop}
 use Rattle.std.proofs.lemmas.List.Concat.{flat_map-append}
 use Rattle.sg_base.specs.declared.address.Addr.{Addr}
 use Rattle.sg_base.specs.Outside.{Appends}
-use Rattle.sg_keep.specs.Joins.{joins_made}
+use Rattle.sg_joins.specs.Joins.{joins_made}
 use Rattle.sg_keep.specs.KeptRuns.{HasKept, KeptPrefix, RepresentsFirst}
 use Rattle.sg_keep.specs.declared.fault.KeepFault.{KeepFault}
 use Rattle.sg_keep.specs.declared.fault.KeepFault.TheVariants.{Played, DiskFailed}

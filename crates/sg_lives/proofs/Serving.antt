@@ -4,7 +4,7 @@ use Rattle.std.proofs.Common.{ap, sym, ◌∙◌, subst, arith, append-nil, appe
 use Rattle.std.proofs.lemmas.List.{length-append, take-append-drop}
 use Rattle.std.proofs.lemmas.List.Concat.{flat_map-append}
 use Rattle.sg_input.specs.Lines.{Line}
-use Rattle.sg_keep.specs.Joins.{joins_made}
+use Rattle.sg_joins.specs.Joins.{joins_made}
 use Rattle.sg_keep.specs.KeptRuns.{RepresentsFirst}
 use Rattle.sg_keep.proofs.Owning.{none_sent}
 use Rattle.sg_ledger.specs.Format.{Join, Represents}

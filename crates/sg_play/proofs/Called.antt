@@ -18,7 +18,7 @@ use Rattle.sg_protocol.specs.Spelling.{spelling}
 use Rattle.sg_protocol.specs.Texts.{real}
 use Rattle.sg_protocol.specs.Named.{graph_of_call}
 use Rattle.sg_node.specs.Answers.{GoesOn, graph_named}
-use Rattle.sg_node.specs.declared.answer.Happened.{Happened as Begun}
+use Rattle.sg_receipt.specs.declared.answer.Happened.{Happened as Begun}
 use Rattle.sg_report.specs.Outcome.{graph_in, outcome_of}
 use Rattle.sg_report.specs.Reported.{Sends, reported_answer}
 use Rattle.sg_report.specs.declared.outcome.Outcome.{Outcome}

@@ -16,7 +16,7 @@ use Rattle.sg_play.specs.Played.{Play, all_deliveries, all_starts, answer_in, be
 use Rattle.sg_play.specs.Representation.{Progressed, RepresentsPlay}
 use Rattle.sg_play.proofs.Coming.{ended_on, failed, no_link, no_memory, no_memory_by}
 use Rattle.sg_play.proofs.Endings.{whole_none}
-use Rattle.sg_play.proofs.Extends.{after_call, by_deliveries, by_starts, joined, with_call}
+use Rattle.sg_play.proofs.Extends.{after_call, by_deliveries, by_starts, joined}
 use Rattle.sg_play.proofs.Looping.{deliveries_on, delivery_next, start_next, starts_on, taken_all}
 
 -- ---- a call
@@ -29,10 +29,6 @@ module _ (start now : Outside) (pl : Player) (random : Option (List (List ℕ)))
   -- the call ended early
   pub call_failed : (r : Result (Unit {0}) PlayFault) (f : PlayFault) → r ≡ Err f → Ended start now (called q c).steps (Err f) → Progressed start now pl random (with_turn q c) r
   call_failed r f e h = failed start now pl random (with_turn q c) r f e (ended_on start now (called q c) (with_turn q c) f (after_call q c) h)
-
-  -- memory ran out for it
-  pub call_full : (r : Result (Unit {0}) PlayFault) (f : PlayFault) → r ≡ Err f → f ≡ OutOfMemory → Whole start now q.steps → Progressed start now pl random (with_turn q c) r
-  call_full r f e is w = failed start now pl random (with_turn q c) r f e (no_memory_by start now q (with_turn q c) f is (with_call q c) w)
 
 -- ---- a start
 
@@ -104,19 +100,9 @@ module _ {old : Option (List (Addr × List ℕ))} (start : Outside) (pl : Player
 
 -- ---- a play
 
-module _ (start now : Outside) (keys : Keyring) (programs : List Program) (first : List (List ℕ × ℕ)) (script : Script) (deliveries random : List (List ℕ)) where
-  -- memory ran out before its first step
-  pub not_begun : (r : Result (Unit {0}) PlayFault) (f : PlayFault) → r ≡ Err f → f ≡ OutOfMemory → now ≡ start → Ended start now (played keys programs first script deliveries random).steps r
-  not_begun r f e is same =
-      let begun = beginning keys programs first script.choices random in
-      let started = all_starts begun script.starts in
-      let ended : Ended start now (played keys programs first script deliveries random).steps (Err f) =
-      no_memory_by start now begun (all_deliveries started deliveries) f is (joined begun started (all_deliveries started deliveries) (by_starts begun script.starts) (by_deliveries started deliveries)) (subst (λ (o : Outside). Whole start o []) (sym same) (whole_none start)) in
-      subst (λ (z : Result (Unit {0}) PlayFault). Ended start now (played keys programs first script deliveries random).steps z) (sym e) ended
-
-  -- it ended early in its starts
-  pub starts_failed : (pl : Player) (left : Option (List (List ℕ))) (r : Result (Unit {0}) PlayFault) (f : PlayFault) → r ≡ Err f → Progressed start now pl left (all_starts (beginning keys programs first script.choices random) script.starts) (Err f)
-      → Ended start now (played keys programs first script deliveries random).steps r
-  starts_failed pl left r f e h =
-      let started = all_starts (beginning keys programs first script.choices random) script.starts in
-      subst (λ (z : Result (Unit {0}) PlayFault). Ended start now (played keys programs first script deliveries random).steps z) (sym e) (ended_on start now started (all_deliveries started deliveries) f (by_deliveries started deliveries) h)
+-- memory ran out before its first step
+pub not_begun : (start : Outside) (keys : Keyring) (programs : List Program) (first : List (List ℕ × ℕ)) (script : Script) (deliveries random : List (List ℕ)) (f : PlayFault) → f ≡ OutOfMemory → Ended start start (played keys programs first script deliveries random).steps (Err f)
+not_begun start keys programs first script deliveries random f is =
+    let begun = beginning keys programs first script.choices random in
+    let started = all_starts begun script.starts in
+    no_memory_by start start begun (all_deliveries started deliveries) f is (joined begun started (all_deliveries started deliveries) (by_starts begun script.starts) (by_deliveries started deliveries)) (whole_none start)

@@ -5,7 +5,7 @@ use Rattle.sg_protocol.specs.Calls as Protocol
 use Rattle.sg_protocol.specs.Calls.{Answer}
 use Rattle.sg_report.specs.declared.outcome.Outcome.{Outcome}
 use Rattle.sg_report.specs.declared.outcome.Outcome.TheVariants as held
-use Rattle.sg_node.specs.declared.answer.Happened.{Happened as Begun}
+use Rattle.sg_receipt.specs.declared.answer.Happened.{Happened as Begun}
 use Rattle.sg_report.specs.Outcome.{outcome_of}
 use Rattle.sg_report.specs.Reported.{Reported, Sends, reported_answer}
 use Rattle.sg_walk.specs.Model.{event_of}

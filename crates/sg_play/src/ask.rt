@@ -80,10 +80,14 @@ pub(crate) fn ask_act<'p>(
 {
     let count = *frames;
     let number = next_frame(count);
-    let (outcome, sealed) = ask_numbered(alloc, node, sid, label, values, confounders, number)?;
-    let frame = addressed(keys, sealed);
-    *frames = with_made(count, &frame);
-    Ok((outcome, frame))
+    match ask_numbered(alloc, node, sid, label, values, confounders, number) {
+        Ok((outcome, sealed)) => {
+            let frame = addressed(keys, sealed);
+            *frames = with_made(count, &frame);
+            Ok((outcome, frame))
+        }
+        Err(fault) => Err(fault),
+    }
 }
 
 // The next frame's number.

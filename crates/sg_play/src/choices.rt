@@ -1,6 +1,5 @@
 //! The choices of a script that can still be taken, found without a scan.
 ghost use Rattle.std.specs.Prelude.{◌≡◌, ℕ, ◌<◌, ◌≤◌, ◌++◌, [], ◌∷◌, List, length, nat_lt, slice_get, if◌then◌else◌, find, IfOk, OnOk};
-ghost use Rattle.std.specs.Map.{lookup, set_value};
 ghost use Rattle.std.specs.Option.{option_copied};
 ghost use Rattle.sg_model.specs.Names.{Name};
 ghost use Rattle.sg_script.specs.Script.{Choice};
@@ -8,7 +7,7 @@ ghost use Rattle.sg_play.specs.Choosing.{is_ready, used};
 ghost use Rattle.sg_play.specs.Queues.{Spot, is_spot, queue_at, used_first, HoldsChoices};
 
 use indexmap::IndexMap;
-use sg_base::{Name, NodeId, OutOfMemory, Seq};
+use sg_base::{Name, NodeId, OutOfMemory};
 use sg_script::ScriptChoice;
 use std::alloc::Global;
 use std::marker::Model;

@@ -22,8 +22,30 @@ use sg_script::{Script, ScriptStart};
 use std::alloc::Global;
 
 impl<'p> Player<'p> {
-    /// Makes each start of a script in order, and plays the turn that it gives.
-    pub(crate) fn start_all<L: Link, R: Fresh, O: Sink>(
+    // Makes each start of a script, and then takes at most `most` deliveries, and plays the turn that each gives.
+    fn play_all<L: Link, R: Fresh, O: Sink>(
+        &mut self,
+        starts: &[ScriptStart],
+        most: u32,
+        link: &mut L,
+        fresh: &mut R,
+        out: &mut O,
+    ) -> Result<(), PlayFault>
+        requires { All (IsStart self.old.programs.now) starts.now }
+        ensures link_bound { L.bound link.new ≡ L.bound link.old }
+        ensures faults { CountsFaults (counts_of L.Link O.Sink link.old out.old) (counts_of L.Link O.Sink link.new out.new) result }
+        ensures progress { (deliveries : List (List ℕ)) → L.deliveries link.old ≡ Some deliveries
+            → Progresses (λ p. all_deliveries (all_starts p starts.now) (take most deliveries)) self.old self.new (R.random fresh.old) (R.random fresh.new)
+            (outside_of L.Link O.Sink link.old out.old) (outside_of L.Link O.Sink link.new out.new) result }
+        ensures left { OnOk result ((deliveries : List (List ℕ)) → L.deliveries link.old ≡ Some deliveries → L.deliveries link.new ≡ Some (drop most deliveries)) }
+        ensures at_most { (deliveries : List (List ℕ)) → L.deliveries link.old ≡ Some deliveries → (n : ℕ) × (n ≤ most) × (L.deliveries link.new ≡ Some (drop n deliveries)) }
+    {
+        self.start_all(starts, link, fresh, out)?;
+        self.take_all(most, link, fresh, out)
+    }
+
+    // Makes each start of a script in order, and plays the turn that it gives.
+    fn start_all<L: Link, R: Fresh, O: Sink>(
         &mut self,
         starts: &[ScriptStart],
         link: &mut L,
@@ -56,14 +78,19 @@ impl<'p> Player<'p> {
         ensures programs { OnOk result (self.new.programs.now ≡ self.old.programs.now) }
     {
         let nonce = fresh.next();
-        let outcome = self.ask_start(start_of, nonce)?;
-        self.go_on(&outcome, link, fresh, out)
+        match self.ask_start(start_of, nonce) {
+            Ok(outcome) => {
+                let ended = self.go_on(&outcome, link, fresh, out);
+                drop(outcome);
+                ended
+            }
+            Err(fault) => Err(fault),
+        }
     }
 
-    /// Takes at most `most` deliveries, up to the link's end, and plays the turn that each gives.
-    pub(crate) fn take_all<L: Link, R: Fresh, O: Sink>(
+    // Takes at most `most` deliveries, up to the link's end, and plays the turn that each gives.
+    fn take_all<L: Link, R: Fresh, O: Sink>(
         &mut self,
-        alloc: Global,
         most: u32,
         link: &mut L,
         fresh: &mut R,
@@ -78,7 +105,7 @@ impl<'p> Player<'p> {
         ensures at_most { (deliveries : List (List ℕ)) → L.deliveries link.old ≡ Some deliveries → (n : ℕ) × (n ≤ most) × (L.deliveries link.new ≡ Some (drop n deliveries)) }
     {
         for _taken in 0..most {
-            match link.recv(alloc) {
+            match link.recv(self.alloc) {
                 Ok(Some(bytes)) => self.deliver(bytes.as_slice(), link, fresh, out)?,
                 Ok(None) => return Ok(()),
                 Err(LinkFault::Failed) => return Err(PlayFault::LinkFailed),
@@ -88,8 +115,8 @@ impl<'p> Player<'p> {
         Ok(())
     }
 
-    /// Takes a delivery, and plays the turn that it gives.
-    pub(crate) fn deliver<L: Link, R: Fresh, O: Sink>(
+    // Takes a delivery, and plays the turn that it gives.
+    fn deliver<L: Link, R: Fresh, O: Sink>(
         &mut self,
         bytes: &[u8],
         link: &mut L,
@@ -100,8 +127,14 @@ impl<'p> Player<'p> {
         ensures progress { Progresses (λ p. with_turn p (Deliver bytes.now)) self.old self.new (R.random fresh.old) (R.random fresh.new)
             (outside_of L.Link O.Sink link.old out.old) (outside_of L.Link O.Sink link.new out.new) result }
     {
-        let outcome = self.ask_deliver(bytes)?;
-        self.go_on(&outcome, link, fresh, out)
+        match self.ask_deliver(bytes) {
+            Ok(outcome) => {
+                let ended = self.go_on(&outcome, link, fresh, out);
+                drop(outcome);
+                ended
+            }
+            Err(fault) => Err(fault),
+        }
     }
 
     /// Gives the outside the outcome of a call that makes no frame and leaves no session, and plays the turn that it gives. The node joins
@@ -192,7 +225,12 @@ pub fn play<'p, L: Link, R: Fresh, O: Sink>(
     ensures at_most { (deliveries : List (List ℕ)) → L.deliveries link.old ≡ Some deliveries → (n : ℕ) × (n ≤ most) × (L.deliveries link.new ≡ Some (drop n deliveries)) }
 {
     let Script { starts, choices } = script;
-    let mut player = Player::new(alloc, node, keys, programs, choices)?;
-    player.start_all(starts.as_slice(), link, fresh, out)?;
-    player.take_all(alloc, most, link, fresh, out)
+    match Player::new(alloc, node, keys, programs, choices) {
+        Ok(mut player) => {
+            let ended = player.play_all(starts.as_slice(), most, link, fresh, out);
+            drop(player);
+            ended
+        }
+        Err(fault) => Err(fault),
+    }
 }

@@ -1,5 +1,5 @@
 //! A turn of a session: the act by a choice of the script, or the leaving.
-ghost use Rattle.std.specs.Prelude.{◌≡◌, ℕ, false, Some, IfOk, IfErr, OnOk, MatchOption};
+ghost use Rattle.std.specs.Prelude.{◌≡◌, ℕ, false, List, Option, Some, IfOk, IfErr, OnOk, MatchOption};
 ghost use Rattle.sg_play.specs.Around.{KeepsLink, outside_of};
 ghost use Rattle.sg_protocol.specs.Calls.{Answer};
 ghost use Rattle.sg_report.specs.Outcome.{outcome_of};
@@ -39,7 +39,9 @@ impl<'p> Player<'p> {
             return Ok(());
         }
         let outcome = self.ask_abandon(sid);
-        self.give(Some(sid), &outcome, None, link, out)
+        let given = self.give(Some(sid), &outcome, None, link, out);
+        drop(outcome);
+        given
     }
 
     // Acts by the first choice for a node of a session's graph that has uses left. It says whether a step was sent: not if there is no
@@ -58,13 +60,34 @@ impl<'p> Player<'p> {
         ensures joins { OnOk result (KeepsJoins self.old.node self.new.node) }
         ensures programs { OnOk result (self.new.programs.now ≡ self.old.programs.now) }
     {
-        match self.try_act(sid, node, fresh)? {
-            Some((outcome, frame)) => {
-                self.give(None, &outcome, frame, link, out)?;
-                Ok(was_sent(&outcome))
+        match self.try_act(sid, node, fresh) {
+            Ok(Some((outcome, frame))) => {
+                let given = self.give_act(&outcome, frame, link, out);
+                drop(outcome);
+                given
             }
-            None => Ok(false),
+            Ok(None) => Ok(false),
+            Err(fault) => Err(fault),
         }
+    }
+
+    // Gives the outside the outcome of an act. It says whether a step was sent.
+    fn give_act<L: Link, O: Sink>(
+        &mut self,
+        outcome: &Outcome<'p>,
+        frame: Option<(Addr, Sealed)>,
+        link: &mut L,
+        out: &mut O,
+    ) -> Result<bool, PlayFault>
+        ensures kept { KeepsLink L.Link O.Sink link.old link.new out.old out.new result }
+        ensures progress { (p : Play) (start : Outside) (random : Option (List (List ℕ))) (sid : List ℕ) (node : ℕ) → HasActed self.old random sid node p outcome.now (frames_made frame)
+            → Whole start (outside_of L.Link O.Sink link.old out.old) p.steps
+            → ProgressedActing start (outside_of L.Link O.Sink link.new out.new) self.new random (acted sid node p) result }
+        ensures node { OnOk result (self.new.node ≡ self.old.node) }
+        ensures programs { OnOk result (self.new.programs.now ≡ self.old.programs.now) }
+    {
+        self.give(None, outcome, frame, link, out)?;
+        Ok(was_sent(outcome))
     }
 
     // Asks for the act by the first choice for a node of a session's graph that has uses left, if there is one: the outcome, and the frame that was
@@ -93,7 +116,7 @@ impl<'p> Player<'p> {
             Ok(confounders) => confounders,
             Err(_) => return Err(PlayFault::OutOfMemory),
         };
-        let asked = ask_act(
+        match ask_act(
             self.alloc,
             &mut self.node,
             self.keys,
@@ -102,9 +125,13 @@ impl<'p> Player<'p> {
             choice.label,
             choice.values.as_slice(),
             confounders.as_slice(),
-        )?;
-        self.choices.use_first(&name, node);
-        Ok(Some(asked))
+        ) {
+            Ok(asked) => {
+                self.choices.use_first(&name, node);
+                Ok(Some(asked))
+            }
+            Err(fault) => Err(fault),
+        }
     }
 }
 

@@ -4,7 +4,8 @@ use Rattle.std.proofs.lemmas.Result.{on_ok_weaker}
 use Rattle.sg_base.specs.declared.address.Addr.{Addr}
 use Rattle.sg_base.specs.Outside.{HasRisen}
 use Rattle.sg_keep.specs.Faults.{CountsFaults}
-use Rattle.sg_keep.specs.KeptRuns.{AllRepresent, HasKept, KeptThroughout, RepresentsAtMost, RepresentsMore}
+use Rattle.sg_joins.specs.Images.{AllRepresent}
+use Rattle.sg_keep.specs.KeptRuns.{HasKept, KeptThroughout, RepresentsAtMost, RepresentsMore}
 use Rattle.sg_keep.specs.declared.fault.KeepFault.{KeepFault}
 use Rattle.sg_keep.specs.declared.fault.KeepFault.TheVariants as KeepFaults
 use Rattle.sg_keep.proofs.Asking.{not_begun}

@@ -2,7 +2,8 @@
 use Rattle.std.specs.Prelude.{◌≡◌, ◌≢◌, ℕ, ◌≤◌, ◌⊎◌, Bool, true, false, List, [], take, codes, Some, Result, Ok, Err, OnOk, ⊤}
 use Rattle.sg_base.specs.Outside.{HasRisen}
 use Rattle.sg_keep.specs.Faults.{Counts, CountsFaults}
-use Rattle.sg_keep.specs.KeptRuns.{AllRepresent, HasKept, KeptThroughout, RepresentsMore}
+use Rattle.sg_joins.specs.Images.{AllRepresent}
+use Rattle.sg_keep.specs.KeptRuns.{HasKept, KeptThroughout, RepresentsMore}
 use Rattle.sg_keep.specs.declared.fault.KeepFault.{KeepFault}
 use Rattle.sg_keep.specs.declared.fault.KeepFault.TheVariants as KeepFaults
 use Rattle.sg_ledger.specs.Disk.{Keeps, IfSeen, LeavesOnly}

@@ -1,6 +1,6 @@
 //! The ledger in which a run keeps its joins.
 ghost use Rattle.std.specs.Prelude.{◌≡◌, IfErr, IfOk, OnOk, Some, false};
-ghost use Rattle.sg_keep.specs.KeptRuns.{AllRepresent};
+ghost use Rattle.sg_joins.specs.Images.{AllRepresent};
 ghost use Rattle.sg_ledger.specs.Disk.{IfSeen};
 ghost use Rattle.sg_ledger.specs.Format.{Represents};
 ghost use Rattle.sg_ending.specs.Model.{ending_held};

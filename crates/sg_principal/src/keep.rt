@@ -1,7 +1,7 @@
 //! The command `keep`: a run over a ledger. It reads keys, programs and a script, opens the ledger and then the link, and plays the script as
 //! one principal whose joins are kept (`sg_keep`).
 ghost use Rattle.std.specs.Prelude.{◌≡◌, ◌⊎◌, Err, Some, false};
-ghost use Rattle.sg_keep.specs.KeptRuns.{AllRepresent};
+ghost use Rattle.sg_joins.specs.Images.{AllRepresent};
 ghost use Rattle.sg_script.specs.Script.{IsScript};
 ghost use Rattle.sg_ending.specs.Model.{ending_held};
 ghost use Rattle.sg_setup.specs.Setup.{waits_at};

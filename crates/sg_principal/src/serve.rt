@@ -1,7 +1,7 @@
 //! The command `serve`: a principal for an application. It reads keys and programs, opens the ledger, if it has one, and then the link, and
 //! answers the lines of standard input (`sg_serve`).
 ghost use Rattle.std.specs.Prelude.{◌≡◌, ◌⊎◌, false, IfSome, IsNone, IsSome, is_some, option_map};
-ghost use Rattle.sg_keep.specs.KeptRuns.{AllRepresent};
+ghost use Rattle.sg_joins.specs.Images.{AllRepresent};
 ghost use Rattle.sg_serve.specs.Served.{images_if, joins_kept};
 ghost use Rattle.sg_ending.specs.Model.{ending_held};
 ghost use Rattle.sg_principal.specs.Model.{named_files_held, principal_held};

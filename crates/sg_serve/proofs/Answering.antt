@@ -2,7 +2,7 @@
 use Rattle.std.proofs.Common.{◌≡◌, ⊎_elim, inl, inr, ℕ, Bool, true, false, List, [], ◌∷◌, Option, Some, None, Result, Ok, Err, OnOk, refl, sym, ap, ◌∙◌, subst}
 use Rattle.sg_base.specs.declared.address.Addr.{Addr}
 use Rattle.sg_input.specs.Lines.{Line}
-use Rattle.sg_keep.specs.KeptRuns.{AllRepresent}
+use Rattle.sg_joins.specs.Images.{AllRepresent}
 use Rattle.sg_ledger.specs.Format.{Represents}
 use Rattle.sg_play.specs.Steps.{Step}
 use Rattle.sg_request.specs.declared.request.Request.{Request}

@@ -1,9 +1,10 @@
 -- What a server holds before a call, once its node was asked, and once the join is kept.
 use Rattle.std.proofs.Common.{◌≡◌, ◌⊎◌, ⊎_elim, inl, inr, ℕ, List, false, Option, Some, None, is_some, IfSome, sym, ap, ◌∙◌, subst}
-use Rattle.sg_keep.proofs.Asking.{answered_after, asked_once, joins_after, new_join, working}
-use Rattle.sg_keep.proofs.NewJoins.{joins_of_node}
-use Rattle.sg_keep.specs.Joins.{IsNew, join_reported, with_join}
-use Rattle.sg_keep.specs.KeptRuns.{AllRepresent}
+use Rattle.sg_joins.proofs.Adding.{working}
+use Rattle.sg_joins.proofs.Asked.{answered_after, joins_after, new_join}
+use Rattle.sg_joins.proofs.NewJoins.{joins_of_node}
+use Rattle.sg_joins.specs.Joins.{IsNew, join_reported, with_join}
+use Rattle.sg_joins.specs.Images.{AllRepresent}
 use Rattle.sg_ledger.specs.Format.{Join, OpenLedger, Represents}
 use Rattle.sg_play.proofs.Reporting.{asked_by}
 use Rattle.sg_play.specs.Asking.{IsAsked, addressed}
@@ -23,7 +24,7 @@ use Rattle.sg_serve.specs.Representation.{HasAskedNode, HasCalled, HoldsJoins, L
 
 pub asked_node : (sv : Server) (pl : Player) (may_leave : List ℕ → Type 0) (c : Call) (o : Outcome) (h : HoldsJoins sv may_leave) → IsAsked 0 sv.player.node pl.node h.past c o None → HasAskedNode (record sv { player = pl }) may_leave o
 asked_node sv pl may_leave c o h came = record {
-  asked = asked_once sv.player.node pl.node h.past c o h.answered came;
+  asked = record { past = h.past; call = c; number = 0; range = came.range; answered_before = h.answered; represents = came.goes_on.represents; is_reported = came.is_reported };
   ledger = λ l e. h.ledger l e ∙ ap working h.represents.joins;
   images = subst (AllRepresent (images_if (is_some sv.ledger) may_leave)) h.represents.joins h.images;
 }

@@ -1,7 +1,7 @@
 -- A line that was answered, and where a run ended.
 use Rattle.std.proofs.Common.{◌≡◌, ◌≤◌, ℕ, Bool, true, false, List, [], ◌∷◌, drop, Option, is_some, Ok, Err, sym, ap, subst}
 use Rattle.sg_input.specs.Lines.{Line}
-use Rattle.sg_keep.specs.KeptRuns.{AllRepresent}
+use Rattle.sg_joins.specs.Images.{AllRepresent}
 use Rattle.sg_play.specs.Steps.{Step}
 use Rattle.sg_serve.specs.declared.fault.ServeFault.{ServeFault}
 use Rattle.sg_serve.specs.declared.fault.ServeFault.TheVariants.{InputFailed, WriteFailed, OutOfMemory}

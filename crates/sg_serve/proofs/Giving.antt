@@ -4,7 +4,7 @@ use Rattle.std.proofs.lemmas.List.{append-nil}
 use Rattle.sg_base.specs.declared.address.Addr.{Addr}
 use Rattle.sg_base.specs.Outside.{Appends, AppendsPrefix, HasRisen}
 use Rattle.sg_input.specs.Lines.{Line}
-use Rattle.sg_keep.specs.KeptRuns.{AllRepresent}
+use Rattle.sg_joins.specs.Images.{AllRepresent}
 use Rattle.sg_play.proofs.Endings.{appends_more, frames_more}
 use Rattle.sg_play.proofs.Rising.{risen_last}
 use Rattle.sg_play.specs.Steps.{Step, lines_of, frames_of}
@@ -35,16 +35,6 @@ goes_behind line later e = ap (λ (b : Bool). if b then [] else (line ∷ before
 
 pub ends_behind : (line : Line) (later : List Line) → asks_quit line ≡ true → before_quit (line ∷ later) ≡ []
 ends_behind line later e = ap (λ (b : Bool). if b then [] else (line ∷ before_quit later)) e
-
--- ---- nothing was given
-
--- the link may have failed meanwhile
-pub gave_on : (start old new : Outside) (r : Run) → new.written ≡ old.written → new.sent ≡ old.sent → old.failed ≤ new.failed → Gave start old r → Gave start new r
-gave_on start old new r written sent l h = record {
-  lines = λ before is. written ∙ h.lines before is;
-  frames = λ before is. sent ∙ h.frames before is;
-  failed = rose_on r.failures start.failed old.failed new.failed h.failed l;
-}
 
 -- ---- an answer was given
 

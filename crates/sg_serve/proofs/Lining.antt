@@ -7,7 +7,7 @@ use Rattle.sg_answers.specs.Answers.{failed_text, nothing_text, unknown_text, wr
 use Rattle.sg_answers.specs.declared.line.Wrong.TheVariants.{Form}
 use Rattle.sg_base.specs.Outside.{HasRisen}
 use Rattle.sg_input.specs.Lines.{Line, Whole}
-use Rattle.sg_keep.specs.KeptRuns.{AllRepresent}
+use Rattle.sg_joins.specs.Images.{AllRepresent}
 use Rattle.sg_model.specs.Lists.{first_some}
 use Rattle.sg_play.specs.Faults.{CountsFaultAlone}
 use Rattle.sg_play.specs.Steps.{Step, frames_in}

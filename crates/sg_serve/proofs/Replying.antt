@@ -1,7 +1,7 @@
 -- What a request came to, by what came of its parts.
 use Rattle.std.proofs.Common.{◌≡◌, ◌⊎◌, ⊎_elim, inl, inr, ℕ, true, List, [], Option, Some, None, is_some, IfOk, Result, Ok, Err, refl, sym, ap, ◌∙◌, subst}
-use Rattle.sg_keep.proofs.NewJoins.{joins_of_node}
-use Rattle.sg_keep.specs.KeptRuns.{AllRepresent}
+use Rattle.sg_joins.proofs.NewJoins.{joins_of_node}
+use Rattle.sg_joins.specs.Images.{AllRepresent}
 use Rattle.sg_ledger.specs.Format.{Join, OpenLedger, Represents}
 use Rattle.sg_base.specs.declared.address.Addr.{Addr}
 use Rattle.sg_model.specs.Names.{Name}

@@ -1,8 +1,12 @@
 -- How far a run has come, line by line.
-use Rattle.std.proofs.Common.{◌≡◌, ◌-◌, ◌+◌, ◌<◌, arith, suc, zero, drop, take, ℕ, Bool, false, List, [], ◌∷◌, ◌++◌, map, Option, Some, None, is_some, IfSome, Result, Err, refl, sym, ap, ◌∙◌, subst, append_assoc}
+use Rattle.std.proofs.Common.{◌≡◌, ◌-◌, ◌+◌, ◌<◌, arith, suc, zero, drop, take, ℕ, Bool, false, List, [], ◌∷◌, ◌++◌, map, Option, Some, None, is_some, IfSome, Result, Ok, Err, refl, sym, ap, ◌∙◌, subst, append_assoc}
 use Rattle.std.proofs.lemmas.List.{append-nil, map-append}
-use Rattle.sg_input.specs.Lines.{Line}
-use Rattle.sg_keep.specs.KeptRuns.{AllRepresent}
+use Rattle.sg_base.specs.Outside.{TakesFirst}
+use Rattle.sg_input.specs.Lines.{Line, Whole, TooLong}
+use Rattle.sg_input.specs.declared.reader.InputFault.{InputFault}
+use Rattle.sg_input.specs.declared.reader.LineFound.{LineFound}
+use Rattle.sg_input.specs.declared.reader.LineFound.TheVariants as Found
+use Rattle.sg_joins.specs.Images.{AllRepresent}
 use Rattle.sg_ledger.specs.Format.{Join, OpenLedger, Represents}
 use Rattle.sg_protocol.specs.Keyring.{Keyring, Program}
 use Rattle.sg_wait.specs.declared.coming.Coming.{Coming}
@@ -11,7 +15,7 @@ use Rattle.sg_serve.specs.declared.fault.ServeFault.TheVariants.{OutOfMemory}
 use Rattle.sg_serve.specs.declared.server.Server.{Server}
 use Rattle.sg_serve.specs.Lines.{Run, asks_quit, before_quit, until_quit, with_line, with_lines}
 use Rattle.sg_serve.specs.Served.{Agrees, EndedAt, Gave, Outside, Served, images_if, joins_kept, joins_of, opening}
-use Rattle.sg_serve.specs.Representation.{HoldsJoins, Serves, RepresentsServing}
+use Rattle.sg_serve.specs.Representation.{HoldsJoins, Serves, RepresentsServing, line_read}
 use Rattle.sg_serve.proofs.Answering.{between_all}
 use Rattle.sg_serve.proofs.Appending.{kept}
 use Rattle.sg_serve.proofs.Giving.{goes_behind}
@@ -33,10 +37,25 @@ serves_more start old new random0 random sv0 sv first all left line h goes x = r
   agrees = subst (λ (r : Run). Agrees start new random r) (sym (lines_both first h.prefix ((line, x.0) ∷ []))) x.2;
 }
 
+-- the line that a reader has found is the first of those that were left
+took_first : (found : LineFound) (bytes : List ℕ) (old new : Option (List Line)) (r : Result (Option LineFound) InputFault) → r ≡ Ok (Some found)
+    → (r ≡ Ok (Some Found.Line) → TakesFirst old new (Whole bytes)) → (r ≡ Ok (Some Found.TooLong) → TakesFirst old new TooLong) → TakesFirst old new (line_read found bytes)
+took_first Found.Line bytes old new r is whole long = whole is
+took_first Found.TooLong bytes old new r is whole long = long is
+
 -- the next of the lines that may be answered
-pub next_taken : (n : ℕ) (left : List Line) (line : Line) → 0 < n → left ≡ line ∷ drop 1 left → take n left ≡ line ∷ drop 1 (take n left)
+next_taken : (n : ℕ) (left : List Line) (line : Line) → 0 < n → left ≡ line ∷ drop 1 left → take n left ≡ line ∷ drop 1 (take n left)
 next_taken zero left line p e = absurd (omega (arith, p))
 next_taken (suc n) left line p e = subst (λ (ls : List Line). take (suc n) ls ≡ line ∷ drop 1 (take (suc n) ls)) (sym e) refl
+
+-- the line that was found of the lines that are left, of which so many may be answered, and those behind it
+pub next_left : (found : LineFound) (bytes : List ℕ) (line : Line) → line ≡ line_read found bytes → (left : List Line) (most at : ℕ) → at < most → (old new : Option (List Line)) (r : Result (Option LineFound) InputFault) → r ≡ Ok (Some found)
+    → (r ≡ Ok (Some Found.Line) → TakesFirst old new (Whole bytes)) → (r ≡ Ok (Some Found.TooLong) → TakesFirst old new TooLong) → old ≡ Some left → (take (most - at) left ≡ line ∷ drop 1 (take (most - at) left)) × (new ≡ Some (drop 1 left))
+next_left found bytes line e left most at below old new r is whole long reported =
+    let x = took_first found bytes old new r is whole long left reported in (
+      next_taken (most - at) left line (omega (arith, below)) (x.0 ∙ ap (λ (l : Line). l ∷ drop 1 left) (sym e)),
+      x.1,
+    )
 
 pub take_none : (n : ℕ) → take {A = Line} n [] ≡ []
 take_none zero = refl

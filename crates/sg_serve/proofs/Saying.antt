@@ -1,6 +1,6 @@
 -- What an answer that makes no call comes to, in each state that the server represents.
-use Rattle.std.proofs.Common.{◌≡◌, ℕ, ◌-◌, ◌<◌, ◌≤◌, Bool, true, false, List, [], ◌++◌, length, map, get_or, Option, Some, None, is_some, option_map, IfOk, OnOk, OnErr, Result, Ok, Err, Bor, refl, sym, ap, ◌∙◌, subst}
-use Rattle.std.specs.Prelude.{IsOk, slice_get, unwrap_or}
+use Rattle.std.proofs.Common.{◌≡◌, ℕ, ◌-◌, ◌<◌, ◌≤◌, Bool, true, false, List, [], length, map, get_or, Option, Some, None, is_some, option_map, IfOk, OnErr, Result, Ok, Err, Bor, refl, sym, ap, ◌∙◌, subst}
+use Rattle.std.specs.Prelude.{slice_get, unwrap_or}
 use Rattle.std.specs.Option.{option_copied, option_map_or}
 use Rattle.std.proofs.lemmas.Option.{slice_get-map, slice_get-get_or, slice_get_past}
 use Rattle.sg_again.specs.LastFrames.{SentFrame, frame_of}
@@ -20,12 +20,6 @@ use Rattle.sg_serve.specs.Serving.{Reply, Serving, of_session, repeats, says, se
 use Rattle.sg_serve.specs.Representation.{HasReplied, RepresentsServing}
 
 -- ---- a text
-
--- a text that was put together alone
-pub said_so : {U F : Type 0} (r : Result Step ServeFault) (put : Result U F) (old new text : List ℕ) → OnOk r (IsOk put) → OnOk put (new ≡ old ++ text) → old ≡ [] → IfOk r (λ x. x ≡ record { line = new; frames = [] }) → IfOk r (λ x. x ≡ record { line = text; frames = [] })
-said_so (Ok step) (Ok u) old new text ok put e h = h ∙ ap (λ (l : List ℕ). record { line = l; frames = [] }) (put ∙ ap (λ (l : List ℕ). l ++ text) e)
-said_so (Ok step) (Err f) old new text ok put e h = absurd (cc)
-said_so (Err f) put old new text ok h e k = tt
 
 -- an answer whose frame the link didn't take
 pub unsent_is : (took : Bool) (frame : Option SentFrame) (text : List ℕ) (step : Step) → took ≡ false → is_some frame ≡ true → record { line = text; frames = posted frame } ≡ step → (given took step).line ≡ unsent_text text

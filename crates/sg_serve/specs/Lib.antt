@@ -1,4 +1,5 @@
 pub mod Posted
+pub mod Said
 pub mod Serving
 pub mod Lines
 pub mod Served

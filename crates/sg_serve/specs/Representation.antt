@@ -3,8 +3,10 @@ use Rattle.std.specs.Prelude.{◌≡◌, ◌⊎◌, ◌≤◌, ℕ, Bool, true, 
 use Rattle.sg_base.specs.declared.address.Addr.{Addr}
 use Rattle.sg_base.specs.Outside.{Appends, AppendsPrefix, HasRisen}
 use Rattle.sg_input.specs.Lines.{Line, Whole, TooLong}
-use Rattle.sg_keep.specs.KeptRuns.{AllRepresent}
-use Rattle.sg_keep.specs.Representation.{AskedOnce}
+use Rattle.sg_input.specs.declared.reader.LineFound.{LineFound}
+use Rattle.sg_input.specs.declared.reader.LineFound.TheVariants as Found
+use Rattle.sg_joins.specs.Images.{AllRepresent}
+use Rattle.sg_joins.specs.Asked.{AskedOnce}
 use Rattle.sg_ledger.specs.Format.{Join, OpenLedger, Represents}
 use Rattle.sg_ledger.specs.declared.disk.Disk as Disk
 use Rattle.sg_model.specs.Names.{Name}
@@ -103,6 +105,11 @@ pub record AnswerIsOut (old new : Outside) (step : Step) (result : Result (Unit 
 abbrev pub found_line : Option (List ℕ) → Line
 found_line None = TooLong
 found_line (Some bytes) = Whole bytes
+
+-- the line that a reader has found, whose bytes these are if it isn't too long
+abbrev pub line_read : LineFound → (bytes : List ℕ) → Line
+line_read Found.Line bytes = Whole bytes
+line_read Found.TooLong bytes = TooLong
 
 -- whatever the link does with the frame of an answer, there is a way in which the line is answered that gives the same
 abbrev pub Fits : Run → Line → (run : Run) → Reply → (old new : ℕ) → Type 0

@@ -5,8 +5,8 @@ use Rattle.sg_again.specs.LastFrames.{no_frames}
 use Rattle.sg_base.specs.declared.address.Addr.{Addr}
 use Rattle.sg_base.specs.Outside.{Appends}
 use Rattle.sg_input.specs.Lines.{Line}
-use Rattle.sg_keep.specs.Joins.{joins_made}
-use Rattle.sg_keep.specs.KeptRuns.{AllRepresent}
+use Rattle.sg_joins.specs.Joins.{joins_made}
+use Rattle.sg_joins.specs.Images.{AllRepresent}
 use Rattle.sg_ledger.specs.Format.{Join, OpenLedger, Represents}
 use Rattle.sg_play.specs.Played.{beginning}
 use Rattle.sg_play.specs.Steps.{Step, lines_of, frames_of}

@@ -1,5 +1,5 @@
 //! The requests that call the node: a start, an act, a leaving, and a delivery.
-ghost use Rattle.std.specs.Prelude.{◌≡◌, List, ℕ, Some, option_map, IfErr, IfOk, IsTrue, OnOk, is_some};
+ghost use Rattle.std.specs.Prelude.{◌≡◌, Some, option_map, IfErr, IfOk, IsTrue, OnOk, is_some};
 ghost use Rattle.std.specs.List.{list_all};
 ghost use Rattle.sg_request.specs.Request.{is_request};
 ghost use Rattle.sg_request.specs.declared.request.Request.TheVariants as request;
@@ -13,7 +13,7 @@ ghost use Rattle.sg_walk.specs.Model.{values_of};
 
 use crate::ServeFault;
 use crate::reply::Reply;
-use crate::say::{say_quiet, say_unknown, say_wrong};
+use crate::say::{Said, say};
 use crate::server::Server;
 use sg_answers::Wrong;
 use sg_base::{Fresh, Label, Name, Seq, Sid, Value, Var};
@@ -40,11 +40,15 @@ impl<'p> Server<'p> {
             → Replied (images_if (is_some self.old.ledger) (D.may_leave disk.new)) s self.new (starts s start_of.now) result }
     {
         if self.player.programs().by_name(&start_of.graph).is_none() {
-            return say_wrong(self.alloc, Wrong::Unknown);
+            return say(self.alloc, Said::Wrong(Wrong::Unknown));
         }
         let nonce = fresh.next();
         match self.player.ask_start(start_of, nonce) {
-            Ok(outcome) => self.join(&outcome, disk),
+            Ok(outcome) => {
+                let reply = self.join(&outcome, disk);
+                drop(outcome);
+                reply
+            }
             Err(_) => Err(ServeFault::OutOfMemory),
         }
     }
@@ -61,10 +65,14 @@ impl<'p> Server<'p> {
             → Replied (images_if (is_some self.old.ledger) (D.may_leave disk.new)) s self.new (takes s (option_map (λ bytes. bytes.items) found)) result }
     {
         let Some(bytes) = found else {
-            return say_quiet(self.alloc);
+            return say(self.alloc, Said::Quiet);
         };
         match self.player.ask_deliver(bytes.as_slice()) {
-            Ok(outcome) => self.join(&outcome, disk),
+            Ok(outcome) => {
+                let reply = self.join(&outcome, disk);
+                drop(outcome);
+                reply
+            }
             Err(_) => Err(ServeFault::OutOfMemory),
         }
     }
@@ -77,10 +85,12 @@ impl<'p> Server<'p> {
         ensures memory { IfErr result (λ e. e ≡ ServeFault.OutOfMemory) }
     {
         let Some(sid) = self.sid(number) else {
-            return say_unknown(self.alloc, number);
+            return say(self.alloc, Said::Unknown(number));
         };
         let outcome = self.player.ask_abandon(sid);
-        self.report(&Some(sid), &outcome, None)
+        let reply = self.report(&Some(sid), &outcome, None);
+        drop(outcome);
+        reply
     }
 
     // Acts in the session of a number, by the graph of the session.
@@ -99,22 +109,22 @@ impl<'p> Server<'p> {
         ensures memory { IfErr result (λ e. e ≡ ServeFault.OutOfMemory) }
     {
         let Some(sid) = self.sid(number) else {
-            return say_unknown(self.alloc, number);
+            return say(self.alloc, Said::Unknown(number));
         };
         let Some(graph) = self.graph(number) else {
-            return say_wrong(self.alloc, Wrong::Unknown);
+            return say(self.alloc, Said::Wrong(Wrong::Unknown));
         };
         let Some(label) = label_index(graph, label) else {
-            return say_wrong(self.alloc, Wrong::Unknown);
+            return say(self.alloc, Said::Wrong(Wrong::Unknown));
         };
         let known = match known_values(self.alloc, graph, values) {
             Ok(Some(known)) => known,
-            Ok(None) => return say_wrong(self.alloc, Wrong::Unknown),
+            Ok(None) => return say(self.alloc, Said::Wrong(Wrong::Unknown)),
             Err(_) => return Err(ServeFault::OutOfMemory),
         };
         match differ(self.alloc, values) {
             Ok(true) => self.act_with(sid, label, known.as_slice(), fresh),
-            Ok(false) => say_wrong(self.alloc, Wrong::Twice),
+            Ok(false) => say(self.alloc, Said::Wrong(Wrong::Twice)),
             Err(_) => Err(ServeFault::OutOfMemory),
         }
     }
@@ -137,7 +147,11 @@ impl<'p> Server<'p> {
             return Err(ServeFault::OutOfMemory);
         };
         match self.player.ask_act(sid, label, values, drawn.as_slice()) {
-            Ok((outcome, frame)) => self.report(&None, &outcome, frame),
+            Ok((outcome, frame)) => {
+                let reply = self.report(&None, &outcome, frame);
+                drop(outcome);
+                reply
+            }
             Err(_) => Err(ServeFault::OutOfMemory),
         }
     }

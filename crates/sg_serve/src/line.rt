@@ -1,5 +1,5 @@
 //! What a line of the input is answered, before it is given.
-ghost use Rattle.std.specs.Prelude.{◌≡◌, ◌≤◌, List, ℕ, Some, IsTrue, OnOk, is_some};
+ghost use Rattle.std.specs.Prelude.{◌≡◌, ◌≤◌, Some, IsTrue, OnOk, is_some};
 ghost use Rattle.std.specs.Option.{option_copied};
 ghost use Rattle.sg_serve.specs.Lines.{Run};
 ghost use Rattle.sg_serve.specs.Served.{images_if};
@@ -9,7 +9,7 @@ ghost use Rattle.sg_serve.specs.Representation.{ProgressedToAnswer, HoldsJoins, 
 
 use crate::ServeFault;
 use crate::reply::Reply;
-use crate::say::{say_failed, say_wrong};
+use crate::say::{Said, say};
 use crate::server::Server;
 use sg_answers::Wrong;
 use sg_base::{Fresh, LinkFault};
@@ -37,14 +37,14 @@ impl<'p> Server<'p> {
             → ProgressedToAnswer (images_if (is_some self.old.ledger) (D.may_leave disk.new)) self.new (R.random fresh.new) (L.coming link.new) (L.faults link.old) (L.faults link.new) r (found_line (option_copied line.entry)) result }
     {
         let Some(bytes) = line else {
-            return some_reply(say_wrong(self.alloc, Wrong::Form));
+            return some_reply(say(self.alloc, Said::Wrong(Wrong::Form)));
         };
         words_ask();
         match read_request(self.alloc, bytes) {
             Ok(Some(Request::Quit)) => Ok(None),
             Ok(Some(Request::Receive(within))) => some_reply(self.receive(within, link, disk)),
             Ok(Some(request)) => some_reply(self.reply(request, fresh, disk)),
-            Ok(None) => some_reply(say_wrong(self.alloc, Wrong::Form)),
+            Ok(None) => some_reply(say(self.alloc, Said::Wrong(Wrong::Form))),
             Err(_) => Err(ServeFault::OutOfMemory),
         }
     }
@@ -66,7 +66,7 @@ impl<'p> Server<'p> {
     {
         match link.recv_within(self.alloc, within) {
             Ok(found) => self.take(found, disk),
-            Err(LinkFault::Failed) => say_failed(self.alloc),
+            Err(LinkFault::Failed) => say(self.alloc, Said::Failed),
             Err(LinkFault::OutOfMemory) => Err(ServeFault::OutOfMemory),
         }
     }

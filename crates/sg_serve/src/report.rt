@@ -23,7 +23,7 @@ use crate::server::Server;
 use sg_again::LastFrame;
 use sg_base::{Addr, Sealed, Sid};
 use sg_graph::Graph;
-use sg_keep::{KeepFault, add_join};
+use sg_joins::{JoinFault, add_join};
 use sg_ledger::{Disk, Ledger};
 use sg_report::{Outcome, sid_reported};
 
@@ -62,8 +62,8 @@ impl<'p> Server<'p> {
         match &mut self.ledger {
             Some(ledger) => match add_join(ledger, outcome, disk) {
                 Ok(()) => Ok(()),
-                Err(KeepFault::DiskFailed) => Err(ServeFault::DiskFailed),
-                Err(KeepFault::Played(_)) => Err(ServeFault::OutOfMemory),
+                Err(JoinFault::DiskFailed) => Err(ServeFault::DiskFailed),
+                Err(JoinFault::OutOfMemory) => Err(ServeFault::OutOfMemory),
             },
             None => Ok(()),
         }

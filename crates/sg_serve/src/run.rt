@@ -3,12 +3,12 @@ ghost use Rattle.std.specs.Prelude.{◌≡◌, ◌≤◌, ◌≢◌, List, ℕ, 
 ghost use Rattle.std.specs.Option.{option_copied};
 ghost use Rattle.sg_base.specs.Outside.{HasRisen};
 ghost use Rattle.sg_input.specs.Lines.{Line, lines_left, lines_of};
-ghost use Rattle.sg_keep.specs.KeptRuns.{AllRepresent};
+ghost use Rattle.sg_joins.specs.Images.{AllRepresent};
 ghost use Rattle.sg_protocol.specs.NodeStates.{new_state};
 ghost use Rattle.sg_serve.specs.Faults.{CountsFaults};
 ghost use Rattle.sg_serve.specs.Lines.{Run};
 ghost use Rattle.sg_serve.specs.Served.{Agrees, Outside, Served, images_if, joins_kept, opening};
-ghost use Rattle.sg_serve.specs.Representation.{Answered, HoldsJoins, RepresentsServing, found_line};
+ghost use Rattle.sg_serve.specs.Representation.{Answered, HoldsJoins, RepresentsServing, found_line, line_read};
 ghost use Rattle.sg_wait.specs.declared.coming.Coming.{Coming};
 
 use crate::ServeFault;
@@ -81,20 +81,16 @@ impl<'p> Server<'p> {
             (images_if (is_some self.old.ledger) (D.may_leave disk.new)) r lines result }
     {
         for _line in 0..u64::MAX {
-            match reader.next(input) {
-                Ok(Some(LineFound::Line)) => {
-                    if !self.serve_line(Some(reader.line()), link, fresh, out, disk)? {
-                        return Ok(());
-                    }
-                }
-                Ok(Some(LineFound::TooLong)) => {
-                    if !self.serve_line(None, link, fresh, out, disk)? {
-                        return Ok(());
-                    }
-                }
+            let found = match reader.next(input) {
+                Ok(Some(found)) => found,
                 Ok(None) => return Ok(()),
                 Err(InputFault::Failed) => return Err(ServeFault::InputFailed),
                 Err(InputFault::OutOfMemory) => return Err(ServeFault::OutOfMemory),
+            };
+            match self.serve_line(line_found(reader, found), link, fresh, out, disk) {
+                Ok(true) => {}
+                Ok(false) => return Ok(()),
+                Err(fault) => return Err(fault),
             }
         }
         Ok(())
@@ -135,6 +131,16 @@ impl<'p> Server<'p> {
     }
 }
 
+// The line that a reader has found, if it isn't too long.
+fn line_found(reader: &LineReader, found: LineFound) -> Option<&[u8]>
+    ensures { found_line (option_copied result) ≡ line_read found reader.now.line }
+{
+    match found {
+        LineFound::Line => Some(reader.line()),
+        LineFound::TooLong => None,
+    }
+}
+
 /// Serves an application over a link: answers each line of its input in order, each before it reads the next one, up to the line that asks
 /// for the end or the end of the input, and 18,446,744,073,709,551,615 lines at most. The node was made with these keys and programs, and
 /// with the joins of the ledger, if there is one, which was opened from this disk; it was not asked anything yet. Each pair that it joins
@@ -172,6 +178,12 @@ pub fn serve<'p, I: Input, L: TimedLink, R: Fresh, O: Sink, D: Disk>(
         (record { written = O.written out.new; sent = L.sent link.new; coming = L.coming link.new; failed = L.faults link.new }) (R.random fresh.new)
         (images_if (is_some ledger) (D.may_leave disk.new)) (opening keys.entry.now programs.entry.now (joins_kept ledger) coming random) (lines_of bytes) result }
 {
-    let mut server = Server::new(alloc, node, keys, programs, ledger)?;
-    server.serve_input(input, link, fresh, out, disk)
+    match Server::new(alloc, node, keys, programs, ledger) {
+        Ok(mut server) => {
+            let came = server.serve_input(input, link, fresh, out, disk);
+            drop(server);
+            came
+        }
+        Err(fault) => Err(fault),
+    }
 }

@@ -1,7 +1,8 @@
 //! Answers that are no step's line.
-ghost use Rattle.std.specs.Prelude.{◌≡◌, [], Some, IfErr, IfOk, IsOk, OnOk};
-ghost use Rattle.sg_answers.specs.Answers.{unknown_text, wrong_text, quiet_text, failed_text, nothing_text, turn_text, waits_text, over_text, id_text, again_text};
+ghost use Rattle.std.specs.Prelude.{◌≡◌, ◌++◌, [], Some, IfErr, IfOk, OnOk};
+ghost use Rattle.sg_answers.specs.Answers.{again_text, id_text, turn_text};
 ghost use Rattle.sg_serve.specs.Posted.{posted};
+ghost use Rattle.sg_serve.specs.Said.{said_text};
 ghost use Rattle.sg_serve.specs.Serving.{Serving, of_session, says, sends_again, turn_line};
 ghost use Rattle.sg_serve.specs.Representation.{HasReplied, RepresentsServing};
 
@@ -18,111 +19,65 @@ use sg_base::{ByteOut, NodeId, OutOfMemory, Sid};
 use sg_graph::Graph;
 use std::alloc::Global;
 
-// An answer alone, if it was put together.
-fn said(put: Result<(), OutOfMemory>, text: ByteOut) -> Result<Reply, ServeFault>
-    ensures put { OnOk result (IsOk put) }
-    ensures text { IfOk result (λ r. r ≡ record { line = text; frames = [] }) }
+// An answer that is no step's line, and needs no graph.
+#[derive(Drop)]
+pub(crate) enum Said {
+    // What is wrong with a line.
+    Wrong(Wrong),
+    // There is no session of this number.
+    Unknown(u32),
+    // No delivery came.
+    Quiet,
+    // The link can't give one.
+    Failed,
+    // No frame of the session of this number is kept.
+    Nothing(u32),
+    // The session of this number waits.
+    Waits(u32),
+    // It is live no more.
+    Over(u32),
+    // Its identifier.
+    Id(u32, Sid),
+}
+
+// That answer alone.
+pub(crate) fn say(alloc: Global, said: Said) -> Result<Reply, ServeFault>
+    ensures text { IfOk result (λ r. r ≡ record { line = said_text said; frames = [] }) }
     ensures memory { IfErr result (λ e. e ≡ ServeFault.OutOfMemory) }
 {
-    match put {
-        Ok(()) => Ok(Reply::new(text.done(), None)),
+    let mut out = ByteOut::new(alloc);
+    match put(&mut out, said) {
+        Ok(()) => Ok(Reply::new(out.done(), None)),
         Err(_) => Err(ServeFault::OutOfMemory),
     }
 }
 
-// What is wrong with a line.
-pub(crate) fn say_wrong(alloc: Global, wrong: Wrong) -> Result<Reply, ServeFault>
-    ensures text { IfOk result (λ r. r ≡ record { line = wrong_text wrong; frames = [] }) }
-    ensures memory { IfErr result (λ e. e ≡ ServeFault.OutOfMemory) }
+// Writes that answer.
+fn put(out: &mut ByteOut, said: Said) -> Result<(), OutOfMemory>
+    ensures { OnOk result (out.new ≡ out.old ++ said_text said) }
 {
-    let mut out = ByteOut::new(alloc);
-    let put = put_wrong(&mut out, wrong);
-    said(put, out)
-}
-
-// There is no session of this number.
-pub(crate) fn say_unknown(alloc: Global, number: u32) -> Result<Reply, ServeFault>
-    ensures text { IfOk result (λ r. r ≡ record { line = unknown_text number; frames = [] }) }
-    ensures memory { IfErr result (λ e. e ≡ ServeFault.OutOfMemory) }
-{
-    let mut out = ByteOut::new(alloc);
-    let put = put_unknown(&mut out, number);
-    said(put, out)
-}
-
-// No delivery came.
-pub(crate) fn say_quiet(alloc: Global) -> Result<Reply, ServeFault>
-    ensures text { IfOk result (λ r. r ≡ record { line = quiet_text; frames = [] }) }
-    ensures memory { IfErr result (λ e. e ≡ ServeFault.OutOfMemory) }
-{
-    let mut out = ByteOut::new(alloc);
-    let put = put_quiet(&mut out);
-    said(put, out)
-}
-
-// The link can't give one.
-pub(crate) fn say_failed(alloc: Global) -> Result<Reply, ServeFault>
-    ensures text { IfOk result (λ r. r ≡ record { line = failed_text; frames = [] }) }
-    ensures memory { IfErr result (λ e. e ≡ ServeFault.OutOfMemory) }
-{
-    let mut out = ByteOut::new(alloc);
-    let put = put_failed(&mut out);
-    said(put, out)
-}
-
-// No frame of the session of this number is kept.
-pub(crate) fn say_nothing(alloc: Global, number: u32) -> Result<Reply, ServeFault>
-    ensures text { IfOk result (λ r. r ≡ record { line = nothing_text number; frames = [] }) }
-    ensures memory { IfErr result (λ e. e ≡ ServeFault.OutOfMemory) }
-{
-    let mut out = ByteOut::new(alloc);
-    let put = put_nothing(&mut out, number);
-    said(put, out)
+    match said {
+        Said::Wrong(wrong) => put_wrong(out, wrong),
+        Said::Unknown(number) => put_unknown(out, number),
+        Said::Quiet => put_quiet(out),
+        Said::Failed => put_failed(out),
+        Said::Nothing(number) => put_nothing(out, number),
+        Said::Waits(number) => put_waits(out, number),
+        Said::Over(number) => put_over(out, number),
+        Said::Id(number, sid) => put_id(out, number, &sid),
+    }
 }
 
 // The session of this number is at its turn at this node.
-pub(crate) fn say_turn(
-    alloc: Global,
-    number: u32,
-    graph: &Graph,
-    node: NodeId,
-) -> Result<Reply, ServeFault>
+fn say_turn(alloc: Global, number: u32, graph: &Graph, node: NodeId) -> Result<Reply, ServeFault>
     ensures text { IfOk result (λ r. r ≡ record { line = turn_text number graph.now node; frames = [] }) }
     ensures memory { IfErr result (λ e. e ≡ ServeFault.OutOfMemory) }
 {
     let mut out = ByteOut::new(alloc);
-    let put = put_turn(&mut out, number, graph, node);
-    said(put, out)
-}
-
-// It waits.
-pub(crate) fn say_waits(alloc: Global, number: u32) -> Result<Reply, ServeFault>
-    ensures text { IfOk result (λ r. r ≡ record { line = waits_text number; frames = [] }) }
-    ensures memory { IfErr result (λ e. e ≡ ServeFault.OutOfMemory) }
-{
-    let mut out = ByteOut::new(alloc);
-    let put = put_waits(&mut out, number);
-    said(put, out)
-}
-
-// It is live no more.
-pub(crate) fn say_over(alloc: Global, number: u32) -> Result<Reply, ServeFault>
-    ensures text { IfOk result (λ r. r ≡ record { line = over_text number; frames = [] }) }
-    ensures memory { IfErr result (λ e. e ≡ ServeFault.OutOfMemory) }
-{
-    let mut out = ByteOut::new(alloc);
-    let put = put_over(&mut out, number);
-    said(put, out)
-}
-
-// Its identifier.
-pub(crate) fn say_id(alloc: Global, number: u32, sid: &Sid) -> Result<Reply, ServeFault>
-    ensures text { IfOk result (λ r. r ≡ record { line = id_text number sid.now; frames = [] }) }
-    ensures memory { IfErr result (λ e. e ≡ ServeFault.OutOfMemory) }
-{
-    let mut out = ByteOut::new(alloc);
-    let put = put_id(&mut out, number, sid);
-    said(put, out)
+    match put_turn(&mut out, number, graph, node) {
+        Ok(()) => Ok(Reply::new(out.done(), None)),
+        Err(_) => Err(ServeFault::OutOfMemory),
+    }
 }
 
 impl<'p> Server<'p> {
@@ -132,11 +87,11 @@ impl<'p> Server<'p> {
         ensures memory { IfErr result (λ e. e ≡ ServeFault.OutOfMemory) }
     {
         let Some(sid) = self.sid(number) else {
-            return say_unknown(self.alloc, number);
+            return say(self.alloc, Said::Unknown(number));
         };
         match self.last.of(&sid) {
             Some(frame) => repeated(self.alloc, frame),
-            None => say_nothing(self.alloc, number),
+            None => say(self.alloc, Said::Nothing(number)),
         }
     }
 
@@ -147,7 +102,7 @@ impl<'p> Server<'p> {
     {
         match self.sid(number) {
             Some(sid) => self.turn_of(number, sid),
-            None => say_unknown(self.alloc, number),
+            None => say(self.alloc, Said::Unknown(number)),
         }
     }
 
@@ -157,11 +112,11 @@ impl<'p> Server<'p> {
         ensures memory { IfErr result (λ e. e ≡ ServeFault.OutOfMemory) }
     {
         let Some(graph) = self.player.graph_of(&sid) else {
-            return say_over(self.alloc, number);
+            return say(self.alloc, Said::Over(number));
         };
         match self.player.turn(sid) {
             Some(node) => say_turn(self.alloc, number, graph, node),
-            None => say_waits(self.alloc, number),
+            None => say(self.alloc, Said::Waits(number)),
         }
     }
 
@@ -171,8 +126,8 @@ impl<'p> Server<'p> {
         ensures memory { IfErr result (λ e. e ≡ ServeFault.OutOfMemory) }
     {
         match self.sid(number) {
-            Some(sid) => say_id(self.alloc, number, &sid),
-            None => say_unknown(self.alloc, number),
+            Some(sid) => say(self.alloc, Said::Id(number, sid)),
+            None => say(self.alloc, Said::Unknown(number)),
         }
     }
 }

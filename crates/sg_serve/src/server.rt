@@ -1,8 +1,7 @@
 //! One principal who serves an application.
-ghost use Rattle.std.specs.Prelude.{◌≡◌, ℕ, ◌-◌, List, [], None, IfErr, IfOk, OnOk, is_some, option_map, slice_get, unwrap_or};
-ghost use Rattle.std.specs.Option.{option_copied, option_map_or};
+ghost use Rattle.std.specs.Prelude.{◌≡◌, ℕ, ◌-◌, List, [], None, IfErr, IfOk, is_some, slice_get, unwrap_or};
+ghost use Rattle.std.specs.Option.{option_copied};
 ghost use Rattle.sg_again.specs.LastFrames.{no_frames};
-ghost use Rattle.sg_ledger.specs.Format.{Join, OpenLedger};
 ghost use Rattle.sg_protocol.specs.NodeStates.{new_state};
 
 use crate::ServeFault;
@@ -29,11 +28,10 @@ pub(crate) struct Server<'p> {
 }
 
 impl<'p> Server<'p> {
-    ghost use Rattle.sg_keep.specs.KeptRuns.{AllRepresent};
     ghost use Rattle.sg_play.specs.Played.{Play, beginning};
-    ghost use Rattle.sg_serve.specs.Served.{images_if, joins_kept};
-    ghost use Rattle.sg_serve.specs.Serving.{Serving, is_live, sids_of};
-    ghost use Rattle.sg_serve.specs.Representation.{HoldsJoins, RepresentsServing};
+    ghost use Rattle.sg_serve.specs.Served.{joins_kept};
+    ghost use Rattle.sg_serve.specs.Serving.{is_live, sids_of};
+    ghost use Rattle.sg_serve.specs.Representation.{RepresentsServing};
     ghost use Rattle.sg_play.specs.Representation.{RepresentsPlay};
 
     // A server whose node was made with these keys and programs, and with the ledger's joins, and was not asked anything yet.
@@ -49,16 +47,19 @@ impl<'p> Server<'p> {
         ensures ledger { IfOk result (λ sv. sv.ledger ≡ ledger) }
         ensures memory { IfErr result (λ e. e ≡ ServeFault.OutOfMemory) }
     {
-        let Ok(player) = Player::new(alloc, node, keys, programs, Seq::new(alloc)) else {
-            return Err(ServeFault::OutOfMemory);
-        };
-        Ok(Server {
-            alloc,
-            player,
-            graphs: Graphs::new(alloc),
-            last: LastFrames::new(alloc),
-            ledger,
-        })
+        match Player::new(alloc, node, keys, programs, Seq::new(alloc)) {
+            Ok(player) => Ok(Server {
+                alloc,
+                player,
+                graphs: Graphs::new(alloc),
+                last: LastFrames::new(alloc),
+                ledger,
+            }),
+            Err(_) => {
+                drop(ledger);
+                Err(ServeFault::OutOfMemory)
+            }
+        }
     }
 
     // The session of a number.

@@ -1,5 +1,5 @@
 -- What files hold that are read one after another.
-use Rattle.std.proofs.Common.{◌≡◌, ℕ, ◌+◌, ◌<◌, ◌≤◌, List, [], ◌∷◌, ◌++◌, Some, Result, map, take, drop, length, get_or, sym, ap, subst, ◌∙◌}
+use Rattle.std.proofs.Common.{◌≡◌, ℕ, ◌+◌, ◌<◌, ◌≤◌, List, [], ◌∷◌, ◌++◌, Some, Result, Bor, map, take, drop, length, get_or, sym, ap, subst, ◌∙◌}
 use Rattle.std.specs.Prelude.{OnOk}
 use Rattle.std.proofs.lemmas.List.{drop_more, map_more, map-append, take-append-drop, take_all}
 use Rattle.std.proofs.lemmas.Result.{on_ok_weaker}
@@ -13,6 +13,10 @@ use Rattle.sg_ending.specs.Ending.{Ending}
 use Rattle.sg_ending.specs.Files.{KnownFiles, Has, EndsAt, Holds}
 use Rattle.sg_setup.specs.Setup.{RunFiles, Principal, Adds, HasPrincipal, HasSetup, HoldPrograms, OneMore, IsTextOf, LacksPrincipal, AtProgram, LacksSetup, AtScript, RefusesProgram, RefusesScript, StopsAtProgram}
 use Rattle.sg_ending.proofs.Files.{ends_later, holds}
+
+-- the names of files
+abbrev pub names : Bor (List (Bor (List ℕ))) → List (List ℕ)
+names files = map (λ (f : Bor (List ℕ)). f.now) files.now
 
 -- the files before one, it, and those behind it
 parts : {X : Type 0} (f : X → List ℕ) (names : List X) (i : ℕ) (d : X) → i < length names → map f names ≡ map f (take i names) ++ f (get_or names i d) ∷ map f (drop (i + 1) names)

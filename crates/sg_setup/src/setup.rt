@@ -60,13 +60,20 @@ pub fn read_principal<'w, F: Files>(
     ensures kept { F.held files.new ≡ F.held files.old }
     ensures no_fault { OnOk result (F.faults files.new ≡ F.faults files.old) }
 {
-    let (keys, keys_of_node) = read_keys(alloc, keys, files)?;
-    let programs = read_programs(alloc, programs, files)?;
-    Ok(Principal {
-        keys,
-        keys_of_node,
-        programs,
-    })
+    match read_keys(alloc, keys, files) {
+        Ok(both) => match read_programs(alloc, programs, files) {
+            Ok(programs) => Ok(Principal {
+                keys: both.0,
+                keys_of_node: both.1,
+                programs,
+            }),
+            Err(ending) => {
+                drop(both);
+                Err(ending)
+            }
+        },
+        Err(ending) => Err(ending),
+    }
 }
 
 /// What the files of a run hold, or how the program ends without it. The principal is read first, then the script.
@@ -87,19 +94,33 @@ pub fn read_setup<'w, F: Files>(
     ensures lacks { IfErr result (λ ending. LacksSetup (F.held files.old) (F.faults files.old) (F.faults files.new)
         (record { keys = keys.now; programs = map (λ p. p.now) programs.now; script = script.now }) (ending_held ending)) }
 {
-    let principal = read_principal(alloc, keys, programs, files)?;
-    let script = script_of(alloc, script, &principal.programs, files)?;
+    match read_principal(alloc, keys, programs, files) {
+        Ok(principal) => match script_of(alloc, script, &principal.programs, files) {
+            Ok(script) => Ok(with_script(principal, script)),
+            Err(ending) => {
+                drop(principal);
+                Err(ending)
+            }
+        },
+        Err(ending) => Err(ending),
+    }
+}
+
+// What a principal plays this script by.
+fn with_script(principal: Principal, script: Script) -> Setup
+    ensures { result ≡ record { keys = principal.keys; keys_of_node = principal.keys_of_node; programs = principal.programs; script = script } }
+{
     let Principal {
         keys,
         keys_of_node,
         programs,
     } = principal;
-    Ok(Setup {
+    Setup {
         keys,
         keys_of_node,
         programs,
         script,
-    })
+    }
 }
 
 // The keys of a file, twice.
@@ -114,8 +135,10 @@ fn read_keys<'w, F: Files>(
     ensures kept { F.held files.new ≡ F.held files.old }
     ensures no_fault { OnOk result (F.faults files.new ≡ F.faults files.old) }
 {
-    let bytes = read_file(alloc, file, files, MOST_BYTES)?;
-    both_of(alloc, bytes.as_slice())
+    match read_file(alloc, file, files, MOST_BYTES) {
+        Ok(bytes) => both_of(alloc, bytes.as_slice()),
+        Err(ending) => Err(ending),
+    }
 }
 
 // The keys that the bytes spell, twice.
@@ -124,9 +147,16 @@ fn both_of(alloc: Global, bytes: &[u8]) -> Result<(Keyring, Keyring), Ending<'st
     ensures same { IfOk result (λ k. k.1 ≡ k.0) }
     ensures refused { IfErr result (λ ending. RefusesKeys bytes.now (ending_held ending)) }
 {
-    let keys = keys_of(alloc, bytes)?;
-    let again = keys_of(alloc, bytes)?;
-    Ok((keys, again))
+    match keys_of(alloc, bytes) {
+        Ok(keys) => match keys_of(alloc, bytes) {
+            Ok(again) => Ok((keys, again)),
+            Err(ending) => {
+                drop(keys);
+                Err(ending)
+            }
+        },
+        Err(ending) => Err(ending),
+    }
 }
 
 // The keys that the bytes spell.
@@ -155,7 +185,13 @@ fn read_programs<'w, F: Files>(
 {
     let mut programs = Programs::new(alloc);
     'files: for file in names {
-        add_program(alloc, file, files, &mut programs)?;
+        match add_program(alloc, file, files, &mut programs) {
+            Ok(()) => {}
+            Err(ending) => {
+                drop(programs);
+                return Err(ending);
+            }
+        }
     }
     Ok(programs)
 }
@@ -172,8 +208,10 @@ fn add_program<'w, F: Files>(
     ensures kept { F.held files.new ≡ F.held files.old }
     ensures no_fault { OnOk result (F.faults files.new ≡ F.faults files.old) }
 {
-    let bytes = read_file(alloc, file, files, MOST_OF_A_PROGRAM)?;
-    put_program(alloc, bytes.as_slice(), programs)
+    match read_file(alloc, file, files, MOST_OF_A_PROGRAM) {
+        Ok(bytes) => put_program(alloc, bytes.as_slice(), programs),
+        Err(ending) => Err(ending),
+    }
 }
 
 // Adds the program whose text the bytes are.
@@ -199,8 +237,14 @@ fn add(bytes: &[u8], program: Program, programs: &mut Programs) -> Result<(), En
     let cause = BadProgram::Twice;
     match programs.add(program) {
         Ok(()) => Ok(()),
-        Err((_, AddProgramFault::Twice)) => Err(Ending::ProgramRefused { number, cause }),
-        Err((_, AddProgramFault::OutOfMemory)) => Err(Ending::NoMemory),
+        Err((back, AddProgramFault::Twice)) => {
+            drop(back);
+            Err(Ending::ProgramRefused { number, cause })
+        }
+        Err((back, AddProgramFault::OutOfMemory)) => {
+            drop(back);
+            Err(Ending::NoMemory)
+        }
     }
 }
 
@@ -246,8 +290,19 @@ fn script_of<'w, F: Files>(
     ensures ends { IfErr result (λ ending. EndsAt (F.held files.old) (F.faults files.old) (F.faults files.new) most_script_file file.now (RefusesScript programs.now) (ending_held ending)) }
     ensures no_fault { OnOk result (F.faults files.new ≡ F.faults files.old) }
 {
-    let bytes = read_file(alloc, file, files, MOST_BYTES)?;
-    match read_script(alloc, bytes.as_slice(), programs) {
+    match read_file(alloc, file, files, MOST_BYTES) {
+        Ok(bytes) => script_in(alloc, bytes.as_slice(), programs),
+        Err(ending) => Err(ending),
+    }
+}
+
+// The script that the bytes spell beside these programs.
+fn script_in(alloc: Global, bytes: &[u8], programs: &Programs) -> Result<Script, Ending<'static>>
+    ensures spelled { IfOk result (λ s. SpellsScript programs.now bytes.now s) }
+    ensures script { IfOk result (IsScript programs.now) }
+    ensures refused { IfErr result (λ ending. RefusesScript programs.now bytes.now (ending_held ending)) }
+{
+    match read_script(alloc, bytes, programs) {
         Ok(script) => Ok(script),
         Err(ScriptFault::OutOfMemory) => Err(Ending::NoMemory),
         Err(fault) => Err(Ending::ScriptRefused { fault }),

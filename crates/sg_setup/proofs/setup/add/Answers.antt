@@ -16,5 +16,5 @@ returns-in-Ok-clause-added c = record {
 pub returns-in-Err-default-Twice-clause-refused : goal.returns-in-Err-default-Twice-clause-refused
 returns-in-Err-default-Twice-clause-refused c = (
   c.next_number-number.ensures,
-  (c.args.program, c.requires, clash c.add.result c.args.program c.in-Err-default-Twice.field-0-0 (list_any (clashes c.args.program) c.args.programs.now) c.add.ensures.twice c.add.ensures.back (c.in-Err-default-Twice.is ∙ ap (λ (f : AddProgramFault). Err (c.in-Err-default-Twice.field-0-0, f)) c.in-Err-default-Twice.field-0-1-is)),
+  (c.args.program, c.requires, clash c.add.result c.args.program c.in-Err-default-Twice.back (list_any (clashes c.args.program) c.args.programs.now) c.add.ensures.twice c.add.ensures.back (c.in-Err-default-Twice.is ∙ ap (λ (f : AddProgramFault). Err (c.in-Err-default-Twice.back, f)) c.in-Err-default-Twice.field-0-1-is)),
 )

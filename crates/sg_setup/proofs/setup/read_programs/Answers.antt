@@ -1,5 +1,4 @@
 use Rattle.std.proofs.Common.{[], sym, subst, refl, ◌∙◌, Bor, List, ℕ}
-use Rattle.std.proofs.lemmas.Result.{err_from_is_err_and}
 use Rattle.sg_ending.specs.Model.{ending_held}
 use Rattle.sg_setup.specs.Setup.{HoldPrograms, NoPrograms}
 use Rattle.sg_setup.proofs.InOrder.{all_held, one_more, stops}
@@ -12,22 +11,20 @@ files-init g c = record {
   no_fault = refl;
 }
 
-pub returns-in_err-add_program-clause-ends : goal.returns-in_err-add_program-clause-ends
-returns-in_err-add_program-clause-ends g c =
+pub returns-in-Err-clause-ends : goal.returns-in-Err-clause-ends
+returns-in-Err-clause-ends g c =
     let i = c.files.invariant in
-    let p = err_from_is_err_and c.from_residual.result c.from_residual.ensures.1 in
-    rw (p.1, p.2)
-    (stops (λ (s : Bor (List ℕ)). s.now) (g.F.Files.held c.args.files.now) (g.F.Files.held c.files.files) (g.F.Files.faults c.args.files.now) (g.F.Files.faults c.files.files) (g.F.Files.faults c.add_program.new.files)
-    c.args.names.now c.files.file-index _ c.files.programs (ending_held c.in_err-add_program.field-0.0) c.files-test.true i.kept i.no_fault i.hold c.in_err-add_program.ensures.ends)
+    stops (λ (s : Bor (List ℕ)). s.now) (g.F.Files.held c.args.files.now) (g.F.Files.held c.files.files) (g.F.Files.faults c.args.files.now) (g.F.Files.faults c.files.files) (g.F.Files.faults c.add_program.new.files)
+    c.args.names.now c.files.file-index _ c.files.programs (ending_held c.in-Err.ending) c.files-test.true i.kept i.no_fault i.hold c.in-Err.ensures.ends
 
 pub files-preserved : goal.files-preserved
 files-preserved g c =
     let i = c.files.invariant in
     record {
       hold = one_more (λ (s : Bor (List ℕ)). s.now) (g.F.Files.held c.args.files.now) (g.F.Files.held c.files.files) c.args.names.now c.files.file-index _ c.files.programs c.add_program.new.programs
-          c.files-test.true i.kept i.hold c.in_ok-add_program.ensures.added;
+          c.files-test.true i.kept i.hold c.in-Ok.ensures.added;
       kept = c.add_program.ensures.kept ∙ i.kept;
-      no_fault = c.in_ok-add_program.ensures.no_fault ∙ i.no_fault;
+      no_fault = c.in-Ok.ensures.no_fault ∙ i.no_fault;
     }
 
 pub returns-clause-hold : goal.returns-clause-hold

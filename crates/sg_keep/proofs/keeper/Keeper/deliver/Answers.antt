@@ -1,23 +1,21 @@
 use Rattle.std.proofs.Common.{refl}
 use Rattle.sg_protocol.specs.Calls.{Deliver}
-use Rattle.sg_play.specs.Ends.{Outside}
 use Rattle.sg_play.specs.Played.{with_turn}
-use Rattle.sg_keep.specs.declared.keeper.Keeper.{Keeper}
-use Rattle.sg_keep.proofs.Asking.{asked_node, holds_all, is_asked, ledger_has, memory_end, node_has}
+use Rattle.sg_keep.proofs.Asking.{asked_node, holds_all, is_asked, memory_end}
 use Rattle.sg_keep.proofs.Counting.{memory_kept}
 use Rattle.sg_keep.proofs.Going.{with_call}
-use Rattle.sg_keep.proofs.AtMost.{call_at_most, not_asked_at_most}
-use Rattle.sg_keep.proofs.Moments.{all_held, asked_more, either_more, more_on_ok, not_asked}
+use Rattle.sg_keep.proofs.AtMost.{not_asked_at_most}
+use Rattle.sg_keep.proofs.Moments.{all_held, not_asked}
 use Rattle.sg_keep.proofs.keeper.Keeper.deliver.Goals as goal
 
-pub report-requires : goal.report-requires
-report-requires g c =
+pub report-came-requires : goal.report-came-requires
+report-came-requires g c =
     let h = c.requires.holds in
     record { asked = asked_node c.args.self.now c.ask_deliver.new.self (g.D.Disk.may_leave c.args.disk.now) (Deliver c.args.bytes.now) c.in-Ok.outcome h (c.in-Ok.ensures.is_asked 0 h.past h.represents) }
 
 pub returns-in-Ok-clause-progress : goal.returns-in-Ok-clause-progress
 returns-in-Ok-clause-progress g c = λ p start s w h.
-    c.report.ensures.progress p (Deliver c.args.bytes.now) start
+    c.report-came.ensures.progress p (Deliver c.args.bytes.now) start
     (is_asked c.args.self.now c.ask_deliver.new.self (g.D.Disk.may_leave c.args.disk.now) p (Deliver c.args.bytes.now) c.in-Ok.outcome c.requires.holds s c.in-Ok.ensures.rest (λ number. c.in-Ok.ensures.is_asked number p.past s.player.node) refl)
     w h
 
@@ -28,18 +26,6 @@ pub returns-in-Err-clause-progress : goal.returns-in-Err-clause-progress
 returns-in-Err-clause-progress g c = λ p start s w h.
     memory_end start (record { written = g.O.Sink.written c.args.out.now; sent = g.L.Link.sent c.args.link.now }) (g.D.Disk.may_leave c.args.disk.now) c.args.self.now p (with_turn p (Deliver c.args.bytes.now)) c.requires.holds s (with_call p (Deliver c.args.bytes.now)) h c.in-Err.fault c.in-Err.ensures.memory
 
-pub returns-in-Ok-clause-more : goal.returns-in-Ok-clause-more
-returns-in-Ok-clause-more g c =
-    let h = c.requires.holds in
-    more_on_ok c.report.result c.args.self.now.ledger.joins c.ask_deliver.new.self.node.joins c.report.new.self.ledger.joins
-    (asked_more c.args.self.now c.ask_deliver.new.self (g.D.Disk.may_leave c.args.disk.now) (Deliver c.args.bytes.now) c.in-Ok.outcome h (c.in-Ok.ensures.is_asked 0 h.past h.represents)) c.report.ensures.joins
-
-pub returns-in-Ok-clause-any_moment : goal.returns-in-Ok-clause-any_moment
-returns-in-Ok-clause-any_moment g c =
-    let h = c.requires.holds in
-    either_more g.D.Disk.moment g.D.Disk.left_since c.args.disk.now c.report.new.disk c.args.self.now.ledger.joins c.ask_deliver.new.self.node.joins
-    (asked_more c.args.self.now c.ask_deliver.new.self (g.D.Disk.may_leave c.args.disk.now) (Deliver c.args.bytes.now) c.in-Ok.outcome h (c.in-Ok.ensures.is_asked 0 h.past h.represents)) c.report.ensures.any_moment
-
 pub returns-in-Err-clause-any_moment : goal.returns-in-Err-clause-any_moment
 returns-in-Err-clause-any_moment g c =
     let leaves = g.D.Disk.may_leave c.args.disk.now in
@@ -47,13 +33,8 @@ returns-in-Err-clause-any_moment g c =
 
 pub returns-in-Ok-clause-leaves_at_most : goal.returns-in-Ok-clause-leaves_at_most
 returns-in-Ok-clause-leaves_at_most g c = λ p s.
-    let leaves = g.D.Disk.may_leave c.args.disk.now in
-    let now : Outside = record { written = g.O.Sink.written c.args.out.now; sent = g.L.Link.sent c.args.link.now } in
-    let k : Keeper = record c.args.self.now { player = c.ask_deliver.new.self } in
-    let outcome = c.in-Ok.outcome in
-    let call = Deliver c.args.bytes.now in
-    let a = is_asked c.args.self.now c.ask_deliver.new.self leaves p call outcome c.requires.holds s c.in-Ok.ensures.rest (λ number. c.in-Ok.ensures.is_asked number p.past s.player.node) refl in
-    call_at_most g.D.Disk.moment g.D.Disk.left_since c.args.disk.now c.report.new.disk p call k.ledger.joins k.player.node.joins (ledger_has now now leaves k p call outcome a) (node_has now now leaves k p call outcome a) c.report.ensures.any_moment
+    c.report-came.ensures.leaves_at_most p (Deliver c.args.bytes.now)
+    (is_asked c.args.self.now c.ask_deliver.new.self (g.D.Disk.may_leave c.args.disk.now) p (Deliver c.args.bytes.now) c.in-Ok.outcome c.requires.holds s c.in-Ok.ensures.rest (λ number. c.in-Ok.ensures.is_asked number p.past s.player.node) refl)
 
 pub returns-in-Err-clause-leaves_at_most : goal.returns-in-Err-clause-leaves_at_most
 returns-in-Err-clause-leaves_at_most g c = λ p s.

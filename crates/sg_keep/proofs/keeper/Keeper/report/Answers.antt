@@ -1,5 +1,4 @@
 use Rattle.std.proofs.Common.{◌∙◌, refl, ap}
-use Rattle.sg_ledger.specs.Format.{OpenLedger}
 use Rattle.sg_play.specs.Around.{outside_of}
 use Rattle.sg_play.specs.declared.player.Player.{Player}
 use Rattle.sg_keep.proofs.Asking.{asked_then, holds_on, represents_kept, unkept, unplayed}
@@ -24,9 +23,10 @@ returns-in-Ok-go_on g c =
     record {
       kept = record { link_bound = played.kept.bound; disk_bound = c.keep_join.ensures.disk_bound; deliveries = played.kept.deliveries; faults = counted_then (kept_counted kept.faults) (played_counted played.kept.faults) };
       holds = holds_on m (record m { player = c.go_on.new.self }) leaves kept.holds refl played.joins;
-      joins = ap (λ (l : OpenLedger). l.joins) kept.holds.ledger ∙ ap (λ (pl : Player). pl.node.joins) c.keep_join.ensures.player;
+      more = kept.more;
       programs = played.programs ∙ ap (λ (pl : Player). pl.programs.now) c.keep_join.ensures.player;
       any_moment = c.keep_join.ensures.any_moment;
+      leaves_at_most = c.keep_join.ensures.leaves_at_most;
       progress = λ p k start a w h.
           let old = c.args.self.now in
           let outcome = c.args.outcome.now in

@@ -1,17 +1,17 @@
-use Rattle.std.proofs.Common.{◌+◌, List, length, take, Ok, Err, refl, sym, ◌∙◌, subst, arith}
+use Rattle.std.proofs.Common.{◌+◌, List, take, Ok, Err, refl, ◌∙◌, subst}
 use Rattle.std.proofs.lemmas.List.{take_all}
 use Rattle.sg_script.specs.Script.{Start as ScriptStart}
 use Rattle.sg_play.specs.Ends.{Outside}
 use Rattle.sg_play.specs.Played.{Play, all_starts, starts}
 use Rattle.sg_play.proofs.Looping.{start_next}
 use Rattle.sg_play.proofs.Running.{start_held}
-use Rattle.sg_keep.specs.KeptRuns.{HasKept, LeavesAtMost}
+use Rattle.sg_keep.specs.KeptRuns.{HasKept}
 use Rattle.sg_keep.specs.Representation.{Progressed}
 use Rattle.sg_keep.proofs.Asking.{holds_all}
-use Rattle.sg_keep.proofs.AtMost.{kept_at, kept_by, leaves_on, leaves_then, no_fewer_calls, not_asked_at_most}
+use Rattle.sg_keep.proofs.AtMost.{kept_at, kept_early, leaves_next, not_asked_at_most}
 use Rattle.sg_keep.proofs.Counting.{kept_then, none_kept}
 use Rattle.sg_keep.proofs.Ending.{end_on, to_same}
-use Rattle.sg_keep.proofs.Going.{Goes, by_start, by_starts, nothing, starts_on}
+use Rattle.sg_keep.proofs.Going.{by_start, by_starts, nothing, starts_on}
 use Rattle.sg_keep.proofs.Moments.{all_held, more_none, more_on, more_then, not_asked}
 use Rattle.sg_keep.proofs.Silent.{represents_silent, silent, whole_silent, written_since}
 use Rattle.sg_keep.proofs.keeper.Keeper.start_all.Goals as goal
@@ -34,11 +34,8 @@ loop-start-preserved g c =
           let so_far : Play = all_starts p (take at c.args.starts.now) in
           let next : Play = starts so_far c.start-item.result in
           let before = inv.progress p start s w h in
-          let g' = by_start so_far c.start-item.result in
-          let few = no_fewer_calls so_far next g' in
-          subst (λ (z : Play). LeavesAtMost g.D.Disk.moment g.D.Disk.left_since c.args.disk.now c.start_one.new.disk z (length z.past.calls)) (start_next p at c.args.starts.now c.start-item.result c.loop-start-test.true c.start-item.is)
-          (leaves_then g.D.Disk.moment g.D.Disk.left_since c.args.disk.now c.loop-start.disk c.start_one.new.disk so_far next g' (length so_far.past.calls) (length next.past.calls) (omega arith) few (inv.leaves_at_most p start s w h)
-          (leaves_on g.D.Disk.moment g.D.Disk.left_since c.loop-start.disk c.start_one.new.disk next next (nothing next) (length so_far.past.calls) (length next.past.calls) few few (one.leaves_at_most so_far before.0 before.2)));
+          leaves_next g.D.Disk.moment g.D.Disk.left_since c.args.disk.now c.loop-start.disk c.start_one.new.disk so_far next (all_starts p (take (at + 1) c.args.starts.now))
+          (start_next p at c.args.starts.now c.start-item.result c.loop-start-test.true c.start-item.is) (by_start so_far c.start-item.result) (inv.leaves_at_most p start s w h) (one.leaves_at_most so_far before.0 before.2);
       progress = λ p start s w h.
           let now : Outside = record { written = g.O.Sink.written c.start_one.new.out; sent = g.L.Link.sent c.start_one.new.link } in
           let at = c.loop-start.start-index in
@@ -92,14 +89,11 @@ returns-in-Err-clause-throughout g c = λ p start s w h.
     let all : Play = all_starts p c.args.starts.now in
     let before = inv.progress p start s w h in
     let is = start_next p at c.args.starts.now c.start-item.result c.loop-start-test.true c.start-item.is in
-    let few = no_fewer_calls so_far next (by_start so_far c.start-item.result) in
-    let goes : Goes next all = subst (λ (z : Play). Goes z all) (sym is) (starts_on p (at + 1) c.args.starts.now) in
     let more = written_since from now leaves (starts (silent so_far) c.start-item.result) c.in-Err.fault
     (c.in-Err.ensures.progress (silent so_far) from (represents_silent c.loop-start.self so_far before.0) before.2 (whole_silent start mid so_far before.1)) in
-    let images = leaves_then g.D.Disk.moment g.D.Disk.left_since c.args.disk.now c.loop-start.disk c.start_one.new.disk so_far next (by_start so_far c.start-item.result) (length so_far.past.calls) (length so_far.past.calls) (omega arith) (omega arith)
-    (inv.leaves_at_most p start s w h) (c.start_one.ensures.leaves_at_most so_far before.0 before.2) in
-    kept_by g.D.Disk.moment g.D.Disk.left_since c.args.disk.now c.start_one.new.disk start.written mid.written now.written p so_far all (by_starts p (take at c.args.starts.now)) (starts_on p at c.args.starts.now) before.0.in_step before.1.lines more
-    (leaves_on g.D.Disk.moment g.D.Disk.left_since c.args.disk.now c.start_one.new.disk next all goes (length so_far.past.calls) (length so_far.past.calls) few (omega arith) images)
+    kept_early g.D.Disk.moment g.D.Disk.left_since c.args.disk.now c.loop-start.disk c.start_one.new.disk start.written mid.written now.written p so_far next (all_starts p (take (at + 1) c.args.starts.now)) all is
+    (by_starts p (take at c.args.starts.now)) (by_start so_far c.start-item.result) (starts_on p (at + 1) c.args.starts.now) (starts_on p at c.args.starts.now) before.0.in_step before.1.lines more
+    (inv.leaves_at_most p start s w h) (c.start_one.ensures.leaves_at_most so_far before.0 before.2)
 
 pub returns-clause-throughout : goal.returns-clause-throughout
 returns-clause-throughout g c = λ p start s w h.

@@ -1,17 +1,17 @@
-use Rattle.std.proofs.Common.{◌≡◌, ◌≤◌, ◌+◌, ℕ, List, [], ◌∷◌, length, take, drop, Some, Err, Ok, refl, sym, ap, ◌∙◌, subst, arith}
+use Rattle.std.proofs.Common.{◌≡◌, ◌≤◌, ◌+◌, ℕ, List, [], ◌∷◌, take, drop, Some, Err, Ok, refl, sym, ap, ◌∙◌, subst, arith}
 use Rattle.sg_protocol.specs.Calls.{Deliver}
 use Rattle.sg_play.specs.Ends.{Outside}
 use Rattle.sg_play.specs.Played.{Play, all_deliveries, with_turn}
 use Rattle.sg_play.proofs.Looping.{delivery_next, left_next, left_none, taken_all}
 use Rattle.sg_play.proofs.Running.{nothing_sent}
 use Rattle.sg_keep.specs.Faults.{Counts}
-use Rattle.sg_keep.specs.KeptRuns.{HasKept, LeavesAtMost}
+use Rattle.sg_keep.specs.KeptRuns.{HasKept}
 use Rattle.sg_keep.specs.Representation.{Progressed}
 use Rattle.sg_keep.proofs.Asking.{holds_all, link_end, memory_end}
-use Rattle.sg_keep.proofs.AtMost.{kept_by, kept_taking, leaves_on, leaves_then, no_fewer_calls, not_asked_at_most}
+use Rattle.sg_keep.proofs.AtMost.{kept_early, kept_taking, leaves_next, not_asked_at_most}
 use Rattle.sg_keep.proofs.Counting.{asked_then, counted_then, link_counted, memory_counted, none_counted}
 use Rattle.sg_keep.proofs.Ending.{end_on, to_same}
-use Rattle.sg_keep.proofs.Going.{Goes, by_deliveries, deliveries_on, nothing, with_call}
+use Rattle.sg_keep.proofs.Going.{by_deliveries, deliveries_on, nothing, with_call}
 use Rattle.sg_keep.proofs.Moments.{all_held, more_none, more_on, more_then, not_asked}
 use Rattle.sg_keep.proofs.Silent.{represents_silent, silent, whole_silent, written_since}
 use Rattle.sg_keep.proofs.keeper.Keeper.take_all.Goals as goal
@@ -52,11 +52,8 @@ loop-taken-preserved g c =
           let call = Deliver c.as_slice.result.now in
           let before = inv.progress p start deliveries reported s w h in
           let next : drop k deliveries ≡ c.as_slice.result.now ∷ drop 1 (drop k deliveries) = (first (drop k deliveries) (inv.left deliveries reported)).0 ∙ ap (λ (b : List ℕ). b ∷ drop 1 (drop k deliveries)) (sym c.as_slice.ensures.value) in
-          let goes = with_call so_far call in
-          let few = no_fewer_calls so_far (with_turn so_far call) goes in
-          subst (λ (z : Play). LeavesAtMost g.D.Disk.moment g.D.Disk.left_since c.args.disk.now c.deliver.new.disk z (length z.past.calls)) (delivery_next p k deliveries c.as_slice.result.now next)
-          (leaves_then g.D.Disk.moment g.D.Disk.left_since c.args.disk.now c.loop-taken.disk c.deliver.new.disk so_far (with_turn so_far call) goes (length so_far.past.calls) (length (with_turn so_far call).past.calls) (omega arith) few (inv.leaves_at_most p start deliveries reported s w h)
-          (leaves_on g.D.Disk.moment g.D.Disk.left_since c.loop-taken.disk c.deliver.new.disk (with_turn so_far call) (with_turn so_far call) (nothing (with_turn so_far call)) (length so_far.past.calls) (length (with_turn so_far call).past.calls) few few (one.leaves_at_most so_far before.0)));
+          leaves_next g.D.Disk.moment g.D.Disk.left_since c.args.disk.now c.loop-taken.disk c.deliver.new.disk so_far (with_turn so_far call) (all_deliveries p (take (k + 1) deliveries))
+          (delivery_next p k deliveries c.as_slice.result.now next) (with_call so_far call) (inv.leaves_at_most p start deliveries reported s w h) (one.leaves_at_most so_far before.0);
       progress = λ p start deliveries reported s w h.
           let now : Outside = record { written = g.O.Sink.written c.deliver.new.out; sent = g.L.Link.sent c.deliver.new.link } in
           let so_far : Play = all_deliveries p (take k deliveries) in
@@ -183,14 +180,11 @@ returns-in-Err-clause-throughout g c = let within : c.loop-taken._taken + 1 ≤ 
     let whole = nothing_sent start so_far (g.O.Sink.written c.loop-taken.out) (g.L.Link.sent c.loop-taken.link) (g.L.Link.sent c.recv.new.self) c.recv.ensures.kept_sent before.1 in
     let next : drop k deliveries ≡ c.as_slice.result.now ∷ drop 1 (drop k deliveries) = (first (drop k deliveries) (inv.left deliveries reported)).0 ∙ ap (λ (b : List ℕ). b ∷ drop 1 (drop k deliveries)) (sym c.as_slice.ensures.value) in
     let is = delivery_next p k deliveries c.as_slice.result.now next in
-    let few = no_fewer_calls so_far after (with_call so_far call) in
-    let goes : Goes after all = subst (λ (z : Play). Goes z all) (sym is) (deliveries_on p (k + 1) c.args.most deliveries within) in
     let more = written_since from now leaves (with_turn (silent so_far) call) c.in-Err.fault
     (c.in-Err.ensures.progress (silent so_far) from (represents_silent c.loop-taken.self so_far before.0) before.2 (whole_silent start mid so_far whole)) in
-    let images = leaves_then g.D.Disk.moment g.D.Disk.left_since c.args.disk.now c.loop-taken.disk c.deliver.new.disk so_far after (with_call so_far call) (length so_far.past.calls) (length so_far.past.calls) (omega arith) (omega arith)
-    (inv.leaves_at_most p start deliveries reported s w h) (c.deliver.ensures.leaves_at_most so_far before.0) in
-    kept_by g.D.Disk.moment g.D.Disk.left_since c.args.disk.now c.deliver.new.disk start.written mid.written now.written p so_far all (by_deliveries p (take k deliveries)) (deliveries_on p k c.args.most deliveries (omega (arith, within))) before.0.in_step before.1.lines more
-    (leaves_on g.D.Disk.moment g.D.Disk.left_since c.args.disk.now c.deliver.new.disk after all goes (length so_far.past.calls) (length so_far.past.calls) few (omega arith) images)
+    kept_early g.D.Disk.moment g.D.Disk.left_since c.args.disk.now c.loop-taken.disk c.deliver.new.disk start.written mid.written now.written p so_far after (all_deliveries p (take (k + 1) deliveries)) all is
+    (by_deliveries p (take k deliveries)) (with_call so_far call) (deliveries_on p (k + 1) c.args.most deliveries within) (deliveries_on p k c.args.most deliveries (omega (arith, within))) before.0.in_step before.1.lines more
+    (inv.leaves_at_most p start deliveries reported s w h) (c.deliver.ensures.leaves_at_most so_far before.0)
 
 pub returns-in-Ok-None-clause-throughout : goal.returns-in-Ok-None-clause-throughout
 returns-in-Ok-None-clause-throughout g c = let within : c.loop-taken._taken ≤ c.args.most = omega arith in λ p start deliveries reported s w h.

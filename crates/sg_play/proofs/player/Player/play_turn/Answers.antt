@@ -34,12 +34,12 @@ pub returns-clause-progress : goal.returns-clause-progress
 returns-clause-progress g c = λ p start s w h.
     let turn : turn_of (node_of p.past) c.args.sid ≡ Some c.in-Some.node = sym (c.turn.ensures p.past s.node) ∙ c.in-Some.is in
     let after = (acted c.args.sid c.in-Some.node p).0 in
-    let now = outside_of g.L.Link g.O.Sink c.give.new.link c.give.new.out in
+    let now = outside_of g.L.Link g.O.Sink c.give-given.new.link c.give-given.new.out in
     let left = g.R.Fresh.random c.act.new.fresh in
     let came = c.in_ok-act.ensures.progress p start s w h in
-    turn_left start now c.give.new.self left c.args.sid p c.in-Some.node c.give.result turn (sym came.1 ∙ c.if-branch.false)
-    (with_random start now c.give.new.self left (abandons c.args.sid after) c.give.result came.0.1
-    (c.give.ensures.progress after (Abandon c.args.sid) start (c.ask_abandon-outcome.ensures.asked after came.0.0.0) refl came.0.0.1))
+    turn_left start now c.give-given.new.self left c.args.sid p c.in-Some.node c.give-given.result turn (sym came.1 ∙ c.if-branch.false)
+    (with_random start now c.give-given.new.self left (abandons c.args.sid after) c.give-given.result came.0.1
+    (c.give-given.ensures.progress after (Abandon c.args.sid) start (c.ask_abandon-outcome.ensures.asked after came.0.0.0) refl came.0.0.1))
 
 pub returns-in_default-clause-joins : goal.returns-in_default-clause-joins
 returns-in_default-clause-joins g c = keeps_same c.args.self.now.node c.args.self.now.node refl
@@ -52,8 +52,8 @@ returns-clause-joins g c =
     let old = c.args.self.now.node in
     let acted = c.act.new.self.node in
     let left = c.ask_abandon-outcome.new.self.node in
-    let new = c.give.new.self.node in
-    mapped c.give.result (new ≡ left) (KeepsJoins old new) (λ e. keeps_then old acted new c.in_ok-act.ensures.joins (keeps_then acted left new c.ask_abandon-outcome.ensures.joins (keeps_same left new e))) c.give.ensures.node
+    let new = c.give-given.new.self.node in
+    mapped c.give-given.result (new ≡ left) (KeepsJoins old new) (λ e. keeps_then old acted new c.in_ok-act.ensures.joins (keeps_then acted left new c.ask_abandon-outcome.ensures.joins (keeps_same left new e))) c.give-given.ensures.node
 
 pub returns-in_default-clause-kept : goal.returns-in_default-clause-kept
 returns-in_default-clause-kept g c = none_kept _
@@ -66,7 +66,7 @@ pub returns-then-branch-clause-kept : goal.returns-then-branch-clause-kept
 returns-then-branch-clause-kept g c = kept_on _ c.in_ok-act.ensures.kept
 
 pub returns-clause-kept : goal.returns-clause-kept
-returns-clause-kept g c = kept_then c.in_ok-act.ensures.kept c.give.ensures.kept
+returns-clause-kept g c = kept_then c.in_ok-act.ensures.kept c.give-given.ensures.kept
 
 pub returns-clause-programs : goal.returns-clause-programs
-returns-clause-programs g c = mapped c.give.result _ _ (λ h. h ∙ ap (λ (pl : Player). pl.programs.now) c.ask_abandon-outcome.ensures.rest ∙ c.in_ok-act.ensures.programs) c.give.ensures.programs
+returns-clause-programs g c = mapped c.give-given.result _ _ (λ h. h ∙ ap (λ (pl : Player). pl.programs.now) c.ask_abandon-outcome.ensures.rest ∙ c.in_ok-act.ensures.programs) c.give-given.ensures.programs

@@ -8,5 +8,5 @@ pub returns-in-Ok-ask_act-clause-replied : goal.returns-in-Ok-ask_act-clause-rep
 returns-in-Ok-ask_act-clause-replied g c =
     let came = c.in-Ok-ask_act in
     let vs = c.args.values.now in
-    acted c.args.self.now c.report.new.self c.ask_act.new.self (g.R.Fresh.random c.args.fresh.now) c.args.sid c.args.label (length vs) (values_of vs) c.as_slice.result.now came.outcome came.frame c.report.result
-    (sym (length-map vs _)) (λ all e. c.as_slice.ensures.value ∙ c.in-Ok.ensures.confounders all e) came.ensures.asked came.ensures.frame c.report.ensures.replied
+    acted c.args.self.now c.report-reply.new.self c.ask_act.new.self (g.R.Fresh.random c.args.fresh.now) c.args.sid c.args.label (length vs) (values_of vs) c.as_slice.result.now came.outcome came.frame c.report-reply.result
+    (sym (length-map vs _)) (λ all e. c.as_slice.ensures.value ∙ c.in-Ok.ensures.confounders all e) came.ensures.asked came.ensures.frame c.report-reply.ensures.replied

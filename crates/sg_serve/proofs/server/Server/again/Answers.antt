@@ -10,8 +10,8 @@ use Rattle.sg_serve.proofs.server.Server.again.Goals as goal
 pub returns-in_default-clause-replied : goal.returns-in_default-clause-replied
 returns-in_default-clause-replied c =
     let n = c.args.number in
-    replied_each c.args.self.now (record { line = unknown_text n; frames = [] }) (λ s. of_session s n (sends_again s n)) c.say_unknown.result
-    (λ s st. of_none s n (sends_again s n) (sym (c.sid.ensures s.play st.player) ∙ c.in_default.is)) c.say_unknown.ensures.text
+    replied_each c.args.self.now (record { line = unknown_text n; frames = [] }) (λ s. of_session s n (sends_again s n)) c.say.result
+    (λ s st. of_none s n (sends_again s n) (sym (c.sid.ensures s.play st.player) ∙ c.in_default.is)) c.say.ensures.text
 
 pub returns-in-Some-of-clause-replied : goal.returns-in-Some-of-clause-replied
 returns-in-Some-of-clause-replied c =
@@ -25,5 +25,5 @@ pub returns-in-None-clause-replied : goal.returns-in-None-clause-replied
 returns-in-None-clause-replied c =
     let n = c.args.number in
     let sid = c.in-Some.sid in
-    replied_each c.args.self.now (record { line = nothing_text n; frames = [] }) (λ s. of_session s n (sends_again s n)) c.say_nothing.result
-    (λ s st. nothing_again s n sid (sym (c.sid.ensures s.play st.player) ∙ c.in-Some.is) (ap (λ (l : LastFrames). frame_of l sid) (sym st.last) ∙ sym c.of.ensures ∙ ap option_copied c.in-None.is)) c.say_nothing.ensures.text
+    replied_each c.args.self.now (record { line = nothing_text n; frames = [] }) (λ s. of_session s n (sends_again s n)) c.say-in-None.result
+    (λ s st. nothing_again s n sid (sym (c.sid.ensures s.play st.player) ∙ c.in-Some.is) (ap (λ (l : LastFrames). frame_of l sid) (sym st.last) ∙ sym c.of.ensures ∙ ap option_copied c.in-None.is)) c.say-in-None.ensures.text

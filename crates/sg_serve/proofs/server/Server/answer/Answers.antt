@@ -15,9 +15,9 @@ returns-in_default-clause-answered g c = λ r st w co.
     let random = g.R.Fresh.random c.args.fresh.now in
     let coming = g.L.TimedLink.coming c.args.link.now in
     let old = g.L.Link.faults c.args.link.now in
-    came_as images sv random coming old old r TooLong (found_line (option_copied c.args.line)) (some_ok c.say_wrong.result) c.some_reply.result
+    came_as images sv random coming old old r TooLong (found_line (option_copied c.args.line)) (some_ok c.say.result) c.some_reply.result
     (ap (λ (o : Option (Bor (List ℕ))). found_line (option_copied o)) c.in_default.is) c.some_reply.ensures
-    (wrong_form images sv random coming old old r TooLong c.say_wrong.result refl (λ took. refl) (holds_all sv sv (g.D.Disk.may_leave c.args.disk.now) r.serving refl c.requires.holds st) st w co c.say_wrong.ensures.text)
+    (wrong_form images sv random coming old old r TooLong c.say.result refl (λ took. refl) (holds_all sv sv (g.D.Disk.may_leave c.args.disk.now) r.serving refl c.requires.holds st) st w co c.say.ensures.text)
 
 pub reply-requires : goal.reply-requires
 reply-requires g c = record {
@@ -64,9 +64,9 @@ returns-in-Ok-None-clause-answered g c = λ r st w co.
     let random = g.R.Fresh.random c.args.fresh.now in
     let coming = g.L.TimedLink.coming c.args.link.now in
     let old = g.L.Link.faults c.args.link.now in
-    came_as images sv random coming old old r (Whole c.in-Some.bytes.now) (found_line (option_copied c.args.line)) (some_ok c.say_wrong-in-Ok-None.result) c.some_reply-in-Ok-None.result
+    came_as images sv random coming old old r (Whole c.in-Some.bytes.now) (found_line (option_copied c.args.line)) (some_ok c.say-in-Ok-None.result) c.some_reply-in-Ok-None.result
     (ap (λ (o : Option (Bor (List ℕ))). found_line (option_copied o)) c.in-Some.is) c.some_reply-in-Ok-None.ensures
-    (no_request images sv random coming old old r c.in-Some.bytes.now c.say_wrong-in-Ok-None.result (sym c.in-Ok-None.field-0-is ∙ c.in-Ok-None.ensures) (holds_all sv sv (g.D.Disk.may_leave c.args.disk.now) r.serving refl c.requires.holds st) st w co c.say_wrong-in-Ok-None.ensures.text)
+    (no_request images sv random coming old old r c.in-Some.bytes.now c.say-in-Ok-None.result (sym c.in-Ok-None.field-0-is ∙ c.in-Ok-None.ensures) (holds_all sv sv (g.D.Disk.may_leave c.args.disk.now) r.serving refl c.requires.holds st) st w co c.say-in-Ok-None.ensures.text)
 
 pub returns-in-Err-clause-answered : goal.returns-in-Err-clause-answered
 returns-in-Err-clause-answered g c = λ r st w co later.
@@ -74,7 +74,7 @@ returns-in-Err-clause-answered g c = λ r st w co later.
     unread (images_if (is_some sv.ledger) (g.D.Disk.may_leave c.args.disk.now)) r (found_line (option_copied c.args.line)) later (holds_all sv sv (g.D.Disk.may_leave c.args.disk.now) r.serving refl c.requires.holds st)
 
 pub returns-in_default-clause-kept : goal.returns-in_default-clause-kept
-returns-in_default-clause-kept g c = some_kept c.say_wrong.result c.some_reply.result c.some_reply.ensures (unasked c.say_wrong.result c.say_wrong.ensures.memory c.requires.holds)
+returns-in_default-clause-kept g c = some_kept c.say.result c.some_reply.result c.some_reply.ensures (unasked c.say.result c.say.ensures.memory c.requires.holds)
 
 pub returns-in-Ok-Some-Quit-clause-kept : goal.returns-in-Ok-Some-Quit-clause-kept
 returns-in-Ok-Some-Quit-clause-kept g c = unasked _ tt c.requires.holds
@@ -83,7 +83,7 @@ pub returns-in-Ok-Some-Receive-clause-kept : goal.returns-in-Ok-Some-Receive-cla
 returns-in-Ok-Some-Receive-clause-kept g c = some_kept c.receive.result c.some_reply-in-Ok-Some-Receive.result c.some_reply-in-Ok-Some-Receive.ensures c.receive.ensures.kept
 
 pub returns-in-Ok-None-clause-kept : goal.returns-in-Ok-None-clause-kept
-returns-in-Ok-None-clause-kept g c = some_kept c.say_wrong-in-Ok-None.result c.some_reply-in-Ok-None.result c.some_reply-in-Ok-None.ensures (unasked c.say_wrong-in-Ok-None.result c.say_wrong-in-Ok-None.ensures.memory c.requires.holds)
+returns-in-Ok-None-clause-kept g c = some_kept c.say-in-Ok-None.result c.some_reply-in-Ok-None.result c.some_reply-in-Ok-None.ensures (unasked c.say-in-Ok-None.result c.say-in-Ok-None.ensures.memory c.requires.holds)
 
 pub returns-in-Err-clause-kept : goal.returns-in-Err-clause-kept
 returns-in-Err-clause-kept g c = ran_out

@@ -8,11 +8,11 @@ pub returns-in-Some-clause-replied : goal.returns-in-Some-clause-replied
 returns-in-Some-clause-replied c =
     let n = c.args.number in
     let sid = c.in-Some.sid in
-    replied_each c.args.self.now (record { line = id_text n sid; frames = [] }) (λ s. of_session s n (λ x. says s (id_text n x))) c.say_id.result
-    (λ s st. of_some s n sid (λ x. says s (id_text n x)) (sym (c.sid.ensures s.play st.player) ∙ c.in-Some.is)) c.say_id.ensures.text
+    replied_each c.args.self.now (record { line = id_text n sid; frames = [] }) (λ s. of_session s n (λ x. says s (id_text n x))) c.say.result
+    (λ s st. of_some s n sid (λ x. says s (id_text n x)) (sym (c.sid.ensures s.play st.player) ∙ c.in-Some.is)) c.say.ensures.text
 
 pub returns-in-None-clause-replied : goal.returns-in-None-clause-replied
 returns-in-None-clause-replied c =
     let n = c.args.number in
-    replied_each c.args.self.now (record { line = unknown_text n; frames = [] }) (λ s. of_session s n (λ x. says s (id_text n x))) c.say_unknown.result
-    (λ s st. of_none s n (λ x. says s (id_text n x)) (sym (c.sid.ensures s.play st.player) ∙ c.in-None.is)) c.say_unknown.ensures.text
+    replied_each c.args.self.now (record { line = unknown_text n; frames = [] }) (λ s. of_session s n (λ x. says s (id_text n x))) c.say-in-None.result
+    (λ s st. of_none s n (λ x. says s (id_text n x)) (sym (c.sid.ensures s.play st.player) ∙ c.in-None.is)) c.say-in-None.ensures.text

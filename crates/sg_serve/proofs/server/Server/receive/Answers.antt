@@ -16,8 +16,8 @@ returns-in-Ok-clause-received g c = λ r st co.
 pub returns-in-Err-Failed-clause-received : goal.returns-in-Err-Failed-clause-received
 returns-in-Err-Failed-clause-received g c = λ r st co.
     let sv = c.args.self.now in
-    wait_failed (images_if (is_some sv.ledger) (g.D.Disk.may_leave c.args.disk.now)) sv (g.L.TimedLink.coming c.recv_within.new.self) (g.L.Link.faults c.args.link.now) (g.L.Link.faults c.recv_within.new.self) r (is_some c.args.within) c.say_failed.result
-    (holds_all sv sv (g.D.Disk.may_leave c.args.disk.now) r.serving refl c.requires.holds st) st (c.recv_within.ensures.failed (c.in-Err-Failed.is ∙ ap Err c.in-Err-Failed.field-0-is)) (c.in-Err-Failed.ensures.kept ∙ co) c.say_failed.ensures.text
+    wait_failed (images_if (is_some sv.ledger) (g.D.Disk.may_leave c.args.disk.now)) sv (g.L.TimedLink.coming c.recv_within.new.self) (g.L.Link.faults c.args.link.now) (g.L.Link.faults c.recv_within.new.self) r (is_some c.args.within) c.say.result
+    (holds_all sv sv (g.D.Disk.may_leave c.args.disk.now) r.serving refl c.requires.holds st) st (c.recv_within.ensures.failed (c.in-Err-Failed.is ∙ ap Err c.in-Err-Failed.field-0-is)) (c.in-Err-Failed.ensures.kept ∙ co) c.say.ensures.text
 
 pub returns-in-Err-OutOfMemory-clause-received : goal.returns-in-Err-OutOfMemory-clause-received
 returns-in-Err-OutOfMemory-clause-received g c = λ r st co.
@@ -26,7 +26,7 @@ returns-in-Err-OutOfMemory-clause-received g c = λ r st co.
     (holds_all sv sv (g.D.Disk.may_leave c.args.disk.now) r.serving refl c.requires.holds st)
 
 pub returns-in-Err-Failed-clause-kept : goal.returns-in-Err-Failed-clause-kept
-returns-in-Err-Failed-clause-kept g c = unasked c.say_failed.result c.say_failed.ensures.memory c.requires.holds
+returns-in-Err-Failed-clause-kept g c = unasked c.say.result c.say.ensures.memory c.requires.holds
 
 pub returns-in-Err-OutOfMemory-clause-kept : goal.returns-in-Err-OutOfMemory-clause-kept
 returns-in-Err-OutOfMemory-clause-kept g c = ran_out

@@ -14,5 +14,5 @@ returns-in-Some-clause-replied c =
 pub returns-in-None-clause-replied : goal.returns-in-None-clause-replied
 returns-in-None-clause-replied c =
     let n = c.args.number in
-    replied_each c.args.self.now (record { line = unknown_text n; frames = [] }) (λ s. of_session s n (λ x. says s (turn_line s n x))) c.say_unknown.result
-    (λ s st. of_none s n (λ x. says s (turn_line s n x)) (sym (c.sid.ensures s.play st.player) ∙ c.in-None.is)) c.say_unknown.ensures.text
+    replied_each c.args.self.now (record { line = unknown_text n; frames = [] }) (λ s. of_session s n (λ x. says s (turn_line s n x))) c.say.result
+    (λ s st. of_none s n (λ x. says s (turn_line s n x)) (sym (c.sid.ensures s.play st.player) ∙ c.in-None.is)) c.say.ensures.text

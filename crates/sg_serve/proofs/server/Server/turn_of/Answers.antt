@@ -9,8 +9,8 @@ pub returns-in_default-clause-text : goal.returns-in_default-clause-text
 returns-in_default-clause-text c =
     let n = c.args.number in
     let sid = c.args.sid in
-    text_each c.args.self.now (over_text n) (λ s. turn_line s n sid) c.say_over.result
-    (λ s st. is_over s n sid (option_copied c.graph_of.result) (c.graph_of.ensures s.play st.player) (ap option_copied c.in_default.is)) c.say_over.ensures.text
+    text_each c.args.self.now (over_text n) (λ s. turn_line s n sid) c.say.result
+    (λ s st. is_over s n sid (option_copied c.graph_of.result) (c.graph_of.ensures s.play st.player) (ap option_copied c.in_default.is)) c.say.ensures.text
 
 pub returns-in-Some-turn-clause-text : goal.returns-in-Some-turn-clause-text
 returns-in-Some-turn-clause-text c =
@@ -24,5 +24,5 @@ pub returns-in-None-clause-text : goal.returns-in-None-clause-text
 returns-in-None-clause-text c =
     let n = c.args.number in
     let sid = c.args.sid in
-    text_each c.args.self.now (waits_text n) (λ s. turn_line s n sid) c.say_waits.result
-    (λ s st. waits s n sid (option_copied c.graph_of.result) (c.graph_of.ensures s.play st.player) c.in-Some.graph.now (ap option_copied c.in-Some.is) (sym (c.turn.ensures s.play st.player) ∙ c.in-None.is)) c.say_waits.ensures.text
+    text_each c.args.self.now (waits_text n) (λ s. turn_line s n sid) c.say-in-None.result
+    (λ s st. waits s n sid (option_copied c.graph_of.result) (c.graph_of.ensures s.play st.player) c.in-Some.graph.now (ap option_copied c.in-Some.is) (sym (c.turn.ensures s.play st.player) ∙ c.in-None.is)) c.say-in-None.ensures.text

@@ -1,0 +1,4 @@
+pub mod NewJoins
+pub mod Asked
+pub mod Adding
+pub mod Reading

@@ -1,0 +1,4 @@
+pub mod Joins
+pub mod Images
+pub mod Asked
+pub mod Laws

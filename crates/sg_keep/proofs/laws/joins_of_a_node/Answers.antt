@@ -1,5 +1,0 @@
-use Rattle.sg_keep.proofs.NewJoins.{joins_of_node}
-use Rattle.sg_keep.proofs.laws.joins_of_a_node.Goals as goal
-
-pub returns : goal.returns
-returns c = joins_of_node
