@@ -22,18 +22,18 @@ use Rattle.sg_protocol.specs.Texts.{real}
 use Rattle.sg_protocol.specs.Verdict.{decided, receipt, rows, verdict_on}
 use Rattle.sg_protocol.specs.World.{past_of}
 use Rattle.sg_report.specs.Reported.{reported_answer}
-use Rattle.sg_world.specs.Replay.{Replay, next_number, run_of, stepped}
+use Rattle.sg_setting.specs.Replay.{Replay, next_number, run_of, stepped}
 use Rattle.sg_drive.proofs.DrawnValues.{confounded, drawn_are_values, written_few, written_small}
 use Rattle.sg_drive.proofs.Left.{add, at, budget_of, few_roles, graph_is, spend_step}
-use Rattle.sg_drive.proofs.Own.{IsOwnSent, own_sent}
-use Rattle.sg_drive.proofs.OwnRuns.{act_is, next_recorded}
+use Rattle.sg_sessions.proofs.Own.{IsOwnSent, own_sent}
+use Rattle.sg_sessions.proofs.OwnRuns.{act_is, next_recorded}
 use Rattle.sg_drive.proofs.Stepping.{own_next, role_there, run_is, reported_next, ways_next}
 use Rattle.sg_drive.specs.Budget.{HasBudget, HasLeft, IsOnItsWay, OnItsWay, steps_after, steps_of}
 use Rattle.sg_drive.specs.Generated.{number_sent, play_along, player_at, values_drawn, with_frame}
 use Rattle.sg_drive.specs.Going.{Going, adding, drawing, taking}
 use Rattle.sg_drive.specs.Machine.{Machine}
-use Rattle.sg_drive.specs.Own.{IsOwnCall}
-use Rattle.sg_drive.specs.Setup.{player}
+use Rattle.sg_sessions.specs.Own.{IsOwnCall}
+use Rattle.sg_sessions.specs.Setup.{player}
 
 -- ---- small
 

@@ -20,22 +20,22 @@ use Rattle.sg_protocol.specs.Steps.{frame_number}
 use Rattle.sg_protocol.specs.Texts.{real}
 use Rattle.sg_protocol.specs.Verdict.{receipt}
 use Rattle.sg_report.specs.Reported.{reported_answer}
-use Rattle.sg_world.specs.Replay.{next_number, run_of, stepped}
+use Rattle.sg_setting.specs.Replay.{next_number, run_of, stepped}
 use Rattle.sg_drive.proofs.DrawnValues.{chosen_there}
 use Rattle.sg_drive.proofs.BudgetLaws.{WereReported, accepted_is, along_keeps, get_some}
 use Rattle.sg_drive.proofs.Left.{TakenOut, add, at, budget_of, few_roles, fewer, graph_is, more_budget, none_left, none_pending, one_begins, spend_draws, spend_step, sum_end, taken_out, reported_anew}
-use Rattle.sg_drive.proofs.OwnRuns.{abandon_is, deliver_is, next_accepted, not_again, own_frame, start_is}
-use Rattle.sg_drive.proofs.OwnSetup.{own_cast}
+use Rattle.sg_sessions.proofs.OwnRuns.{abandon_is, deliver_is, next_accepted, not_again, own_frame, start_is}
+use Rattle.sg_sessions.proofs.OwnSetup.{own_cast}
 use Rattle.sg_drive.proofs.Stepping.{own_next, role_there, run_is, reported_next, way_spent, ways_next}
 use Rattle.sg_drive.proofs.Turning.{turn_none}
 use Rattle.sg_drive.specs.Budget.{HasBudget, HasLeft, IsOnItsWay, OnItsWay, steps_after, steps_of}
-use Rattle.sg_drive.specs.Draws.{draw}
+use Rattle.sg_sessions.specs.Draws.{draw}
 use Rattle.sg_drive.specs.Generated.{Fate, Delivered, Delayed, Repeated, Lost, IsGroup, accepted_time, begin, begin_all, chosen, deliver, fate_of, goes_on, goes_on_by, meet, play, play_by, player_at, take_out, turn, turns}
 use Rattle.sg_drive.specs.Going.{Going, Pending, adding, drawing, taking}
 use Rattle.sg_drive.specs.Machine.{IsThere, Machine}
-use Rattle.sg_drive.specs.Own.{IsOwnFrame, IsOwnNode, IsOwnSession, IsSpentBy}
-use Rattle.sg_drive.specs.Setup.{player}
-use Rattle.sg_drive.specs.Spent.{IsPast}
+use Rattle.sg_sessions.specs.Own.{IsOwnFrame, IsOwnNode, IsOwnSession, IsSpentBy}
+use Rattle.sg_sessions.specs.Setup.{player}
+use Rattle.sg_sessions.specs.Spent.{IsPast}
 
 -- ---- to play
 

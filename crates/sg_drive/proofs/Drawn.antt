@@ -8,7 +8,7 @@ use Rattle.sg_model.specs.Lists.{below, is_in, range_from}
 use Rattle.sg_model.specs.Values.{Value}
 use Rattle.sg_protocol.specs.Graph.{AreNumbers, Graph, kind_of, writes}
 use Rattle.sg_role.proofs.Rising.{numbers_self}
-use Rattle.sg_drive.specs.Draws.{draw, if_in}
+use Rattle.sg_sessions.specs.Draws.{draw, if_in}
 use Rattle.sg_drive.specs.Generated.{value_drawn, values_drawn}
 use Rattle.sg_drive.specs.Going.{Going, drawing}
 use Rattle.sg_drive.specs.Machine.{Machine}

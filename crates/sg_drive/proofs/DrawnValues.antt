@@ -24,7 +24,7 @@ use Rattle.sg_protocol.specs.Graph.{AreNumbers, Edge, Graph, Int, IsGraph, Text,
 use Rattle.sg_protocol.specs.Ranges.{AreValues}
 use Rattle.sg_protocol.specs.Schedule.{confounder}
 use Rattle.sg_protocol.specs.Spelling.{u64}
-use Rattle.sg_drive.specs.Draws.{draw}
+use Rattle.sg_sessions.specs.Draws.{draw}
 use Rattle.sg_drive.specs.Generated.{chosen, value_drawn, values_drawn}
 
 -- ---- values

@@ -7,12 +7,12 @@ use Rattle.sg_model.specs.Shape.{receiver, target}
 use Rattle.sg_protocol.specs.Graph.{Graph, shape, writes}
 use Rattle.sg_protocol.specs.Schedule.{Step, StartStep, ActStep, AbandonStep, DeliverStep, Whole}
 use Rattle.sg_world.specs.Faults.{IsFull}
-use Rattle.sg_world.specs.Replay.{Replay, size_of, up_to}
-use Rattle.sg_drive.specs.Draws.{draw}
+use Rattle.sg_setting.specs.Replay.{Replay, size_of, up_to}
+use Rattle.sg_sessions.specs.Draws.{draw}
 use Rattle.sg_drive.specs.Faults.{IsFullAt, IsStopped}
 use Rattle.sg_drive.specs.Generated.{Fate, Delivered, Delayed, Repeated, Lost, accepted_time, begin, begin_all, chosen, deliver, fate_of, goes_on, goes_on_by, gone_on, meet, number_sent, play, play_along, play_by, player_at, put_back, take_out, turn, turns, values_drawn, with_frame, with_sent}
 use Rattle.sg_drive.specs.Going.{Going, Pending, reported_last, drawing, taking}
-use Rattle.sg_drive.specs.Setup.{player}
+use Rattle.sg_sessions.specs.Setup.{player}
 use Rattle.sg_drive.specs.declared.fault.GenerateFault.{GenerateFault}
 use Rattle.sg_drive.specs.declared.fault.GenerateFault.TheVariants.{RecordFull, OutOfMemory}
 

@@ -11,7 +11,7 @@ use Rattle.sg_protocol.specs.Texts.{real}
 use Rattle.sg_drive.proofs.Extends.{Goes, extends_both, extends_itself, full_more, goes_begin, goes_begin_all, goes_turns, stopped_more}
 use Rattle.sg_drive.proofs.BudgetOfTurns.{begin_all_keeps, begin_keeps, group_keeps, turn_keeps}
 use Rattle.sg_drive.proofs.Left.{at, budget_room, more_budget, none_left}
-use Rattle.sg_drive.proofs.OwnSetup.{few_roles_of, new_own}
+use Rattle.sg_sessions.proofs.OwnSetup.{few_roles_of, new_own}
 use Rattle.sg_drive.proofs.Room.{room_less}
 use Rattle.sg_drive.proofs.Turning.{turn_stopped}
 use Rattle.sg_drive.specs.Budget.{HasBudget}

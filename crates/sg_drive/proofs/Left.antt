@@ -8,12 +8,12 @@ use Rattle.sg_protocol.specs.Accepted.{Accepted}
 use Rattle.sg_protocol.specs.Graph.{Graph, IsGraph}
 use Rattle.sg_protocol.specs.Schedule.{Step}
 use Rattle.sg_protocol.specs.Texts.{real}
-use Rattle.sg_world.specs.Replay.{Replay, run_of, with_taken}
-use Rattle.sg_drive.proofs.OwnSetup.{some_program}
+use Rattle.sg_setting.specs.Replay.{Replay, run_of, with_taken}
+use Rattle.sg_sessions.proofs.OwnSetup.{some_program}
 use Rattle.sg_drive.specs.Budget.{AreOnTheirWay, HasBudget, HasLeft, IsOnItsWay, IsUnderway, Leaves, OnItsWay, steps_after, steps_of}
 use Rattle.sg_drive.specs.Going.{Going, Pending, adding}
 use Rattle.sg_drive.specs.Machine.{HasRoom, IsThere, Machine}
-use Rattle.sg_drive.specs.Own.{IsOwnRun}
+use Rattle.sg_sessions.specs.Own.{IsOwnRun}
 
 -- the machine with another run
 abbrev pub at : Machine → Going → Machine

@@ -1,14 +1,8 @@
-mod Players
-pub mod Setups
 mod Extends
 mod Drawn
 mod Taking
 mod Room
 mod Turning
-mod Spent
-mod Own
-mod OwnRuns
-mod OwnSetup
 mod Stepping
 mod Left
 pub mod DrawnValues

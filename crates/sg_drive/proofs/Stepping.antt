@@ -17,11 +17,11 @@ use Rattle.sg_protocol.specs.Steps.{frame_number}
 use Rattle.sg_protocol.specs.Texts.{real}
 use Rattle.sg_protocol.specs.World.{Logged, World}
 use Rattle.sg_report.specs.Reported.{Reported, reported_after, reported_answer, reported_log, reported_outcome}
-use Rattle.sg_world.specs.Replay.{Replay, next_number, run_of, stepped, with_taken}
-use Rattle.sg_drive.proofs.OwnRuns.{next_frame, next_own, next_spent}
+use Rattle.sg_setting.specs.Replay.{Replay, next_number, run_of, stepped, with_taken}
+use Rattle.sg_sessions.proofs.OwnRuns.{next_frame, next_own, next_spent}
 use Rattle.sg_drive.specs.Budget.{IsOnItsWay, OnItsWay}
-use Rattle.sg_drive.specs.Own.{IsOwnCall, IsOwnRun, IsSpentBy}
-use Rattle.sg_drive.specs.Setup.{player}
+use Rattle.sg_sessions.specs.Own.{IsOwnCall, IsOwnRun, IsSpentBy}
+use Rattle.sg_sessions.specs.Setup.{player}
 
 -- ---- what is reported
 

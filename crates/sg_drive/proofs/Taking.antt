@@ -2,12 +2,12 @@
 use Rattle.std.proofs.Common.{◌≡◌, ℕ, ◌<◌, true, List, length, sym, ap, ◌∙◌, subst}
 use Rattle.sg_model.specs.Lists.{has_text}
 use Rattle.sg_protocol.specs.Schedule.{Schedule}
-use Rattle.sg_world.specs.Replay.{without_steps}
+use Rattle.sg_setting.specs.Replay.{without_steps}
 use Rattle.sg_drive.specs.GeneratorModel.{HoldsMachine, machine_of}
 use Rattle.sg_drive.specs.Machine.{Machine}
-use Rattle.sg_drive.specs.Setup.{players, setup}
+use Rattle.sg_sessions.specs.Setup.{players, setup}
 use Rattle.sg_drive.specs.declared.generator.Generator.TheInside.{Inside}
-use Rattle.sg_drive.proofs.Setups.{session_there}
+use Rattle.sg_sessions.proofs.Setups.{session_there}
 
 module _ (m : Machine) (i : Inside) (view : machine_of i ≡ m) (h : HoldsMachine i) where
   -- what is declared is the setup

@@ -2,7 +2,7 @@
 use Rattle.std.proofs.Common.{◌≡◌, ℕ, zero, suc, ◌+◌, ◌%◌, ◌<◌, List, [], ◌∷◌, length, get_or, slice_get, Option, Some, Ok, Err, Result, refl, sym, ap, ◌∙◌, subst, arith}
 use Rattle.std.specs.Prelude.{All, IfErr, OnOk}
 use Rattle.sg_protocol.proofs.Fits.{declared_in}
-use Rattle.sg_drive.specs.Draws.{draw}
+use Rattle.sg_sessions.specs.Draws.{draw}
 use Rattle.sg_drive.specs.Faults.{IsStopped}
 use Rattle.sg_drive.specs.Generated.{Fate, fate_of, meet, take_out, turn}
 use Rattle.sg_drive.specs.Going.{Going, Pending, drawing, without}

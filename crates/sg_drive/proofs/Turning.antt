@@ -3,7 +3,7 @@ use Rattle.std.proofs.Common.{◌≡◌, ℕ, zero, suc, ◌+◌, ◌-◌, ◌*�
 use Rattle.std.proofs.lemmas.Bool.{cases_Bool}
 use Rattle.std.proofs.lemmas.Bool.Decides.{nat_tests}
 use Rattle.sg_protocol.specs.Graph.{Graph}
-use Rattle.sg_drive.specs.Draws.{draw}
+use Rattle.sg_sessions.specs.Draws.{draw}
 use Rattle.sg_drive.specs.Faults.{IsStopped}
 use Rattle.sg_drive.specs.Generated.{AreGroups, IsGroup, begin_all, take_out, turn, turns}
 use Rattle.sg_drive.specs.Going.{Going, Pending, beginning}

@@ -8,7 +8,7 @@ use Rattle.sg_protocol.specs.Keyring.{Program}
 use Rattle.sg_protocol.specs.Schedule.{Schedule}
 use Rattle.sg_protocol.specs.Texts.{real}
 use Rattle.sg_world.specs.Faults.{NeverFull}
-use Rattle.sg_world.specs.Replay.{without_steps}
+use Rattle.sg_setting.specs.Replay.{without_steps}
 use Rattle.sg_drive.proofs.Grouped.{begun_after, budget_before, group_stops, groups_follow, machine_before, one_group, size_at}
 use Rattle.sg_drive.proofs.Left.{at}
 use Rattle.sg_drive.proofs.Turning.{generated_is_one}
@@ -20,7 +20,7 @@ use Rattle.sg_drive.specs.Groups.{AreGrouped, IsGroupFault, IsOfGroup}
 use Rattle.sg_drive.specs.GeneratorModel.{Drive, IsDrive}
 use Rattle.sg_drive.specs.Laws.{GeneratedAreShort, GeneratorEnds}
 use Rattle.sg_drive.specs.Machine.{Machine}
-use Rattle.sg_drive.specs.Setup.{setup}
+use Rattle.sg_sessions.specs.Setup.{setup}
 use Rattle.sg_drive.specs.declared.fault.GenerateFault.{GenerateFault}
 
 -- a group of this size

@@ -5,7 +5,7 @@ use Rattle.std.proofs.lemmas.List.{length-map}
 use Rattle.sg_protocol.specs.Graph.{Graph}
 use Rattle.sg_report.specs.Report.{premise_lines, premises_hold}
 use Rattle.sg_world.specs.Account.{account}
-use Rattle.sg_world.specs.Replay.{Replay}
+use Rattle.sg_setting.specs.Replay.{Replay}
 use Rattle.sg_walk.specs.declared.stored.StoredWalk.{StoredWalk}
 use Rattle.sg_world.specs.Walked.{WalksAreMade, sid_and_steps}
 use Rattle.sg_drive.specs.Summary.{Counts, IsSummary, count_lines, counts_of, number_line}

@@ -11,11 +11,11 @@ use Rattle.sg_protocol.specs.Schedule.{sid_at}
 use Rattle.sg_protocol.specs.Session.{last_time}
 use Rattle.sg_protocol.specs.Texts.{real}
 use Rattle.sg_protocol.specs.World.{frame_at}
-use Rattle.sg_world.specs.Replay.{Replay, run_of, without_steps}
+use Rattle.sg_setting.specs.Replay.{Replay, run_of, without_steps}
 use Rattle.sg_drive.specs.Going.{Pending}
 use Rattle.sg_drive.specs.Machine.{Machine, IsThere}
-use Rattle.sg_drive.specs.Own.{IsOwnRun, IsSpentBy}
-use Rattle.sg_drive.specs.Setup.{setup}
+use Rattle.sg_sessions.specs.Own.{IsOwnRun, IsSpentBy}
+use Rattle.sg_sessions.specs.Setup.{setup}
 
 -- ---- frames on their way
 

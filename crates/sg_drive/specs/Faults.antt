@@ -3,7 +3,7 @@ use Rattle.std.specs.Prelude.{◌≡◌, ℕ, ◌<◌, List, length, ⊤}
 use Rattle.sg_protocol.specs.Graph.{Graph}
 use Rattle.sg_protocol.specs.Keyring.{Program}
 use Rattle.sg_world.specs.Faults.{IsFull}
-use Rattle.sg_world.specs.Replay.{Replay, size_of, up_to}
+use Rattle.sg_setting.specs.Replay.{Replay, size_of, up_to}
 use Rattle.sg_drive.specs.Generated.{Generated}
 use Rattle.sg_drive.specs.Going.{Going}
 use Rattle.sg_drive.specs.declared.fault.GenerateFault.{GenerateFault}

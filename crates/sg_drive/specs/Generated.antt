@@ -10,9 +10,9 @@ use Rattle.sg_protocol.specs.Graph.{Graph, VariableKind, Int, Text, shape, write
 use Rattle.sg_protocol.specs.Keyring.{Program}
 use Rattle.sg_protocol.specs.Schedule.{StartStep, ActStep, AbandonStep, DeliverStep, Whole}
 use Rattle.sg_report.specs.Reported.{Reported, Happened, Sends}
-use Rattle.sg_drive.specs.Draws.{draw}
+use Rattle.sg_sessions.specs.Draws.{draw}
 use Rattle.sg_drive.specs.Going.{Pending, Going, beginning, taking, drawing, adding, without, reported_last}
-use Rattle.sg_drive.specs.Setup.{player}
+use Rattle.sg_sessions.specs.Setup.{player}
 
 -- ---- to play at a node
 

@@ -6,12 +6,12 @@ use Rattle.sg_protocol.specs.Keyring.{Program}
 use Rattle.sg_protocol.specs.Schedule.{Schedule}
 use Rattle.sg_sched.specs.Format.StepsHeld.{step_of}
 use Rattle.sg_world.specs.Faults.{NeverFull}
-use Rattle.sg_world.specs.Replay.{Replay, without_steps}
+use Rattle.sg_setting.specs.Replay.{Replay, without_steps}
 use Rattle.sg_drive.specs.Generated.{Generated}
 use Rattle.sg_drive.specs.Generated as rules
 use Rattle.sg_drive.specs.Going.{Going}
 use Rattle.sg_drive.specs.Machine.{Machine}
-use Rattle.sg_drive.specs.Setup.{setup}
+use Rattle.sg_sessions.specs.Setup.{setup}
 use Rattle.sg_drive.specs.declared.drive.Driven.{Driven}
 use Rattle.sg_drive.specs.declared.generator.Generator.TheInside.{Inside}
 use Rattle.sg_drive.specs.declared.pending.Fate.{Fate}

@@ -5,8 +5,8 @@ use Rattle.sg_protocol.specs.Graph.{Graph}
 use Rattle.sg_protocol.specs.Keyring.{Program}
 use Rattle.sg_protocol.specs.Schedule.{Step}
 use Rattle.sg_report.specs.Reported.{Reported, reported_log}
-use Rattle.sg_world.specs.Replay.{Replay, run_of, with_taken}
-use Rattle.sg_drive.specs.Setup.{setup}
+use Rattle.sg_setting.specs.Replay.{Replay, run_of, with_taken}
+use Rattle.sg_sessions.specs.Setup.{setup}
 
 -- a frame that is on its way: its number, the index of its session, the label along which it was sent, and how often it went to the list's end again
 pub record Pending : Type 0 where

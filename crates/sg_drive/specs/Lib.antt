@@ -1,5 +1,3 @@
-pub mod Draws
-pub mod Setup
 pub mod Going
 pub mod Machine
 pub mod Generated
@@ -8,8 +6,6 @@ pub mod Counted
 pub mod Writing
 pub mod Faults
 pub mod GeneratorModel
-pub mod Spent
-pub mod Own
 pub mod Budget
 pub mod Groups
 pub mod Laws

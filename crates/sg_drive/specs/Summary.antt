@@ -10,7 +10,7 @@ use Rattle.sg_protocol.specs.Walk.{StoredStep}
 use Rattle.sg_report.specs.Report.{Account, premise_lines, premises_hold}
 use Rattle.sg_report.specs.Reported.{Reported, Happened, Sends, Abandoned, NotDelivered, reported_log}
 use Rattle.sg_world.specs.Account.{account}
-use Rattle.sg_world.specs.Replay.{Replay, run_of}
+use Rattle.sg_setting.specs.Replay.{Replay, run_of}
 use Rattle.sg_world.specs.Walked.{WalksAreMade}
 
 -- ---- the outcome of a step

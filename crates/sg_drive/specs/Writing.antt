@@ -3,7 +3,7 @@ use Rattle.std.specs.Prelude.{◌≡◌, ℕ, true, if◌then◌else◌, List, [
 use Rattle.sg_protocol.specs.Walk.{StoredStep}
 use Rattle.sg_report.specs.Report.{premise_lines, premises_hold}
 use Rattle.sg_world.specs.Account.{account}
-use Rattle.sg_world.specs.Replay.{Replay}
+use Rattle.sg_setting.specs.Replay.{Replay}
 use Rattle.sg_world.specs.Walked.{WalksAreMade}
 use Rattle.sg_drive.specs.Summary.{number_line}
 

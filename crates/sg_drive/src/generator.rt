@@ -1,5 +1,5 @@
 //! A run that is being generated.
-ghost use Rattle.std.specs.Prelude.{◌≡◌, ◌<◌, ◌≤◌, ◌+◌, ◌++◌, ◌∷◌, [], true, length, vec_len, vec_capacity, IfErr, IfOk, OnErr, OnOk};
+ghost use Rattle.std.specs.Prelude.{◌≡◌, ◌<◌, ◌≤◌, ◌+◌, ◌++◌, ◌∷◌, [], true, length, vec_len, vec_capacity, IfErr, IfOk, OnOk};
 ghost use Rattle.sg_model.specs.Limits.{most_driven};
 ghost use Rattle.sg_protocol.specs.IsSchedule.{AreCompiled};
 ghost use Rattle.sg_protocol.specs.Steps.{is_taken};
@@ -7,20 +7,19 @@ ghost use Rattle.sg_protocol.specs.Texts.{real};
 ghost use Rattle.sg_sched.specs.Format.StepsHeld.{step_of};
 ghost use Rattle.sg_sched.specs.Steps.{CanBeTaken};
 ghost use Rattle.sg_world.specs.Faults.{NeverFull};
-ghost use Rattle.sg_drive.specs.Draws.{draw};
+ghost use Rattle.sg_sessions.specs.Draws.{draw};
 ghost use Rattle.sg_drive.specs.Faults.{IsStopped};
 ghost use Rattle.sg_drive.specs.Going.{adding, beginning, drawing, taking};
 ghost use Rattle.sg_drive.specs.GeneratorModel.{drive_of};
 
-use crate::draws::Draws;
 use crate::drive::Driven;
 use crate::fault::GenerateFault;
 use crate::pending::Pending;
-use crate::setup::setup;
 use sg_base::{OutOfMemory, Seq};
 use sg_graph::Graph;
 use sg_program::Programs;
 use sg_sched::{Schedule, Step};
+use sg_sessions::{Draws, setup};
 use sg_world::{StepFault, World};
 use std::alloc::Global;
 use std::marker::Model;
@@ -65,21 +64,31 @@ impl<'g, 'p> Generator<'g, 'p> {
         requires compiled { AreCompiled real (graph.now ∷ []) programs.now }
         requires two { 2 ≤ length graph.now.roles }
         requires few { sessions ≤ most_driven }
-        ensures { IfOk result (λ m. m ≡ record { seed = seed; sessions = sessions; graph = graph.entry.now; going = beginning sessions graph.entry.now programs.entry.now }) }
+        ensures { IfOk result (λ m. m ≡ record {
+          seed = seed;
+          sessions = sessions;
+          graph = graph.entry.now;
+          going = beginning sessions graph.entry.now programs.entry.now;
+        }) }
     {
         let declared = setup(alloc, sessions, graph)?;
-        let world = World::new(alloc, programs, &declared)?;
-        Ok(Generator {
-            alloc,
-            graph,
-            sessions,
-            declared,
-            steps: Vec::new(alloc),
-            world,
-            draws: Draws::new(seed),
-            pending: Vec::new(alloc),
-            lost: 0,
-        })
+        match World::new(alloc, programs, &declared) {
+            Ok(world) => Ok(Generator {
+                alloc,
+                graph,
+                sessions,
+                declared,
+                steps: Vec::new(alloc),
+                world,
+                draws: Draws::new(seed),
+                pending: Vec::new(alloc),
+                lost: 0,
+            }),
+            Err(fault) => {
+                drop(declared);
+                Err(fault)
+            }
+        }
     }
 
     /// Takes a step of a principal. If it isn't taken, the run is as before.
@@ -126,31 +135,23 @@ impl<'g, 'p> Generator<'g, 'p> {
 
     /// The run that was generated.
     pub fn done(self) -> Driven<'p>
-        ensures drive { drive_of result ≡ record { schedule = self.entry.going.replay.schedule; replay = self.entry.going.replay; lost = self.entry.going.lost } }
+        ensures drive { drive_of result ≡ record {
+          schedule = self.entry.going.replay.schedule;
+          replay = self.entry.going.replay;
+          lost = self.entry.going.lost;
+        } }
         ensures room { NeverFull self.entry.going.replay }
     {
         let Generator {
-            declared,
+            declared: mut schedule,
             steps,
             world,
             lost,
             ..
         } = self;
-        let Schedule {
-            graphs,
-            honest,
-            keys,
-            sessions,
-            ..
-        } = declared;
+        schedule.steps = Seq::from_vec(steps);
         Driven {
-            schedule: Schedule {
-                graphs,
-                honest,
-                keys,
-                sessions,
-                steps: Seq::from_vec(steps),
-            },
+            schedule,
             world,
             lost,
         }

@@ -43,7 +43,10 @@ pub fn generate<'p>(
     };
     let groups = groups_for(sessions);
     for group in 0..groups {
-        generator.group_at(group)?;
+        if let Err(fault) = generator.group_at(group) {
+            drop(generator);
+            return Err(fault);
+        }
     }
     Ok(generator.done())
 }

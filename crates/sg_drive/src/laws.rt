@@ -1,13 +1,5 @@
 //! What holds of every generated run. Each function is a law: it does nothing, and its contract is the statement.
-ghost use Rattle.sg_protocol.specs.Texts.{real};
 ghost use Rattle.sg_drive.specs.Laws.{GeneratedAreShort, GeneratedIsOne, GeneratorEnds};
-ghost use Rattle.sg_drive.specs.Spent.{FramesAreTakenOnce};
-
-/// A node whose live sessions are sound and of different pairs of session and role accepts a frame once, whatever it is asked between:
-/// after it was accepted, its pair stays joined, and each live session of it is at the frame's time or a later one.
-pub fn frames_are_taken_once()
-    ensures { FramesAreTakenOnce real }
-{}
 
 /// There is one generated run for a seed, a number of sessions and a graph.
 pub fn generated_is_one()

@@ -8,8 +8,8 @@
 //! is delivered the fourth time.
 //!
 //! `specs/Generated.antt` is these rules, one definition for each, over what `specs/Going.antt` says of a run that is being generated:
-//! the steps so far, how many numbers were drawn, the pending frames and how many were lost. What a run declares stands in
-//! `specs/Setup.antt`. `generate` gives the run that the rules choose, as a schedule and as the world after it. The steps are a replay's,
+//! the steps so far, how many numbers were drawn, the pending frames and how many were lost. What a run declares is `setup` of
+//! `sg_sessions`. `generate` gives the run that the rules choose, as a schedule and as the world after it. The steps are a replay's,
 //! so what holds of every replay holds of it, and what each step brings about is what the core's run of all steps says.
 //!
 //! `summary` writes how many frames were sent, accepted, refused and lost, and how many sessions were abandoned and completed, by the
@@ -18,10 +18,8 @@
 //!
 //! A session sends at most sixteen frames, each of which is delivered at most four times, so it has at most 82 steps, and two thousand
 //! sessions have fewer than a replay may have: `specs/Budget.antt` says what may still follow, and each turn uses up more than it takes.
-//! That a frame is accepted once, whatever holds, is `specs/Spent.antt`.
 #![tactic(auto)]
 
-mod draws;
 mod drive;
 mod fault;
 mod generator;
@@ -30,8 +28,6 @@ pub mod laws;
 mod network;
 mod pending;
 mod play;
-mod setup;
-mod sids;
 mod summary_text;
 mod tally;
 

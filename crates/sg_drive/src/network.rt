@@ -1,7 +1,7 @@
 //! What becomes of the frames that are pending: a network that delays, repeats and loses them.
 ghost use Rattle.std.specs.Prelude.{◌≡◌, ◌<◌, ◌==◌, ◌%◌, length, slice_get, All, IfErr, OnOk, Option, Some, option_map};
 ghost use Rattle.sg_graph.specs.Edges.{leaving_from};
-ghost use Rattle.sg_drive.specs.Draws.{draw};
+ghost use Rattle.sg_sessions.specs.Draws.{draw};
 ghost use Rattle.sg_drive.specs.Faults.{IsStopped};
 ghost use Rattle.sg_report.specs.Outcome.{outcome_of};
 ghost use Rattle.sg_report.specs.Reported.{Happened};
@@ -90,7 +90,8 @@ impl<'g, 'p> Generator<'g, 'p> {
     fn repeat(&mut self, frame: &Pending) -> Result<(), GenerateFault>
         requires room { HasRoom 2 500000002 self.old }
         requires there { IsThere self.old.graph self.old.sessions frame.now }
-        ensures going { OnOk result (self.new ≡ record self.old { going = deliver self.old.seed self.old.graph frame.now (put_back frame.now self.old.going) }) }
+        ensures going { OnOk result (self.new
+            ≡ record self.old { going = deliver self.old.seed self.old.graph frame.now (put_back frame.now self.old.going) }) }
         ensures stopped { IfErr result (IsStopped (deliver self.old.seed self.old.graph frame.now (put_back frame.now self.old.going)).replay) }
     {
         self.put(frame.again())?;
@@ -133,8 +134,10 @@ impl<'g, 'p> Generator<'g, 'p> {
     fn accepted_at(&mut self, session: u32, node: NodeId, time: Time) -> Result<(), GenerateFault>
         requires room { HasRoom 1 500000002 self.old }
         requires there { (session < self.old.sessions) × (node < length self.old.graph.nodes) }
-        ensures going { OnOk result (self.new ≡ record self.old { going = goes_on_by self.old.seed self.old.graph session node time (leaving_from self.old.graph node) self.old.going }) }
-        ensures stopped { IfErr result (IsStopped (goes_on_by self.old.seed self.old.graph session node time (leaving_from self.old.graph node) self.old.going).replay) }
+        ensures going { OnOk result (self.new
+            ≡ record self.old { going = goes_on_by self.old.seed self.old.graph session node time (leaving_from self.old.graph node) self.old.going }) }
+        ensures stopped { IfErr result (IsStopped
+            (goes_on_by self.old.seed self.old.graph session node time (leaving_from self.old.graph node) self.old.going).replay) }
     {
         if self.graph.edges_from(node).is_empty() {
             return Ok(());

@@ -7,7 +7,7 @@ use sg_base::Label;
 use std::marker::Model;
 
 /// A frame that was sent and is still in the list.
-#[derive(Debug, Drop)]
+#[derive(Drop)]
 pub(crate) struct Pending {
     /// Its number, from 1.
     pub frame: u32,
@@ -28,7 +28,7 @@ impl Model for Pending {
 }
 
 /// What becomes of a frame that is taken out of the list.
-#[derive(Debug, Clone, Copy, PartialEq, Eq)]
+#[derive(Clone, Copy, PartialEq, Eq)]
 pub(crate) enum Fate {
     /// It is delivered.
     Delivered,

@@ -1,33 +1,30 @@
 //! How a session begins, and how a principal plays at a node.
 ghost use Rattle.std.specs.Prelude.{◌≡◌, ◌<◌, ◌≤◌, ◌++◌, true, length, IfErr, IfOk, IfSome, OnOk, Option, Some, option_map};
 ghost use Rattle.std.specs.Fmt.{decimal};
-ghost use Rattle.std.specs.List.{AllByRecursion};
 ghost use Rattle.sg_base.specs.Model.{value_of};
-ghost use Rattle.sg_graph.specs.Edges.{leaving_from};
 ghost use Rattle.sg_graph.specs.Parts.{kind_of_type};
-ghost use Rattle.sg_model.specs.Bytes.{IsBytes};
 ghost use Rattle.sg_model.specs.Limits.{most_steps};
 ghost use Rattle.sg_model.specs.Lists.{has_text};
-ghost use Rattle.sg_protocol.specs.Frame.{IsValue};
 ghost use Rattle.sg_protocol.specs.Graph.{writes};
 ghost use Rattle.sg_report.specs.Outcome.{outcome_of};
 ghost use Rattle.sg_walk.specs.Model.{values_of};
 ghost use Rattle.sg_world.specs.FrameNumbers.{HasNumberUpTo};
 ghost use Rattle.sg_drive.specs.Faults.{IsStopped};
-ghost use Rattle.sg_drive.specs.Draws.{if_in};
+ghost use Rattle.sg_sessions.specs.Draws.{if_in};
 ghost use Rattle.sg_drive.specs.Generated.{begin, chosen, number_sent, play, play_along, player_at, value_drawn, values_drawn, with_sent};
 ghost use Rattle.sg_drive.specs.Going.{drawing};
 ghost use Rattle.sg_drive.specs.Machine.{HasRoom};
-ghost use Rattle.sg_drive.specs.Setup.{players};
+ghost use Rattle.sg_sessions.specs.Setup.{players};
 
 use crate::fault::GenerateFault;
 use crate::generator::Generator;
 use crate::pending::Pending;
-use crate::setup::player;
 use sg_base::{Chars, Label, Name, NodeId, OutOfMemory, Seq, Value, Var, VarSet, VarType};
 use sg_graph::Graph;
 use sg_report::Outcome;
+use sg_role::facts_of_each;
 use sg_sched::Step;
+use sg_sessions::player;
 use std::alloc::{AllocError, Global};
 
 impl<'g, 'p> Generator<'g, 'p> {
@@ -71,7 +68,7 @@ impl<'g, 'p> Generator<'g, 'p> {
             Ok(values) => values,
             Err(_) => return Err(GenerateFault::OutOfMemory),
         };
-        facts_of_values(values.as_slice());
+        facts_of_each(values.as_slice());
         let who = player_at(self.graph, node);
         self.take(Step::Act {
             who,
@@ -86,7 +83,8 @@ impl<'g, 'p> Generator<'g, 'p> {
     fn draw_values(&mut self, label: Label) -> Result<Seq<(Var, Value)>, OutOfMemory>
         requires there { label < length self.old.graph.edges }
         requires draws { self.old.going.draws ≤ 600_000_000 }
-        ensures values { IfOk result (λ values. values_of values ≡ values_drawn self.old.seed self.old.going.draws self.old.graph (writes self.old.graph label)) }
+        ensures values { IfOk result (λ values. values_of values
+            ≡ values_drawn self.old.seed self.old.going.draws self.old.graph (writes self.old.graph label)) }
         ensures going { OnOk result (self.new ≡ record self.old { going = drawing (length (writes self.old.graph label)) self.old.going }) }
     {
         let writes = self.graph.edge(label).writes;
@@ -106,7 +104,8 @@ impl<'g, 'p> Generator<'g, 'p> {
     ) -> Result<(), OutOfMemory>
         requires there { var < length self.old.graph.variables }
         requires draws { self.old.going.draws < 1_000_000_000 }
-        ensures values { OnOk result (values_of values.new ≡ values_of values.old ++ values_drawn self.old.seed self.old.going.draws self.old.graph (if_in var writes)) }
+        ensures values { OnOk result (values_of values.new
+            ≡ values_of values.old ++ values_drawn self.old.seed self.old.going.draws self.old.graph (if_in var writes)) }
         ensures going { OnOk result (self.new ≡ record self.old { going = drawing (length (if_in var writes)) self.old.going }) }
     {
         if !writes.has(var) {
@@ -188,40 +187,3 @@ fn digits_of(alloc: Global, drawn: u32) -> Result<Chars, OutOfMemory>
         Err(_) => Err(AllocError),
     }
 }
-
-// What the types say of each of these.
-fn facts_of_values(values: &[(Var, Value)])
-    ensures { AllByRecursion (λ w. (w.0 < 256) × IsValue w.1) (values_of values.now) }
-{
-    for at in 0..values.len() {
-        let given = &values[at];
-        facts_of_var(given.0);
-        facts_of_value(&given.1);
-    }
-}
-
-// What the type `Var` says of this.
-fn facts_of_var(var: Var)
-    ensures { var < 256 }
-{
-    let _number = var.0;
-}
-
-// What the type `Value` says of this.
-fn facts_of_value(value: &Value)
-    ensures { IsValue (value_of value.now) }
-{
-    match value {
-        Value::Int(number) => {
-            let _number = *number;
-        }
-        Value::Text(text) => {
-            facts_of_bytes(text.as_bytes());
-        }
-    }
-}
-
-// What the type `u8` says of each of these.
-fn facts_of_bytes(bytes: &[u8])
-    ensures { IsBytes bytes.now }
-{}

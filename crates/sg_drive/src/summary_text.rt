@@ -59,7 +59,7 @@ fn put_counts(out: &mut ByteOut, sessions: u64, lost: u64, tally: &Tally) -> Res
     put_number(out, b"refused", tally.refused)?;
     put_number(out, b"lost", lost)?;
     put_number(out, b"abandoned", tally.abandoned)?;
-    put_number(out, b"complete", tally.complete.len())
+    put_number(out, b"complete", tally.complete.len() as u64)
 }
 
 // Writes a word and a number.

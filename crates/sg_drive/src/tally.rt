@@ -5,10 +5,10 @@ ghost use Rattle.sg_model.specs.Shape.{target};
 ghost use Rattle.sg_protocol.specs.Graph.{Graph, shape};
 ghost use Rattle.sg_report.specs.Outcome.{outcome_of};
 ghost use Rattle.sg_walk.specs.Model.{event_of};
-ghost use Rattle.sg_drive.specs.Counted.{CanRise, with_event, with_sent, with_reported};
+ghost use Rattle.sg_drive.specs.Counted.{CanRise, with_event, with_sent, with_reported, with_session};
 ghost use Rattle.sg_drive.specs.Summary.{completed_by, counts, counts_of};
 
-use crate::sids::Sids;
+use indexmap::IndexSet;
 use sg_base::{Label, NodeId, OutOfMemory, Sid};
 use sg_graph::Graph;
 use sg_report::Outcome;
@@ -24,7 +24,7 @@ pub(crate) struct Tally {
     pub received: u64,
     pub refused: u64,
     pub abandoned: u64,
-    pub complete: Sids,
+    pub complete: IndexSet<Sid>,
 }
 
 impl Model for Tally {
@@ -32,7 +32,7 @@ impl Model for Tally {
 
     ghost Value = { Counts };
 
-    ghost view = { λ t. record { sent = t.sent; received = t.received; refused = t.refused; abandoned = t.abandoned; complete = t.complete } };
+    ghost view = { λ t. record { sent = t.sent; received = t.received; refused = t.refused; abandoned = t.abandoned; complete = t.complete.keys } };
 }
 
 impl Tally {
@@ -45,7 +45,7 @@ impl Tally {
             received: 0,
             refused: 0,
             abandoned: 0,
-            complete: Sids::new(alloc),
+            complete: IndexSet::new(alloc),
         }
     }
 
@@ -95,7 +95,7 @@ impl Tally {
     {
         self.sent += 1;
         match completed(graph, event) {
-            Some(sid) => self.complete.add(sid),
+            Some(sid) => add_session(&mut self.complete, sid),
             None => Ok(()),
         }
     }
@@ -125,6 +125,14 @@ impl Tally {
     {
         self.abandoned += 1;
     }
+}
+
+// Adds a session at the end, unless it is there.
+fn add_session(sids: &mut IndexSet<Sid>, sid: Sid) -> Result<(), OutOfMemory>
+    ensures { OnOk result (sids.new.keys ≡ with_session sid sids.old.keys) }
+{
+    sids.insert(sid)?;
+    Ok(())
 }
 
 // The session of an event that sends along a label that leads to a node without edges.

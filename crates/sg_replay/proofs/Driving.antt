@@ -13,10 +13,10 @@ use Rattle.sg_protocol.specs.Schedule.{Schedule}
 use Rattle.sg_protocol.specs.Texts.{real}
 use Rattle.sg_protocol.proofs.Joins.{none_joins_twice}
 use Rattle.sg_world.specs.Laws.{RunLaws}
-use Rattle.sg_world.specs.Replay.{Replay, without_steps}
+use Rattle.sg_setting.specs.Replay.{Replay, without_steps}
 use Rattle.sg_drive.specs.Faults.{IsGenerateFault}
 use Rattle.sg_drive.specs.GeneratorModel.{Drive, IsDrive}
-use Rattle.sg_drive.specs.Setup.{numbered_session, setup}
+use Rattle.sg_sessions.specs.Setup.{numbered_session, setup}
 use Rattle.sg_drive.specs.Summary.{IsSummary}
 use Rattle.sg_drive.specs.declared.fault.GenerateFault.{GenerateFault}
 use Rattle.sg_drive.specs.declared.fault.GenerateFault.TheVariants.{RecordFull}

@@ -10,10 +10,10 @@ use Rattle.sg_protocol.proofs.Joins.{none_joins_twice}
 use Rattle.sg_compile.specs.Compiled.{IsWhole}
 use Rattle.sg_report.specs.Report.{IsReport}
 use Rattle.sg_sched.specs.Format.Spells.{SpellsSchedule}
-use Rattle.sg_world.specs.Account.{CanBeNamed, account}
+use Rattle.sg_world.specs.Account.{account}
 use Rattle.sg_world.specs.Faults.{IsFull}
 use Rattle.sg_world.specs.Laws.{HasPrograms, LawsHold}
-use Rattle.sg_world.specs.Replay.{Replay, up_to}
+use Rattle.sg_setting.specs.Replay.{Replay, up_to}
 use Rattle.sg_ending.specs.Ending.{Ending, NoMemory, TooLarge}
 use Rattle.sg_ending.specs.Output.{Output}
 use Rattle.sg_replay.specs.Ends.{IsReplay, Replays}
@@ -38,10 +38,6 @@ module _ (programs : List Program) (s : Schedule) where
   stops n w NoMemory e l h = tt
   stops n w (TooLarge what) e l h = (h.0, record { before = n; begins = l; full = subst IsFull e h.1 })
   stops n w _ e l h = absurd h
-
-  -- each step that was taken can be reported
-  pub named : (w : Replay) → w ≡ replay_of programs s → CanBeReplayed s → All (CanBeNamed w.schedule) w.schedule.steps
-  named w e can = subst (λ (r : Replay). All (CanBeNamed r.schedule) r.schedule.steps) (sym e) can.named
 
   -- all steps were taken, and this is the report
   pub reports : (n : ℕ) (w : Replay) (text : List ℕ) → w ≡ replay_of programs s → length s.steps ≤ n → NoneFull n → IsReport (account w) text → LawsHold → HasPrograms (replay_of programs s) → Reports programs s text

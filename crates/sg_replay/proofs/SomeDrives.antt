@@ -14,16 +14,16 @@ use Rattle.sg_protocol.specs.Schedule.{AbandonStep, ActStep, DeliverStep, Schedu
 use Rattle.sg_protocol.specs.Texts.{real}
 use Rattle.sg_protocol.proofs.Joins.{none_joins_twice}
 use Rattle.sg_drive.specs.Generated.{AreGroups, Delayed, Delivered, Fate, Generated, Lost, Repeated, accepted_time, begin_all, chosen, deliver, fate_of, goes_on, goes_on_by, meet, number_sent, play, play_along, play_by, player_at, put_back, take_out, turns, values_drawn, with_frame}
-use Rattle.sg_drive.specs.Draws.{draw}
+use Rattle.sg_sessions.specs.Draws.{draw}
 use Rattle.sg_drive.specs.Going.{Going, Pending, beginning, drawing, reported_last, taking, without}
 use Rattle.sg_drive.specs.Laws.{GeneratorEnds}
-use Rattle.sg_drive.specs.Setup.{player, setup}
+use Rattle.sg_sessions.specs.Setup.{player, setup}
 use Rattle.sg_graph.specs.Edges.{leaving_from}
 use Rattle.sg_model.specs.Shape.{receiver, target}
 use Rattle.sg_drive.proofs.DrawnValues.{drawn_are_values, written_small}
-use Rattle.sg_drive.proofs.Setups.{setup_is_schedule}
+use Rattle.sg_sessions.proofs.Setups.{setup_is_schedule}
 use Rattle.sg_world.specs.Laws.{LawsHold, RunLaws}
-use Rattle.sg_world.specs.Replay.{size_of, up_to, without_steps}
+use Rattle.sg_setting.specs.Replay.{size_of, up_to, without_steps}
 use Rattle.sg_ending.specs.Ending.{Written, GraphRefused, NoGraph, TooLarge}
 use Rattle.sg_ending.specs.Laws.{EndsAlways, SomeEnding}
 use Rattle.sg_ending.specs.Output.{Output}

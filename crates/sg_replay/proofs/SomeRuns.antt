@@ -19,7 +19,7 @@ use Rattle.sg_sched_text.specs.Meant.{IsMeant}
 use Rattle.sg_sched_text.proofs.Meant.{spelled_is_meant}
 use Rattle.sg_world.specs.Faults.{IsFull, NeverFull}
 use Rattle.sg_world.specs.Laws.{LawsHold, RunLaws}
-use Rattle.sg_world.specs.Replay.{Replay, up_to}
+use Rattle.sg_setting.specs.Replay.{Replay, up_to}
 use Rattle.sg_ending.specs.Ending.{Written, GraphRefused, TooLarge}
 use Rattle.sg_ending.specs.Laws.{EndsAlways, SomeEnding}
 use Rattle.sg_ending.specs.Output.{Output}
@@ -28,7 +28,7 @@ use Rattle.sg_replay.specs.Ends.{Replays}
 use Rattle.sg_replay.specs.Faults.{ending_of_line}
 use Rattle.sg_replay.specs.Replayed.{CanBeReplayed, replay_of}
 use Rattle.sg_replay.proofs.SomeSchedule.{schedule_or_wrong}
-use Rattle.sg_replay.proofs.Spelled.{spelled_named, spelled_taken}
+use Rattle.sg_replay.proofs.Spelled.{spelled_taken}
 use Rattle.sg_replay.proofs.Walked.{reported}
 
 -- ---- a record that is full
@@ -60,7 +60,7 @@ module _ (laws_hold : LawsHold) (bytes : List ℕ) (old : Output) where
     meant = spelled_is_meant bytes s spelled
 
     can : CanBeReplayed s
-    can = record { meant = meant; honest = spelled_taken real bytes s spelled; named = spelled_named real bytes s spelled }
+    can = record { meant = meant; honest = spelled_taken real bytes s spelled }
 
     -- its graphs are compiled, and the record has room or not
     compiled : (ps : List Program) → AreCompiled real s.graphs ps → All IsWhole ps → SomeEnding (λ new e. Replays bytes old new e)

@@ -1,5 +1,5 @@
 -- Bytes spell a schedule, or have a first wrong line.
-use Rattle.std.proofs.Common.{◌≡◌, ◌≢◌, ℕ, zero, suc, ◌+◌, ◌<◌, ◌≤◌, ◌⊎◌, inl, inr, Bool, true, false, not, ◌||◌, List, [], ◌∷◌, ◌++◌, length, map, codes, bytes_eq, Option, Some, None, refl, sym, ap, ◌∙◌, subst, arith, append-nil, append_assoc, length-append}
+use Rattle.std.proofs.Common.{◌≡◌, ◌≢◌, ℕ, zero, suc, ◌+◌, ◌≤◌, ◌⊎◌, inl, inr, Bool, true, false, not, ◌||◌, List, [], ◌∷◌, ◌++◌, length, codes, bytes_eq, Some, None, refl, sym, ap, ◌∙◌, subst, arith, append-nil, append_assoc, length-append}
 use Rattle.std.specs.List.{concat, list_all}
 use Rattle.std.proofs.lemmas.Bool.{cases_Bool}
 use Rattle.std.proofs.lemmas.List.{map-append}
@@ -21,7 +21,7 @@ use Rattle.sg_sched.specs.Format.Items.{EdgeItem, GraphItem, HonestItem, Item, K
 use Rattle.sg_sched.specs.Format.Kinds.{Form, Graph, Kind, Twice}
 use Rattle.sg_sched.specs.Format.LineContents.{BlockLine, EdgeLine, LineContent}
 use Rattle.sg_sched.specs.Format.Numbered.{made, made_after}
-use Rattle.sg_sched.specs.Format.Spells.{Add, AtEdge, AtIt, Declare, IsBlock, IsFirstFault, IsWrong, Line, Next, NoGraph, NotClosed, Nothing, OfAForm, OfNoForm, SameGraph, Say, Show, Skip, SpellsSchedule, closes}
+use Rattle.sg_sched.specs.Format.Spells.{Add, AtEdge, AtIt, Declare, IsBlock, IsFirstEdge, IsFirstFault, IsWrong, Line, Next, NoGraph, NotClosed, Nothing, OfAForm, OfNoForm, SameGraph, Say, Show, Skip, SpellsSchedule, closes}
 use Rattle.sg_ending.proofs.SomeEnding.{graph_or_none}
 
 -- ---- lines that make items
@@ -38,21 +38,29 @@ edge_made past _ e h = absurd (cc)
 
 -- ---- the first edge line
 
--- the first edge line, and the lines before it with what they declare
-record FirstEdge : Type 0 where
-  before : List Line
-  edge_line : Line
-  items : List Item
-  declared : Declare before items
-  no_edge : edges items ≡ []
-  label : List ℕ
-  from : ℕ
-  to : ℕ
-  is_edge : SaysLine edge_line (EdgeLine label from to)
-
--- these lines have it
+-- these lines have a first edge line
 abbrev HasFirstEdge : List Line → Type 0
-HasFirstEdge ls = (e : FirstEdge) × (more : List Line) × (ls ≡ e.before ++ e.edge_line ∷ more)
+HasFirstEdge ls = (n : ℕ) × IsFirstEdge ls n
+
+-- with more lines behind them it is still the first
+followed : (ls more : List Line) → HasFirstEdge ls → HasFirstEdge (ls ++ more)
+followed ls more (n, e) = (
+  n,
+  record {
+    right = e.right;
+    edge_line = e.edge_line;
+    more = e.more ++ more;
+    items = e.items;
+    all = ap (λ xs. xs ++ more) e.all ∙ append_assoc e.right (e.edge_line ∷ e.more) more;
+    declared = e.declared;
+    no_edge = e.no_edge;
+    label = e.label;
+    from = e.from;
+    to = e.to;
+    is_edge = e.is_edge;
+    number = e.number;
+  },
+)
 
 no_edge_more : (items new : List Item) → edges items ≡ [] → edges new ≡ [] → edges (items ++ new) ≡ []
 no_edge_more items new a b = filter_map-append as_edge items new ∙ (λ i. a i ++ b i)
@@ -64,10 +72,10 @@ added_edge first _ items _ d none (Say {line} {statement} {item} says right is) 
   where
     by : (item : Item) → made items statement ≡ Some item → edges (items ++ item ∷ []) ≢ [] → HasFirstEdge (first ++ line ∷ [])
     by (EdgeItem e) is some =
-        let w = edge_made (so_far items) statement e is in (
-          record { before = first; edge_line = line; items = items; declared = d; no_edge = none; label = w.0; from = w.1; to = w.2; is_edge = subst (SaysLine line) w.3 says },
-          [],
-          refl,
+        let w = edge_made (so_far items) statement e is in
+        let says_edge = subst (SaysLine line) w.3 says in (
+          suc (length first),
+          record { right = first; edge_line = line; more = []; items = items; all = refl; declared = d; no_edge = none; label = w.0; from = w.1; to = w.2; is_edge = says_edge; number = refl },
         )
     by (GraphItem g) is some = absurd (some (no_edge_more items (GraphItem g ∷ []) none refl))
     by (HonestItem n) is some = absurd (some (no_edge_more items (HonestItem n ∷ []) none refl))
@@ -84,9 +92,7 @@ first_edge _ _ Nothing some = absurd (some refl)
 first_edge _ _ (Next {first} {more} {items} {new} d add) some =
     elim (none_or_some (edges items)) [
       | inl none ↦ added_edge first more items new d none add some
-      | inr there ↦
-          (let (e, rest, all) = first_edge first items d there in
-          (e, rest ++ more, ap (λ ls. ls ++ more) all ∙ append_assoc e.before (e.edge_line ∷ rest) more))
+      | inr there ↦ followed first more (first_edge first items d there)
     ]
 
 -- ---- blocks
@@ -148,38 +154,8 @@ module _ (bytes : List ℕ) where
     -- a block of a graph named `pair` behind edge lines
     pair_wrong : (block rest : List Line) (text : List ℕ) (g : AGraph) → lines bytes ≡ right ++ (block ++ rest) → IsBlock items block text → SpellsGraph text g → edges items ≢ [] → g.name ≡ codes "pair" → SpelledOrWrong
     pair_wrong block rest text g all is spelled some named =
-        let (e, more, is_all) = first_edge right items declared some in
-        inr (
-          suc (length e.before),
-          Twice,
-          AtEdge (record {
-            right = right;
-            block = block;
-            rest = rest;
-            items = items;
-            text = text;
-            all = all;
-            first_edge = record {
-              right = e.before;
-              edge_line = e.edge_line;
-              more = more;
-              items = e.items;
-              all = is_all;
-              declared = e.declared;
-              no_edge = e.no_edge;
-              label = e.label;
-              from = e.from;
-              to = e.to;
-              is_edge = e.is_edge;
-              number = refl;
-            };
-            declared = declared;
-            is_block = is;
-            graph = g;
-            spelled = spelled;
-            named = named;
-          }),
-        )
+        let (n, e) = first_edge right items declared some in
+        inr (n, Twice, AtEdge (record { right = right; block = block; rest = rest; items = items; text = text; all = all; first_edge = e; declared = declared; is_block = is; graph = g; spelled = spelled; named = named }))
 
   -- the lines so far are right, the next one is looked at, and what follows at most n lines later is known
   module _ (n : ℕ) (go : (rest right : List Line) (items : List Item) → length rest ≤ n → Declare right items → lines bytes ≡ right ++ rest → Surely SpelledOrWrong)

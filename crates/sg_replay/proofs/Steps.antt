@@ -14,7 +14,7 @@ use Rattle.sg_protocol.specs.Steps.{is_taken}
 use Rattle.sg_sched.specs.Format.StepsHeld.{step_of}
 use Rattle.sg_sched.specs.declared.step.Step.{Step}
 use Rattle.sg_sched.specs.Steps.{CanBeTaken}
-use Rattle.sg_world.specs.Replay.{up_to, with_taken}
+use Rattle.sg_setting.specs.Replay.{up_to, with_taken}
 use Rattle.sg_replay.specs.Replayed.{CanBeReplayed, replay_of}
 
 -- step i of the schedule is the one that is held, and fewer were taken than there are

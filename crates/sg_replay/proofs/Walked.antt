@@ -1,46 +1,26 @@
 -- A report and a summary can be made of each replay.
-use Rattle.std.proofs.Common.{◌≡◌, ◌≢◌, ℕ, Bool, true, false, ◌||◌, List, [], ◌∷◌, length, map, filter, cond, bytes_eq, Some, refl, sym, ap, ◌∙◌, subst, inl, inr}
+use Rattle.std.proofs.Common.{◌≡◌, ℕ, Bool, true, false, ◌||◌, List, [], ◌∷◌, length, map, filter, bytes_eq, refl, sym, ap, ◌∙◌, inl, inr}
 use Rattle.std.specs.List.{AllByRecursion}
-use Rattle.std.specs.Option.{option_map_or}
-use Rattle.std.specs.Prelude.{option_and_then}
 use Rattle.std.proofs.lemmas.Bool.{cases_Bool}
 use Rattle.std.proofs.lemmas.List.Elements.{All-from_recursion}
 use Rattle.std.proofs.lemmas.Slice.Eq.{bytes_eq-Decides}
 use Rattle.sg_model.specs.Lists.{has_text}
 use Rattle.sg_model.proofs.Small.{clash}
-use Rattle.sg_protocol.specs.Calls.{Event, sid_of}
-use Rattle.sg_protocol.specs.Frame.{Cast}
+use Rattle.sg_protocol.specs.Calls.{sid_of}
 use Rattle.sg_protocol.specs.Graph.{Graph}
 use Rattle.sg_protocol.specs.Headline.{IsExplained}
 use Rattle.sg_protocol.specs.Run.{events_of}
-use Rattle.sg_protocol.specs.Schedule.{graph_with, honest_role}
 use Rattle.sg_protocol.specs.Texts.{real}
 use Rattle.sg_protocol.specs.Walk.{OnePath, StoredStep}
-use Rattle.sg_report.specs.Lines.{graph_or_none}
 use Rattle.sg_report.specs.Report.{Explains, IsReport, SessionWalk, known_sessions, premises_hold, report_text}
 use Rattle.sg_text.specs.Sessions.{all_sids, firsts, sids_known}
 use Rattle.sg_text.proofs.Firsts.{has_text-firsts}
 use Rattle.sg_world.specs.Account.{account, graph_of, honest_in}
 use Rattle.sg_world.specs.Laws.{RunLaws}
-use Rattle.sg_world.specs.Replay.{Replay, run_of}
+use Rattle.sg_setting.specs.Replay.{Replay, run_of}
 use Rattle.sg_world.specs.Walked.{PremisesHold, WalksAreMade}
+use Rattle.sg_world.proofs.WalkLaws.{explained_path, some_with_event}
 use Rattle.sg_drive.specs.Summary.{IsSummary, counts_of, summary_text}
-
--- ---- events
-
--- a session's identifier that an event has is that of an event
-some_with_event : (es : List Event) (sid : List ℕ) → has_text sid (map sid_of es) ≡ true → filter (λ e. bytes_eq (sid_of e) sid) es ≢ []
-some_with_event [] sid h q = absurd (let z : false ≡ true = h in cc)
-some_with_event (e ∷ es) sid h q = by (bytes_eq (sid_of e) sid) refl q (some_with_event es sid)
-  where
-    later : (b : Bool) → bytes_eq sid (sid_of e) ≡ b → bytes_eq (sid_of e) sid ≡ false → has_text sid (map sid_of es) ≡ true
-    later true p q = absurd (let z : true ≡ false = sym ((bytes_eq-Decides (sid_of e) sid).1 (sym ((bytes_eq-Decides sid (sid_of e)).0 p))) ∙ q in cc)
-    later false p q = sym (ap (λ b. b || has_text sid (map sid_of es)) p) ∙ h
-
-    by : (b : Bool) → bytes_eq (sid_of e) sid ≡ b → cond b (e ∷ filter (λ e. bytes_eq (sid_of e) sid) es) (filter (λ e. bytes_eq (sid_of e) sid) es) ≡ []
-        → (has_text sid (map sid_of es) ≡ true → filter (λ e. bytes_eq (sid_of e) sid) es ≢ []) → ⊥
-    by true p z rest = cc
-    by false p z rest = rest (later (bytes_eq sid (sid_of e)) refl p) z
 
 -- ---- lists of texts
 
@@ -69,9 +49,7 @@ module _ (r : Replay) (laws : RunLaws r) where
     walk_for : (sid : List ℕ) → met sid ≡ true → (steps : List StoredStep) × OnePath (graph_of r sid) (honest_in r sid) (events_of sid (run_of r).log) steps
     walk_for sid there =
         let x : IsExplained real r.schedule (run_of r) sid = (laws.claims premises sid (some_with_event (account r).events sid there)).0 in
-        let graph : graph_of r sid ≡ x.graph = ap (λ o. graph_or_none (option_and_then (λ (c : Cast). graph_with real r.schedule.graphs c.graph) o)) x.is_cast ∙ ap graph_or_none x.is_graph in
-        let honest : honest_in r sid ≡ honest_role r.schedule x.cast = ap (λ o role. option_map_or (λ (c : Cast). honest_role r.schedule c role) o false) x.is_cast in
-        (x.steps, subst (λ h. OnePath (graph_of r sid) h (events_of sid (run_of r).log) x.steps) (sym honest) (subst (λ (g : Graph). OnePath g (honest_role r.schedule x.cast) (events_of sid (run_of r).log) x.steps) (sym graph) x.path))
+        (x.steps, explained_path r sid x.cast x.graph x.steps x.is_cast x.is_graph x.path)
 
     -- so have all of them
     walks_for : (sids : List (List ℕ)) → AllByRecursion (λ sid. met sid ≡ true) sids

@@ -5,7 +5,7 @@ use Rattle.sg_protocol.specs.Keyring.{Program}
 use Rattle.sg_protocol.specs.Past.{JoinedOnce}
 use Rattle.sg_world.specs.Faults.{NeverFull}
 use Rattle.sg_world.specs.Laws.{RunLaws}
-use Rattle.sg_world.specs.Replay.{run_of}
+use Rattle.sg_setting.specs.Replay.{run_of}
 use Rattle.sg_drive.specs.Faults.{IsTooMuch}
 use Rattle.sg_drive.specs.Generated.{Generated}
 use Rattle.sg_drive.specs.Going.{Going}

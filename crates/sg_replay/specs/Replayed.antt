@@ -7,21 +7,20 @@ use Rattle.sg_protocol.specs.Schedule.{Schedule}
 use Rattle.sg_protocol.specs.Steps.{is_taken}
 use Rattle.sg_sched_text.specs.Meant.{IsMeant}
 use Rattle.sg_report.specs.Report.{IsReport}
-use Rattle.sg_world.specs.Account.{CanBeNamed, account}
+use Rattle.sg_world.specs.Account.{account}
 use Rattle.sg_world.specs.Faults.{IsFull, NeverFull}
 use Rattle.sg_world.specs.Laws.{RunLaws}
-use Rattle.sg_world.specs.Replay.{Replay, run_of, up_to}
+use Rattle.sg_setting.specs.Replay.{Replay, run_of, up_to}
 use Rattle.sg_ending.specs.Ending.{Ending, NoMemory, TooLarge}
 
 -- the replay of all steps
 abbrev pub replay_of : List Program → Schedule → Replay
 replay_of programs s = record { programs = programs; schedule = s }
 
--- a schedule that can be replayed: it is one as the protocol has them, whose steps can be taken, each of them a craft or an honest principal's, and reported
+-- a schedule that can be replayed: it is one as the protocol has them, whose steps can be taken, each of them a craft or an honest principal's
 pub record CanBeReplayed (s : Schedule) : Type 0 where
   pub meant : IsMeant s
   pub honest : list_all (is_taken s) s.steps ≡ true
-  pub named : All (CanBeNamed s) s.steps
 
 -- the record is full as a step begins
 pub record IsOverfull (programs : List Program) (s : Schedule) : Type 0 where

@@ -28,7 +28,8 @@ pub const MOST_LOG_BYTES: u32 = 16_777_216;
 /// Audits the logs that the bytes spell and writes the answer for each session, or says why not.
 pub fn audit<O: Sink>(alloc: Global, bytes: &[u8], out: &mut O) -> Ending<'static>
     requires { length bytes.now ≤ most_logs_file }
-    ensures { Audits bytes.now (record { bytes = O.written out.old; faults = O.faults out.old }) (record { bytes = O.written out.new; faults = O.faults out.new }) (ending_held result) }
+    ensures { Audits bytes.now (record { bytes = O.written out.old; faults = O.faults out.old })
+        (record { bytes = O.written out.new; faults = O.faults out.new }) (ending_held result) }
 {
     match read_logs(alloc, bytes) {
         Ok(logs) => audit_logs(alloc, bytes, logs, out),
@@ -63,7 +64,8 @@ fn refused(fault: LogFault) -> Ending<'static>
 fn audit_logs<O: Sink>(alloc: Global, bytes: &[u8], logs: Logs, out: &mut O) -> Ending<'static>
     requires spelled { SpellsLogs bytes.now (logs_held logs) }
     requires fit { All (λ s. AreLogs logs.graph (logs_of s) (reported_of s)) logs.sessions }
-    ensures { Audits bytes.now (record { bytes = O.written out.old; faults = O.faults out.old }) (record { bytes = O.written out.new; faults = O.faults out.new }) (ending_held result) }
+    ensures { Audits bytes.now (record { bytes = O.written out.old; faults = O.faults out.old })
+        (record { bytes = O.written out.new; faults = O.faults out.new }) (ending_held result) }
 {
     let Logs { graph, sessions } = logs;
     audit_sessions(alloc, bytes, graph, sessions.as_slice(), out)
@@ -80,12 +82,21 @@ fn audit_sessions<O: Sink>(
     requires spelled { SpellsLogs bytes.now (record { graph = graph; sessions = map session_of sessions.now }) }
     requires two { 2 ≤ length graph.roles }
     requires fit { All (λ s. AreLogs graph (logs_of s) (reported_of s)) sessions.now }
-    ensures { Audits bytes.now (record { bytes = O.written out.old; faults = O.faults out.old }) (record { bytes = O.written out.new; faults = O.faults out.new }) (ending_held result) }
+    ensures { Audits bytes.now (record { bytes = O.written out.old; faults = O.faults out.old })
+        (record { bytes = O.written out.new; faults = O.faults out.new }) (ending_held result) }
 {
     match compile_all(alloc, slice::from_ref(&graph)) {
-        Ok(programs) => say_answers(alloc, bytes, &graph, sessions, &programs, out),
+        Ok(programs) => {
+            let ending = say_answers(alloc, bytes, &graph, sessions, &programs, out);
+            drop(programs);
+            drop(graph);
+            ending
+        }
         Err(AllFault::Refused { fault, .. }) => Ending::GraphRefused { graph, fault },
-        Err(AllFault::OutOfMemory) => Ending::NoMemory,
+        Err(AllFault::OutOfMemory) => {
+            drop(graph);
+            Ending::NoMemory
+        }
     }
 }
 
@@ -102,7 +113,8 @@ fn say_answers<O: Sink>(
     requires fit { All (λ s. AreLogs graph.now (logs_of s) (reported_of s)) sessions.now }
     requires compiled { AreCompiled real (graph.now ∷ []) programs.now }
     requires few { All IsWhole programs.now }
-    ensures { Audits bytes.now (record { bytes = O.written out.old; faults = O.faults out.old }) (record { bytes = O.written out.new; faults = O.faults out.new }) (ending_held result) }
+    ensures { Audits bytes.now (record { bytes = O.written out.old; faults = O.faults out.old })
+        (record { bytes = O.written out.new; faults = O.faults out.new }) (ending_held result) }
 {
     // The programs show that the checks accept the graph.
     let _ = programs;

@@ -31,7 +31,8 @@ pub fn drive<O: Sink>(
     out: &mut O,
 ) -> Ending<'static>
     requires { (1 ≤ sessions) × (sessions ≤ most_driven) }
-    ensures { Drives seed sessions bytes.now (record { bytes = O.written out.old; faults = O.faults out.old }) (record { bytes = O.written out.new; faults = O.faults out.new }) (ending_held result) }
+    ensures { Drives seed sessions bytes.now
+        (record { bytes = O.written out.old; faults = O.faults out.old }) (record { bytes = O.written out.new; faults = O.faults out.new }) (ending_held result) }
 {
     match graph_of(alloc, bytes) {
         Ok(graph) => drive_graph(alloc, seed, sessions, bytes, graph, out),
@@ -50,12 +51,21 @@ fn drive_graph<O: Sink>(
 ) -> Ending<'static>
     requires sessions { (1 ≤ sessions) × (sessions ≤ most_driven) }
     requires spelled { SpellsGraph bytes.now graph }
-    ensures { Drives seed sessions bytes.now (record { bytes = O.written out.old; faults = O.faults out.old }) (record { bytes = O.written out.new; faults = O.faults out.new }) (ending_held result) }
+    ensures { Drives seed sessions bytes.now
+        (record { bytes = O.written out.old; faults = O.faults out.old }) (record { bytes = O.written out.new; faults = O.faults out.new }) (ending_held result) }
 {
     match compile_all(alloc, slice::from_ref(&graph)) {
-        Ok(programs) => say_summary(alloc, seed, sessions, bytes, &graph, &programs, out),
+        Ok(programs) => {
+            let ending = say_summary(alloc, seed, sessions, bytes, &graph, &programs, out);
+            drop(programs);
+            drop(graph);
+            ending
+        }
         Err(AllFault::Refused { fault, .. }) => Ending::GraphRefused { graph, fault },
-        Err(AllFault::OutOfMemory) => Ending::NoMemory,
+        Err(AllFault::OutOfMemory) => {
+            drop(graph);
+            Ending::NoMemory
+        }
     }
 }
 
@@ -73,7 +83,8 @@ fn say_summary<O: Sink>(
     requires spelled { SpellsGraph bytes.now graph.now }
     requires compiled { AreCompiled real (graph.now ∷ []) programs.now }
     requires few { All IsWhole programs.now }
-    ensures { Drives seed sessions bytes.now (record { bytes = O.written out.old; faults = O.faults out.old }) (record { bytes = O.written out.new; faults = O.faults out.new }) (ending_held result) }
+    ensures { Drives seed sessions bytes.now
+        (record { bytes = O.written out.old; faults = O.faults out.old }) (record { bytes = O.written out.new; faults = O.faults out.new }) (ending_held result) }
 {
     match summary_of(alloc, seed, sessions, graph, programs) {
         Ok(text) => match write_all(out, text.as_slice()) {

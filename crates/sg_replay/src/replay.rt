@@ -12,7 +12,7 @@ ghost use Rattle.sg_protocol.specs.Texts.{real};
 ghost use Rattle.sg_sched_text.specs.TakingLines.{kind_of};
 ghost use Rattle.sg_world.specs.Faults.{IsFull};
 ghost use Rattle.sg_sched.specs.Steps.{CanBeTaken};
-ghost use Rattle.sg_world.specs.Replay.{with_taken, without_steps};
+ghost use Rattle.sg_setting.specs.Replay.{with_taken, without_steps};
 ghost use Rattle.sg_sched.specs.Format.Spells.{SpellsSchedule};
 ghost use Rattle.sg_sched.specs.Format.StepsHeld.{step_of};
 ghost use Rattle.sg_ending.specs.Graphs.{Refuses};
@@ -39,7 +39,8 @@ pub const MOST_SCHEDULE_BYTES: u32 = 16_777_216;
 /// Replays the schedule that the bytes spell and writes its report, or says why not.
 pub fn replay<O: Sink>(alloc: Global, bytes: &[u8], out: &mut O) -> Ending<'static>
     requires { length bytes.now ≤ most_schedule_file }
-    ensures { Replays bytes.now (record { bytes = O.written out.old; faults = O.faults out.old }) (record { bytes = O.written out.new; faults = O.faults out.new }) (ending_held result) }
+    ensures { Replays bytes.now (record { bytes = O.written out.old; faults = O.faults out.old })
+        (record { bytes = O.written out.new; faults = O.faults out.new }) (ending_held result) }
 {
     match read_schedule(alloc, bytes) {
         Ok(schedule) => {
@@ -88,7 +89,8 @@ fn replay_schedule<O: Sink>(
     requires short { length bytes.now ≤ most_schedule_file }
     requires spelled { SpellsSchedule real bytes.now schedule.now }
     requires can { CanBeReplayed schedule.now }
-    ensures { Replays bytes.now (record { bytes = O.written out.old; faults = O.faults out.old }) (record { bytes = O.written out.new; faults = O.faults out.new }) (ending_held result) }
+    ensures { Replays bytes.now (record { bytes = O.written out.old; faults = O.faults out.old })
+        (record { bytes = O.written out.new; faults = O.faults out.new }) (ending_held result) }
 {
     match compile_all(alloc, schedule.graphs.as_slice()) {
         Ok(programs) => run_schedule(alloc, bytes, schedule, &programs, out),
@@ -122,7 +124,8 @@ fn run_schedule<O: Sink>(
     requires can { CanBeReplayed schedule.now }
     requires compiled { AreCompiled real schedule.now.graphs programs.now }
     requires few { All IsWhole programs.now }
-    ensures { Replays bytes.now (record { bytes = O.written out.old; faults = O.faults out.old }) (record { bytes = O.written out.new; faults = O.faults out.new }) (ending_held result) }
+    ensures { Replays bytes.now (record { bytes = O.written out.old; faults = O.faults out.old })
+        (record { bytes = O.written out.new; faults = O.faults out.new }) (ending_held result) }
 {
     match report_of(alloc, programs, schedule) {
         Ok(text) => match write_all(out, text.as_slice()) {

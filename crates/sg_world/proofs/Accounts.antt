@@ -1,22 +1,20 @@
 -- What is kept of a replay is what its account says.
-use Rattle.std.proofs.Common.{◌≡◌, ℕ, List, [], map, All, refl, sym, ◌∙◌, ap, subst}
-use Rattle.std.specs.List.{AllByRecursion, AllZip}
-use Rattle.std.proofs.lemmas.List.Elements.{All-from_recursion, recursion_from_All}
+use Rattle.std.proofs.Common.{◌≡◌, ℕ, List, [], map, refl, ◌∙◌, ap, subst}
+use Rattle.std.specs.List.{AllZip}
 use Rattle.sg_text.specs.Sessions.{KnownSessions, naming}
 use Rattle.sg_protocol.specs.IsSchedule.{AreCompiled, IsSchedule}
 use Rattle.sg_protocol.specs.Run.{run}
 use Rattle.sg_protocol.specs.Texts.{real}
 use Rattle.sg_report.specs.Report.{lines_from, known_sessions}
-use Rattle.sg_world.specs.Account.{CanBeNamed, account, lines_of}
+use Rattle.sg_world.specs.Account.{account, lines_of}
 use Rattle.sg_world.specs.Holds.{Holds, schedule_of}
 use Rattle.sg_world.specs.RecordModel.{Recorded, TakenStep}
-use Rattle.sg_world.specs.KeptLines.{CanBeWritten, line_kept, known_in}
-use Rattle.sg_world.specs.Replay.{Replay}
-use Rattle.sg_world.specs.Setting.{Setting}
-use Rattle.sg_world.proofs.KeptLines.{events_alike, lines_alike, lines_written}
+use Rattle.sg_world.specs.KeptLines.{line_kept, known_in}
+use Rattle.sg_setting.specs.Replay.{Replay}
+use Rattle.sg_setting.specs.Setting.{Setting}
+use Rattle.sg_world.proofs.KeptLines.{events_alike, lines_alike}
 use Rattle.sg_world.proofs.Pasts.{Named}
 use Rattle.sg_world.proofs.RunEntries.{EntryOf, entries_of_steps}
-use Rattle.sg_world.proofs.NamedLines.{lines_can_be_reported}
 use Rattle.sg_world.proofs.Worlds.{replay}
 
 module _ (rep : Replay) (d : Setting) (nodes : List Named) (r : Recorded) (is : replay d nodes r ≡ rep) (h : Holds d nodes r) (es : List TakenStep) (same : es ≡ r.entries) where
@@ -33,24 +31,12 @@ module _ (rep : Replay) (d : Setting) (nodes : List Named) (r : Recorded) (is : 
       ∙ ap (λ (z : List (List ℕ)). let m : KnownSessions = record { declared = (known_in d.sessions r.entries).declared; events = z } in naming 120 m) (events_alike r.entries [] (run real d.programs (schedule_of d nodes r)).log h.run.reported)
       ∙ ap (λ (z : Replay). naming 120 (known_sessions (account z))) is
 
-  module _ (named : All (CanBeNamed rep.schedule) rep.schedule.steps) where
-    named_here : All (CanBeNamed (schedule_of d nodes r)) (schedule_of d nodes r).steps
-    named_here = subst (λ (z : Replay). All (CanBeNamed z.schedule) z.schedule.steps) (sym is) named
+  of_steps : AllZip (EntryOf (schedule_of d nodes r)) (schedule_of d nodes r).steps (run real d.programs (schedule_of d nodes r)).log
+  of_steps = entries_of_steps d.programs (schedule_of d nodes r) h.taken
 
-    of_steps : AllZip (EntryOf (schedule_of d nodes r)) (schedule_of d nodes r).steps (run real d.programs (schedule_of d nodes r)).log
-    of_steps = entries_of_steps d.programs (schedule_of d nodes r) h.taken
-
-    -- the lines that are kept are written as those of the account
-    pub lines_kept : (m : KnownSessions) → lines_from m 1 (map (line_kept d) es) ≡ lines_from m 1 (account rep).lines
-    lines_kept m =
-        ap (λ (z : List TakenStep). lines_from m 1 (map (line_kept d) z)) same
-        ∙ lines_alike (replay d nodes r) d refl refl m 1 r.entries [] (run real d.programs (schedule_of d nodes r)).log h.run.reported h.run.learnt of_steps (recursion_from_All (CanBeNamed (schedule_of d nodes r)) (schedule_of d nodes r).steps named_here)
-        ∙ ap (λ (z : Replay). lines_from m 1 (lines_of z)) is
-
-    -- and each can be written
-    written_here : AllByRecursion (CanBeWritten d) r.entries
-    written_here =
-        lines_written (replay d nodes r) d refl refl r.entries [] (run real d.programs (schedule_of d nodes r)).log h.run.reported h.run.learnt of_steps (lines_can_be_reported (replay d nodes r) h.compiled h.schedule h.taken named_here)
-
-    pub can_write : All (CanBeWritten d) es
-    can_write = All-from_recursion (CanBeWritten d) es (subst (AllByRecursion (CanBeWritten d)) (sym same) written_here)
+  -- the lines that are kept are written as those of the account
+  pub lines_kept : (m : KnownSessions) → lines_from m 1 (map (line_kept d) es) ≡ lines_from m 1 (account rep).lines
+  lines_kept m =
+      ap (λ (z : List TakenStep). lines_from m 1 (map (line_kept d) z)) same
+      ∙ lines_alike (replay d nodes r) d refl refl m 1 r.entries [] (run real d.programs (schedule_of d nodes r)).log h.run.reported h.run.learnt of_steps h.named
+      ∙ ap (λ (z : Replay). lines_from m 1 (lines_of z)) is

@@ -11,7 +11,7 @@ use Rattle.sg_protocol.specs.World.{keyring_of}
 use Rattle.sg_node.proofs.Life.{new_nodes}
 use Rattle.sg_world.specs.Holds.{Holds, schedule_of}
 use Rattle.sg_world.specs.RecordModel.{Recorded}
-use Rattle.sg_world.specs.Setting.{Setting}
+use Rattle.sg_setting.specs.Setting.{Setting}
 use Rattle.sg_world.specs.Representation.{RepresentPasts}
 use Rattle.sg_world.proofs.Pasts.{Named, names}
 
@@ -50,6 +50,7 @@ module _ (d : Setting) (honest : List Name) (size : ℕ) where
     schedule = subst (IsSchedule real) (sym is_declared) h;
     compiled = compiled;
     taken = refl;
+    named = tt;
     few = omega arith;
     run = record {
       represent = subst (λ (ms : List Name). RepresentPasts (map (new_named d.keys d.programs) honest) (map (past_of_new d.keys d.programs) ms)) (sym (names_new d.keys d.programs honest)) (represent_new d.keys d.programs honest);

@@ -9,10 +9,9 @@ use Rattle.sg_graph.proofs.FirstIndex.{passes_there, none_passes}
 use Rattle.sg_model.proofs.Differ.{absent_before}
 use Rattle.sg_model.specs.Lists.{all_differ, has_text}
 use Rattle.sg_model.specs.Names.{Name}
-use Rattle.sg_protocol.specs.Keyring.{Keyring, Program}
-use Rattle.sg_protocol.specs.NodeStates.{NodeState, new_state}
+use Rattle.sg_protocol.specs.Keyring.{Program}
+use Rattle.sg_protocol.specs.NodeStates.{NodeState}
 use Rattle.sg_protocol.specs.Schedule.{PairKey, Step, who_of}
-use Rattle.sg_protocol.specs.World.{keyring_of}
 use Rattle.sg_world.specs.Indices.{IsIndexOf, names_of}
 use Rattle.sg_world.proofs.Begins.{new_named, names_new}
 use Rattle.sg_world.proofs.Pasts.{Named, names, in_names}
@@ -42,13 +41,9 @@ new_name keys programs ms i m ns is d within at =
     parted (x ∷ xs) (suc i) m h at = ap (λ (z : List Name). x ∷ z) (parted xs i m (omega arith) at)
 
 -- one node more
-pub nodes_more : (keys : List PairKey) (programs : List Program) (ms : List Name) (i : ℕ) (m : Name) (old now : List Named) (ring : Keyring) (node : NodeState) → old ≡ map (new_named keys programs) (take i ms) → i < length ms → m ≡ get_or ms i m
-    → ring ≡ keyring_of keys m → node ≡ new_state ring programs [] → now ≡ old ++ (m, node) ∷ [] → now ≡ map (new_named keys programs) (take (i + 1) ms)
-nodes_more keys programs ms i m old now ring node is within at rung made more =
-    more ∙ (λ j. is j ++ (m, made j) ∷ [])
-    ∙ ap (λ (r : Keyring). map (new_named keys programs) (take i ms) ++ (m, new_state r programs []) ∷ []) rung
-    ∙ ap (λ (z : Name). map (new_named keys programs) (take i ms) ++ new_named keys programs z ∷ []) at
-    ∙ sym (map_more (new_named keys programs) ms i m within)
+pub nodes_more : (keys : List PairKey) (programs : List Program) (ms : List Name) (i : ℕ) (m : Name) (old now : List Named) → old ≡ map (new_named keys programs) (take i ms) → i < length ms → m ≡ get_or ms i m
+    → now ≡ old ++ new_named keys programs m ∷ [] → now ≡ map (new_named keys programs) (take (i + 1) ms)
+nodes_more keys programs ms i m old now is within at more = more ∙ (λ j. is j ++ new_named keys programs (at j) ∷ []) ∙ sym (map_more (new_named keys programs) ms i m within)
 
 -- a name that has no entry isn't found
 pub lookup_absent : {X : Type 0} (who : Name) (es : List (Name × X)) → has_text who (map (λ (e : Name × X). e.0) es) ≡ false → lookup (same who) es ≡ None

@@ -33,7 +33,7 @@ use Rattle.sg_walk.specs.Model.{event_of, values_of}
 use Rattle.sg_role.specs.Sending.{with_notes}
 use Rattle.sg_node.specs.Answers.{GoesOn, graph_named}
 use Rattle.sg_node.specs.Receipts.{IsReceiptAt}
-use Rattle.sg_node.specs.declared.answer.Happened.{Happened as Begun}
+use Rattle.sg_receipt.specs.declared.answer.Happened.{Happened as Begun}
 use Rattle.sg_report.specs.Outcome.{graph_in, outcome_of}
 use Rattle.sg_report.specs.Reported.{reported_answer}
 use Rattle.sg_report.specs.declared.outcome.Outcome.{Outcome}

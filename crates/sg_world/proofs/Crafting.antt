@@ -16,10 +16,12 @@ use Rattle.sg_protocol.specs.World.{World}
 use Rattle.sg_world.specs.Crafts.{IsResultOfCraft}
 use Rattle.sg_world.specs.Holds.{Holds, schedule_of}
 use Rattle.sg_world.specs.RecordModel.{StepResult, TakenStep, Recorded, HoldsRun, with_result, added_size}
-use Rattle.sg_world.specs.Setting.{Setting}
+use Rattle.sg_setting.specs.Setting.{Setting}
 use Rattle.sg_world.proofs.EntryGraphs.{is_before}
 use Rattle.sg_world.proofs.Goes.{craft_held}
 use Rattle.sg_protocol.proofs.OtherSteps.{schedule_more}
+use Rattle.sg_model.proofs.Small.{all-append}
+use Rattle.sg_world.specs.StepResults.{IsNamed}
 use Rattle.sg_world.proofs.Pasts.{Named}
 
 module _ (d : Setting) (nodes : List Named) (r : Recorded) (x : Craft) (honest : List ℕ) (c : StepResult)
@@ -46,6 +48,7 @@ module _ (d : Setting) (nodes : List Named) (r : Recorded) (x : Craft) (honest :
       schedule = subst (IsSchedule real) (sym same) (schedule_more real S (CraftStep x) h.schedule step);
       compiled = h.compiled;
       taken = subst (λ (z : Schedule). list_all (is_taken z) z.steps ≡ true) (sym same) all_taken;
+      named = all-append (λ (e : TakenStep). IsNamed (length d.sessions) e.step) r.entries (record { step = CraftStep x; outcome = c.outcome; honest = honest } ∷ []) h.named (tt, tt);
       few = (let e = length-append r.entries (record { step = CraftStep x; outcome = c.outcome; honest = honest } ∷ []) in omega (arith, e, room));
       run = subst (λ (z : Schedule). HoldsRun d.programs z (run real d.programs z) nodes (with_result r (CraftStep x) honest c)) (sym same)
           (subst (λ (w : World). HoldsRun d.programs (with_step S (CraftStep x)) w nodes (with_result r (CraftStep x) honest c)) (sym (runs_go_by_step real d.programs S (CraftStep x))) held);

@@ -8,13 +8,13 @@ use Rattle.sg_protocol.specs.Schedule.{Schedule, NamedSession, Craft, Step, Star
 use Rattle.sg_protocol.specs.Session.{new_session}
 use Rattle.sg_protocol.specs.Spelling.{HasSpelling}
 use Rattle.sg_protocol.specs.Texts.{real, session_id}
-use Rattle.sg_protocol.specs.World.{frames, new_world}
+use Rattle.sg_protocol.specs.World.{new_world}
 use Rattle.sg_craft.specs.Means.{Means}
 use Rattle.sg_craft.proofs.MeansLaws.{can_by_means}
 use Rattle.sg_world.specs.Crafts.{CanBeCrafted, IsCraftable}
 use Rattle.sg_world.specs.Holds.{schedule_of}
 use Rattle.sg_world.specs.RecordModel.{Recorded}
-use Rattle.sg_world.specs.Setting.{Setting}
+use Rattle.sg_setting.specs.Setting.{Setting}
 use Rattle.sg_world.proofs.Pasts.{Named}
 
 -- the frame that a craft makes of a cast, if it has this graph

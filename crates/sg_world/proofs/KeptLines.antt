@@ -1,9 +1,9 @@
 -- The lines, the names and the events of an account, by what is kept.
 use Rattle.std.specs.Fmt.{decimal}
-use Rattle.std.specs.Prelude.{◌≡◌, ℕ, ◌+◌, List, [], ◌∷◌, ◌++◌, map, flat_map, filter_map, zip, refl, Option, Some, None, option_map, option_and_then, slice_get, get_or, unwrap_or}
+use Rattle.std.specs.Prelude.{◌≡◌, ℕ, ◌+◌, List, [], ◌∷◌, ◌++◌, length, map, flat_map, filter_map, zip, refl, Option, Some, None, option_map, option_and_then, slice_get, get_or, unwrap_or}
 use Rattle.std.specs.List.{AllByRecursion, AllZip, cons_option}
 use Rattle.std.specs.Option.{option_map_or, option_to_list}
-use Rattle.std.proofs.Common.{sym, ◌∙◌, ap, subst}
+use Rattle.std.proofs.Common.{sym, ◌∙◌, ap}
 use Rattle.std.proofs.lemmas.Option.{slice_get-get_or}
 use Rattle.sg_protocol.specs.Calls.{Happened, Sends, Start, Deliver, Event, sid_of, Answer, ActFault, SendFault, Refusal}
 use Rattle.sg_protocol.specs.Frame.{Cast}
@@ -16,15 +16,16 @@ use Rattle.sg_protocol.specs.Graph.{Graph}
 use Rattle.sg_node.specs.Answers.{graph_named}
 use Rattle.sg_report.specs.Lines.{by_whom, graph_or_none, line_text, reported_text}
 use Rattle.sg_report.specs.Outcome.{outcome_of}
-use Rattle.sg_report.specs.Report.{StepLine, line, lines_from, name_in}
+use Rattle.sg_report.specs.Report.{line, lines_from, name_in}
 use Rattle.sg_text.specs.Sessions.{KnownSessions}
-use Rattle.sg_report.specs.Reported.{CanBeReported, Reported, reported_outcome, reported_after, event_reported, session_reported, sid_left}
-use Rattle.sg_world.specs.Account.{CanBeNamed, graph_reported, line_of_entry}
+use Rattle.sg_report.specs.Reported.{Reported, reported_outcome, reported_after, event_reported, session_reported, sid_left}
+use Rattle.sg_world.specs.Account.{graph_reported, line_of_entry}
 use Rattle.sg_world.specs.Entries.{answer_in, graph_of_entry}
 use Rattle.sg_world.specs.RecordModel.{IsLearnt, TakenStep}
-use Rattle.sg_world.specs.KeptLines.{CanBeWritten, sid_kept, left_by, line_kept}
-use Rattle.sg_world.specs.Replay.{Replay}
-use Rattle.sg_world.specs.Setting.{Setting}
+use Rattle.sg_world.specs.KeptLines.{sid_kept, left_by, line_kept}
+use Rattle.sg_setting.specs.Replay.{Replay}
+use Rattle.sg_setting.specs.Setting.{Setting}
+use Rattle.sg_world.specs.StepResults.{IsNamed}
 use Rattle.sg_world.proofs.RunEntries.{EntryOf}
 
 -- ---- the session that is left
@@ -38,7 +39,7 @@ no_delivery None = refl
 no_delivery (Some bs) = refl
 
 -- a step's call gives up the session that the step gives up
-left_is : (s : Schedule) (w : World) (k : ℕ) (x : Step) → CanBeNamed s x → option_and_then sid_left (call_of real s w k x) ≡ left_by s.sessions x
+left_is : (s : Schedule) (w : World) (k : ℕ) (x : Step) → IsNamed (length s.sessions) x → option_and_then sid_left (call_of real s w k x) ≡ left_by s.sessions x
 left_is s w k (StartStep who n) h = no_start (cast_of s n)
 left_is s w k (ActStep who n label values) h = refl
 left_is s w k (AbandonStep who n) h = by (slice_get s.sessions n) (get_or s.sessions n _) (slice_get-get_or s.sessions n (record { name = []; cast = record { version = 0; graph = []; nonce = []; names = [] } }) h)
@@ -86,43 +87,13 @@ same_text gs session graph n (Answered (Answer.NotDelivered (Refusal.BadOpening 
 same_text gs session graph n Outcome.Crafted = refl
 same_text gs session graph n Outcome.NoFrame = refl
 
--- and it has its names in it, if it has them in that of its call
-same_names : (gs : List Graph) (graph : Option Graph) (n : ℕ) (o : Outcome) → CanBeReported (graph_reported gs graph (reported_outcome n o)) (reported_outcome n o) → CanBeReported (graph_reported gs (beside_numbers graph o) (reported_outcome n o)) (reported_outcome n o)
-same_names gs graph n (Answered (Answer.Happened e)) h = h
-same_names gs graph n (Answered (Answer.Sends e to f)) h = h
-same_names gs graph n (Answered Answer.Abandoned) h = tt
-same_names gs graph n (Answered (Answer.NotStarted fault)) h = tt
-same_names gs graph n (Answered Answer.NotAbandoned) h = tt
-same_names gs graph n (Answered (Answer.NotActed ActFault.UnknownSession)) h = tt
-same_names gs graph n (Answered (Answer.NotActed ActFault.NotYourTurn)) h = tt
-same_names gs graph n (Answered (Answer.NotActed (ActFault.Send SendFault.NoSuchLabel))) h = tt
-same_names gs graph n (Answered (Answer.NotActed (ActFault.Send (SendFault.BadValues x)))) h = h
-same_names gs graph n (Answered (Answer.NotActed (ActFault.Send SendFault.TimeSpent))) h = tt
-same_names gs graph n (Answered (Answer.NotDelivered (Refusal.Malformed at))) h = tt
-same_names gs graph n (Answered (Answer.NotDelivered Refusal.UnknownGraph)) h = tt
-same_names gs graph n (Answered (Answer.NotDelivered Refusal.BadCast)) h = tt
-same_names gs graph n (Answered (Answer.NotDelivered (Refusal.UnknownPeer name))) h = tt
-same_names gs graph n (Answered (Answer.NotDelivered Refusal.BadSession)) h = tt
-same_names gs graph n (Answered (Answer.NotDelivered Refusal.Joined)) h = tt
-same_names gs graph n (Answered (Answer.NotDelivered Refusal.CacheFull)) h = tt
-same_names gs graph n (Answered (Answer.NotDelivered Refusal.SessionsFull)) h = tt
-same_names gs graph n (Answered (Answer.NotDelivered Refusal.UnknownSession)) h = tt
-same_names gs graph n (Answered (Answer.NotDelivered Refusal.NotWaiting)) h = tt
-same_names gs graph n (Answered (Answer.NotDelivered Refusal.BadFrameTag)) h = tt
-same_names gs graph n (Answered (Answer.NotDelivered Refusal.NoSuchView)) h = tt
-same_names gs graph n (Answered (Answer.NotDelivered (Refusal.BadTime item got least))) h = tt
-same_names gs graph n (Answered (Answer.NotDelivered (Refusal.BadEvidence item))) h = tt
-same_names gs graph n (Answered (Answer.NotDelivered (Refusal.BadOpening x))) h = h
-same_names gs graph n Outcome.Crafted h = tt
-same_names gs graph n Outcome.NoFrame h = tt
-
 module _ (r : Replay) (d : Setting) (sessions : d.sessions ≡ r.schedule.sessions) (graphs : d.graphs ≡ r.schedule.graphs) where
   module _ (e : TakenStep) (l : Logged) (n : ℕ) (reported : outcome_of e.outcome ≡ reported_outcome n l.outcome) (learnt : IsLearnt r.programs r.schedule e l) (of : EntryOf r.schedule e.step l) where
     -- the graph by which the kept line names its numbers
     graph_is : (line_kept d e).graph ≡ graph_reported r.schedule.graphs (beside_numbers (graph_of_entry r.programs r.schedule l) l.outcome) (reported_outcome n l.outcome)
     graph_is = λ i. graph_reported (graphs i) (learnt.graph i) (reported i)
 
-    line_is : CanBeNamed r.schedule e.step → (m : KnownSessions) (k : ℕ) → line m k (line_kept d e) ≡ line m k (line_of_entry r (l, reported_outcome n l.outcome))
+    line_is : IsNamed (length r.schedule.sessions) e.step → (m : KnownSessions) (k : ℕ) → line m k (line_kept d e) ≡ line m k (line_of_entry r (l, reported_outcome n l.outcome))
     line_is named m k =
         let t : Reported = reported_outcome n l.outcome in
         let graph : Option Graph = graph_of_entry r.programs r.schedule l in
@@ -133,12 +104,9 @@ module _ (r : Replay) (d : Setting) (sessions : d.sessions ≡ r.schedule.sessio
         left : left_by d.sessions e.step ≡ option_and_then sid_left l.call
         left = ap (λ (ss : List NamedSession). left_by ss e.step) sessions ∙ sym (left_is r.schedule of.world of.number e.step named) ∙ ap (option_and_then sid_left) (sym of.call)
 
-    line_written : CanBeReported (line_of_entry r (l, reported_outcome n l.outcome)).graph (reported_outcome n l.outcome) → CanBeWritten d e
-    line_written h = subst (λ t. CanBeReported (line_kept d e).graph t) (sym reported) (subst (λ g. CanBeReported g (reported_outcome n l.outcome)) (sym graph_is) (same_names r.schedule.graphs (graph_of_entry r.programs r.schedule l) n l.outcome h))
-
   -- the lines that are kept are written as those of the account
   pub lines_alike : (m : KnownSessions) (k : ℕ) (es : List TakenStep) (before ls : List Logged) → map (λ (e : TakenStep). outcome_of e.outcome) es ≡ reported_after before ls → AllZip (IsLearnt r.programs r.schedule) es ls
-      → AllZip (EntryOf r.schedule) (map (λ (e : TakenStep). e.step) es) ls → AllByRecursion (CanBeNamed r.schedule) (map (λ (e : TakenStep). e.step) es) → lines_from m k (map (line_kept d) es) ≡ lines_from m k (map (line_of_entry r) (zip ls (reported_after before ls)))
+      → AllZip (EntryOf r.schedule) (map (λ (e : TakenStep). e.step) es) ls → AllByRecursion (λ (e : TakenStep). IsNamed (length r.schedule.sessions) e.step) es → lines_from m k (map (line_kept d) es) ≡ lines_from m k (map (line_of_entry r) (zip ls (reported_after before ls)))
   lines_alike m k [] before [] reported learnt are named = refl
   lines_alike m k [] before (l ∷ ls) reported learnt are named = absurd are
   lines_alike m k (e ∷ es) before [] reported learnt are named = absurd are
@@ -146,17 +114,6 @@ module _ (r : Replay) (d : Setting) (sessions : d.sessions ≡ r.schedule.sessio
       let here : outcome_of e.outcome ≡ reported_outcome (frame_number before) l.outcome = cc in
       let later : map (λ (e : TakenStep). outcome_of e.outcome) es ≡ reported_after (before ++ l ∷ []) ls = cc in
       λ i. line_is e l (frame_number before) here learnt.0 are.0 named.0 m k i ++ lines_alike m (k + 1) es (before ++ l ∷ []) ls later learnt.1 are.1 named.1 i
-
-  -- and can be written if those of the account have their names
-  pub lines_written : (es : List TakenStep) (before ls : List Logged) → map (λ (e : TakenStep). outcome_of e.outcome) es ≡ reported_after before ls → AllZip (IsLearnt r.programs r.schedule) es ls → AllZip (EntryOf r.schedule) (map (λ (e : TakenStep). e.step) es) ls
-      → AllByRecursion (λ (ln : StepLine). CanBeReported ln.graph ln.reported) (map (line_of_entry r) (zip ls (reported_after before ls))) → AllByRecursion (CanBeWritten d) es
-  lines_written [] before [] reported learnt are h = tt
-  lines_written [] before (l ∷ ls) reported learnt are h = tt
-  lines_written (e ∷ es) before [] reported learnt are h = absurd are
-  lines_written (e ∷ es) before (l ∷ ls) reported learnt are h =
-      let here : outcome_of e.outcome ≡ reported_outcome (frame_number before) l.outcome = cc in
-      let later : map (λ (e : TakenStep). outcome_of e.outcome) es ≡ reported_after (before ++ l ∷ []) ls = cc in
-      (line_written e l (frame_number before) here learnt.0 are.0 h.0, lines_written es (before ++ l ∷ []) ls later learnt.1 are.1 h.1)
 
 -- ---- events
 

@@ -1,6 +1,5 @@
 mod Zipped
 mod Pasts
-mod FreshPeers
 mod EntryGraphs
 mod Goes
 mod Called
@@ -10,16 +9,14 @@ mod Begins
 mod ByName
 mod Lasts
 mod Worlds
-mod Graphs
 mod Crafting
 mod RunEntries
 mod RunsOfReplays
-mod NamedLines
 mod KeptLines
 mod PremiseLaws
 mod NamesMore
 mod WrittenLines
-mod WalkLaws
+pub mod WalkLaws
 pub mod ReportText
 mod Accounts
 mod Gathered

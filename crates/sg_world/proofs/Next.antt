@@ -20,11 +20,12 @@ use Rattle.sg_protocol.specs.Schedule.{Schedule, Step, who_of}
 use Rattle.sg_protocol.specs.Steps.{with_step, is_taken, record_size}
 use Rattle.sg_protocol.specs.Texts.{real}
 use Rattle.sg_protocol.specs.World.{World, Logged}
-use Rattle.sg_world.specs.StepResults.{IsResultAt}
+use Rattle.sg_model.proofs.Small.{all-append}
+use Rattle.sg_world.specs.StepResults.{IsNamed, IsResultAt}
 use Rattle.sg_world.specs.Holds.{Holds, schedule_of}
 use Rattle.sg_world.specs.RecordModel.{StepResult, TakenStep, Recorded, HoldsRun, IsHonestIn, IsLearnt, with_result, added_size}
 use Rattle.sg_world.specs.Indices.{IsIndexOf}
-use Rattle.sg_world.specs.Setting.{Setting}
+use Rattle.sg_setting.specs.Setting.{Setting}
 use Rattle.sg_world.proofs.EntryGraphs.{is_before}
 use Rattle.sg_world.proofs.Goes.{step_held}
 use Rattle.sg_protocol.proofs.OtherSteps.{schedule_more}
@@ -87,12 +88,13 @@ module _ (d : Setting) (nodes now : List Named) (r : Recorded) (x : Step) (hones
   all_taken : list_all (is_taken (with_step (schedule_of d nodes r) x)) (with_step (schedule_of d nodes r) x).steps ≡ true
   all_taken = list_all-append (is_taken S) S.steps (x ∷ []) ∙ (λ i. h.taken i && (is_one i && true))
 
-  pub next : Holds d now (with_result r x honest c) × (schedule_of d now (with_result r x honest c) ≡ with_step (schedule_of d nodes r) x)
-  next = (
+  pub next : IsNamed (length d.sessions) x → Holds d now (with_result r x honest c) × (schedule_of d now (with_result r x honest c) ≡ with_step (schedule_of d nodes r) x)
+  next named = (
     record {
       schedule = subst (IsSchedule real) (sym same) (schedule_more real S x h.schedule step);
       compiled = h.compiled;
       taken = subst (λ (z : Schedule). list_all (is_taken z) z.steps ≡ true) (sym same) all_taken;
+      named = all-append (λ (e : TakenStep). IsNamed (length d.sessions) e.step) r.entries (record { step = x; outcome = c.outcome; honest = honest } ∷ []) h.named (named, tt);
       few = (let e = length-append r.entries (record { step = x; outcome = c.outcome; honest = honest } ∷ []) in omega (arith, e, room));
       run = subst (λ (z : Schedule). HoldsRun d.programs z (run real d.programs z) now (with_result r x honest c)) (sym same)
           (subst (λ (w : World). HoldsRun d.programs (with_step S x) w now (with_result r x honest c)) (sym run_is)

@@ -14,8 +14,8 @@ use Rattle.sg_report.specs.declared.outcome.Outcome.{Outcome}
 use Rattle.sg_world.specs.FrameNumbers.{HasNumberUpTo}
 use Rattle.sg_world.specs.Holds.{Holds}
 use Rattle.sg_world.specs.RecordModel.{Recorded}
-use Rattle.sg_world.specs.Replay.{Replay, run_of}
-use Rattle.sg_world.specs.Setting.{Setting}
+use Rattle.sg_setting.specs.Replay.{Replay, run_of}
+use Rattle.sg_setting.specs.Setting.{Setting}
 use Rattle.sg_world.proofs.Next.{few_framed}
 use Rattle.sg_world.proofs.Pasts.{Named}
 use Rattle.sg_world.proofs.Worlds.{replay, reported_many}

@@ -1,11 +1,11 @@
 -- The entries of a record, gone through in order.
-use Rattle.std.proofs.Common.{◌≡◌, ℕ, zero, suc, ◌+◌, ◌-◌, ◌<◌, true, List, [], ◌∷◌, ◌++◌, map, length, take, drop, get_or, refl, sym, ◌∙◌, ap, subst, arith, append_assoc, append-nil}
+use Rattle.std.proofs.Common.{◌≡◌, ℕ, zero, suc, ◌+◌, ◌<◌, true, List, [], ◌∷◌, ◌++◌, map, length, take, drop, get_or, refl, sym, ◌∙◌, ap, subst, arith, append_assoc, append-nil}
 use Rattle.std.specs.Prelude.{Some, None, slice_get}
 use Rattle.std.specs.List.{AllZip, list_all}
 use Rattle.std.specs.Option.{option_to_list}
 use Rattle.sg_protocol.specs.Calls as Protocol
 use Rattle.sg_protocol.specs.Calls.{events_of_answer}
-use Rattle.sg_protocol.specs.Run.{run, events_of_outcome}
+use Rattle.sg_protocol.specs.Run.{events_of_outcome}
 use Rattle.sg_protocol.specs.Schedule.{Step}
 use Rattle.sg_protocol.specs.Steps.{frame_number, is_taken}
 use Rattle.sg_protocol.specs.World as Core
@@ -16,7 +16,7 @@ use Rattle.sg_report.specs.Reported.{Reported, reported_after, reported_log, rep
 use Rattle.sg_world.specs.Invariant.{HoldsWorld}
 use Rattle.sg_world.specs.Model.{replay_of}
 use Rattle.sg_world.specs.RecordModel.{IsLearnt, TakenStep}
-use Rattle.sg_world.specs.Replay.{Replay, run_of}
+use Rattle.sg_setting.specs.Replay.{Replay, run_of}
 use Rattle.sg_world.specs.Walked.{PremisesHold}
 use Rattle.sg_world.specs.declared.world.World.TheInside.{Inside}
 use Rattle.sg_world.proofs.EntryCalls.{entry_call}

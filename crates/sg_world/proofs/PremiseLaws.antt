@@ -21,8 +21,8 @@ use Rattle.sg_protocol.specs.World.{Logged, new_world}
 use Rattle.sg_world.specs.Holds.{Holds, schedule_of}
 use Rattle.sg_world.specs.RecordModel.{IsLearnt, Recorded, TakenStep}
 use Rattle.sg_world.specs.PremiseFaults.{IsForgedAs, IsForgedFault, IsCollisionAs, IsCollisionFault}
-use Rattle.sg_world.specs.Replay.{Replay, run_of}
-use Rattle.sg_world.specs.Setting.{Setting}
+use Rattle.sg_setting.specs.Replay.{Replay, run_of}
+use Rattle.sg_setting.specs.Setting.{Setting}
 use Rattle.sg_world.specs.Walked.{WalksAreMade}
 use Rattle.sg_text.specs.Sessions.{firsts}
 use Rattle.sg_world.specs.declared.premises.CollisionFault.{CollisionFault}

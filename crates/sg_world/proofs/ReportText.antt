@@ -15,7 +15,7 @@ use Rattle.sg_protocol.specs.Premises.{hashed}
 use Rattle.sg_protocol.specs.Texts.{real}
 use Rattle.sg_report.specs.Report.{Explains, IsReport, SessionWalk, lines_from, known_sessions, name_in, premise_lines, premises_hold, walk_of}
 use Rattle.sg_world.specs.Account.{account, forgery, honest_in}
-use Rattle.sg_world.specs.Replay.{Replay, run_of}
+use Rattle.sg_setting.specs.Replay.{Replay, run_of}
 use Rattle.sg_world.specs.Walked.{IsPath, Path, PremisesHold, WalksAreWritten, path_line}
 use Rattle.sg_world.proofs.PremiseLaws.{collision_free_is, unforged_is}
 use Rattle.sg_world.proofs.WalkLaws.{none_with_event, some_with_event}

@@ -43,7 +43,7 @@ use Rattle.sg_world.specs.Entries.{answer_in, graph_of_entry, past_before}
 use Rattle.sg_walk.specs.Model.{event_of}
 use Rattle.sg_world.specs.EntriesOfRun.{FitsEntry, IsEntryAdded, IsOutcomeAdded}
 use Rattle.sg_world.specs.RecordModel.{IfReceived, IsLearnt, TakenStep}
-use Rattle.sg_world.specs.Replay.{Replay, run_of}
+use Rattle.sg_setting.specs.Replay.{Replay, run_of}
 use Rattle.sg_world.proofs.Passing.{AreOfRun, IsAt, entry_there, reported_event}
 
 -- the graph beside an event is the one by which its numbers have names

@@ -34,7 +34,7 @@ use Rattle.sg_report.specs.Report.{known_sessions}
 use Rattle.sg_walk.specs.Model.{steps_of}
 use Rattle.sg_walk.specs.declared.stored.StoredWalk.{StoredWalk}
 use Rattle.sg_world.specs.Account.{account, cast_met, graph_of, honest_in}
-use Rattle.sg_world.specs.Replay.{Replay, run_of}
+use Rattle.sg_setting.specs.Replay.{Replay, run_of}
 use Rattle.sg_world.specs.Walked.{CanWalkAll, IsPath, Path, PremisesHold, WalksAreMade, WalksAreWritten, path_at, path_of_trace, path_line, sid_and_steps, sid_and_walk, steps_of_trace}
 
 -- ---- events

@@ -19,8 +19,8 @@ use Rattle.sg_world.specs.Faults.{IsAdmitted, IsFull}
 use Rattle.sg_world.specs.Holds.{Holds, schedule_of}
 use Rattle.sg_world.specs.RecordModel.{Recorded, TakenStep}
 use Rattle.sg_world.specs.Indices.{IsIndexOf}
-use Rattle.sg_world.specs.Replay.{Replay, without_steps, with_taken, run_of, size_of, stepped}
-use Rattle.sg_world.specs.Setting.{Setting}
+use Rattle.sg_setting.specs.Replay.{Replay, without_steps, with_taken, run_of, size_of, stepped}
+use Rattle.sg_setting.specs.Setting.{Setting}
 use Rattle.sg_report.specs.Outcome.{outcome_of}
 use Rattle.sg_report.specs.Reported.{Reported, reported_log}
 use Rattle.sg_report.specs.declared.outcome.Outcome.{Outcome}

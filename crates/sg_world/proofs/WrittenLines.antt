@@ -1,25 +1,27 @@
 -- Lines that are written one after another.
-use Rattle.std.proofs.Common.{◌≡◌, ℕ, zero, suc, ◌+◌, ◌<◌, nat_lt, Bool, true, false, if◌then◌else◌, List, [], ◌∷◌, ◌++◌, map, find, length, take, get_or, Bor, Option, Some, None, refl, sym, ◌∙◌, ap, subst, inl, inr, arith, append_assoc, append-nil}
-use Rattle.std.proofs.lemmas.List.{map_more}
-use Rattle.std.specs.Prelude.{OnOk, Result, Ok, Err, unwrap_or}
+use Rattle.std.proofs.Common.{◌≡◌, ℕ, zero, suc, ◌+◌, ◌<◌, nat_lt, Bool, true, false, if◌then◌else◌, List, [], ◌∷◌, ◌++◌, map, find, length, take, get_or, Bor, Option, Some, None, refl, sym, ◌∙◌, ap, subst, arith, append_assoc, append-nil}
+use Rattle.std.proofs.lemmas.Bool.{ltb-false}
+use Rattle.std.proofs.lemmas.List.{get_or_past, map_more}
+use Rattle.std.specs.Prelude.{codes, OnOk, Result, Ok, Err, unwrap_or}
 use Rattle.std.specs.Option.{option_map_or, option_to_list}
 use Rattle.std.specs.Fmt.{decimal}
 use Rattle.sg_text.specs.Sessions.{KnownSessions}
-use Rattle.sg_protocol.specs.Graph.{Graph}
+use Rattle.sg_protocol.specs.Calls.{ActFault, SendFault}
+use Rattle.sg_protocol.specs.Graph.{Graph, Int, Variable}
 use Rattle.sg_protocol.specs.Schedule.{who_of}
-use Rattle.sg_node.specs.declared.refusal.ActRefusal.{ActRefusal}
-use Rattle.sg_node.specs.declared.refusal.ActRefusal.TheVariants.{BadValues}
-use Rattle.sg_report.proofs.NamedAnswers.{text-anywhere}
+use Rattle.sg_receipt.specs.declared.refusal.ActRefusal.{ActRefusal}
+use Rattle.sg_receipt.specs.declared.refusal.ActRefusal.TheVariants.{BadValues}
 use Rattle.sg_report.specs.Lines.{by_whom, graph_or_none, line_text, reported_text}
+use Rattle.sg_report.specs.Reasons.{act_text}
 use Rattle.sg_report.specs.Outcome.{graph_in, outcome_of}
 use Rattle.sg_report.specs.Report.{StepLine, line, lines_from, name_in}
-use Rattle.sg_report.specs.Reported.{CanBeReported, session_reported}
+use Rattle.sg_report.specs.Reported.{session_reported}
 use Rattle.sg_report.specs.declared.outcome.Outcome.{Outcome}
 use Rattle.sg_report.specs.declared.outcome.Outcome.TheVariants as OfStep
 use Rattle.sg_world.specs.Account.{graph_reported, variable_refused}
 use Rattle.sg_world.specs.RecordModel.{TakenStep}
 use Rattle.sg_world.specs.KeptLines.{IsRenamed, left_by, line_kept}
-use Rattle.sg_world.specs.Setting.{Setting}
+use Rattle.sg_setting.specs.Setting.{Setting}
 
 -- one more line
 lines_push : (m : KnownSessions) (k : ℕ) (ls : List StepLine) (l : StepLine) → lines_from m k (ls ++ l ∷ []) ≡ lines_from m k ls ++ line m (k + length ls) l
@@ -52,25 +54,32 @@ module _ (gs : List Graph) (o : Outcome) where
   abbrev by_line : Option Graph
   by_line = graph_reported gs (graph_in o) (outcome_of o)
 
-  -- an outcome that isn't renamed has the text of its line, if the line has its names
-  pub own_text : IsRenamed gs o None → CanBeReported by_line (outcome_of o) → (session : List ℕ) → reported_text session (graph_or_none (graph_in o)) (outcome_of o) ≡ reported_text session (graph_or_none by_line) (outcome_of o)
-  own_text (inl same) can session = ap (λ g. reported_text session (graph_or_none g) (outcome_of o)) (sym same)
-  own_text (inr none) can session = text-anywhere session (graph_or_none (graph_in o)) (graph_or_none by_line) (outcome_of o) (subst (λ g. CanBeReported g (outcome_of o)) none can)
-
-  -- and the one that it is renamed to has it
+  -- the one that it is renamed to has the text of the line
   pub other_text : (other : Outcome) → IsRenamed gs o (Some other) → (session : List ℕ) → reported_text session (graph_or_none (graph_in other)) (outcome_of o) ≡ reported_text session (graph_or_none by_line) (outcome_of o)
   other_text other is session = ap (λ g. reported_text session (graph_or_none g) (outcome_of o)) is.1
 
 -- ---- an act that was refused for a variable
 
 module _ (gs : List Graph) (o : Outcome) (x : ℕ) (g : Bor Graph) (is : o ≡ OfStep.NotActed (BadValues x g)) where
+  -- the variable that a graph has where it has none
+  abbrev no_variable : Variable
+  no_variable = record { name = []; kind = Int; writers = [] }
+
+  -- the text by a graph, or by none
+  abbrev refused_for : Option Graph → List ℕ
+  refused_for o = codes "refused " ++ act_text (graph_or_none o) (ActFault.Send (SendFault.BadValues x))
+
   -- its graph has the variable
   pub not_renamed : nat_lt x (length g.now.variables) ≡ true → IsRenamed gs o None
-  not_renamed has = subst (λ (z : Outcome). IsRenamed gs z None) (sym is) (inl (ap (λ (b : Bool). if b then Some g.now else find (λ (h : Graph). nat_lt x (length h.variables)) gs) has))
+  not_renamed has = subst (λ (z : Outcome). IsRenamed gs z None) (sym is)
+      (λ session. ap (λ (b : Bool). refused_for (if b then Some g.now else find (λ (h : Graph). nat_lt x (length h.variables)) gs)) (sym has))
 
   -- none of the graphs has it
   pub named_nowhere : nat_lt x (length g.now.variables) ≡ false → find (λ (h : Graph). nat_lt x (length h.variables)) gs ≡ None → IsRenamed gs o None
-  named_nowhere lacks none = subst (λ (z : Outcome). IsRenamed gs z None) (sym is) (inr (ap (λ (b : Bool). if b then Some g.now else find (λ (h : Graph). nat_lt x (length h.variables)) gs) lacks ∙ none))
+  named_nowhere lacks none = subst (λ (z : Outcome). IsRenamed gs z None) (sym is)
+      (λ session. ap (λ (v : Variable). codes "refused " ++ codes "bad-values " ++ v.name)
+      (get_or_past g.now.variables x no_variable (ltb-false x (length g.now.variables) lacks) ∙ sym (get_or_past [] x no_variable (omega arith)))
+      ∙ ap refused_for (sym none) ∙ ap (λ (b : Bool). refused_for (if b then Some g.now else find (λ (h : Graph). nat_lt x (length h.variables)) gs)) (sym lacks))
 
   -- this is the first that has it
   pub renamed_to : (h : Bor Graph) → nat_lt x (length g.now.variables) ≡ false → find (λ (h : Graph). nat_lt x (length h.variables)) gs ≡ Some h.now → IsRenamed gs o (Some (OfStep.NotActed (BadValues x h)))
@@ -80,7 +89,8 @@ module _ (gs : List Graph) (o : Outcome) (x : ℕ) (g : Bor Graph) (is : o ≡ O
 
 -- of any other outcome the line is by its own graph
 pub not_refused : (gs : List Graph) (o : Outcome) → variable_refused (outcome_of o) ≡ None → IsRenamed gs o None
-not_refused gs o none = inl (ap (λ (z : Option ℕ). option_map_or (λ x. find (λ (h : Graph). nat_lt x (length h.variables)) (option_to_list (graph_in o) ++ gs)) z (graph_in o)) none)
+not_refused gs o none = λ session.
+    ap (λ (z : Option ℕ). reported_text session (graph_or_none (option_map_or (λ x. find (λ (h : Graph). nat_lt x (length h.variables)) (option_to_list (graph_in o) ++ gs)) z (graph_in o))) (outcome_of o)) (sym none)
 
 -- none but an act is refused for a variable, and an act for bad values alone
 pub not_an_act : (o : Outcome) → ((why : ActRefusal) → o ≡ OfStep.NotActed why → ⊥) → variable_refused (outcome_of o) ≡ None

@@ -1,8 +1,6 @@
 -- The account of a replay: what its report says, by the run.
-use Rattle.std.specs.Prelude.{ℕ, ◌<◌, nat_lt, ⊤, Bool, false, List, ◌++◌, map, flat_map, find, length, zip, Option, Some, None, is_none, option_map, option_and_then, Contains}
-use Rattle.std.specs.List.{AllByRecursion}
+use Rattle.std.specs.Prelude.{ℕ, nat_lt, Bool, false, List, ◌++◌, map, flat_map, find, length, zip, Option, Some, None, is_none, option_map, option_and_then}
 use Rattle.std.specs.Option.{option_map_or, option_to_list}
-use Rattle.sg_model.specs.Lists.{keys_of}
 use Rattle.sg_protocol.specs.Broken.{first_forged, first_collision}
 use Rattle.sg_protocol.specs.Calls.{Send, BadValues}
 use Rattle.sg_protocol.specs.Frame.{Cast}
@@ -10,14 +8,14 @@ use Rattle.sg_protocol.specs.Graph.{Graph}
 use Rattle.sg_protocol.specs.Notes.{Note}
 use Rattle.sg_protocol.specs.Premises.{hashed}
 use Rattle.sg_protocol.specs.Run.{events_of_outcome, cast_of_session}
-use Rattle.sg_protocol.specs.Schedule.{NamedSession, Schedule, Step, ActStep, AbandonStep, graph_with, honest_role}
+use Rattle.sg_protocol.specs.Schedule.{NamedSession, graph_with, honest_role}
 use Rattle.sg_protocol.specs.Texts.{real, session_id}
 use Rattle.sg_protocol.specs.World.{Logged}
 use Rattle.sg_report.specs.Lines.{graph_or_none}
 use Rattle.sg_report.specs.Report.{StepLine, Forgery, Account}
 use Rattle.sg_report.specs.Reported.{Reported, NotActed, reported_log, session_reported, sid_left}
 use Rattle.sg_world.specs.Entries.{graph_of_entry}
-use Rattle.sg_world.specs.Replay.{Replay, run_of}
+use Rattle.sg_setting.specs.Replay.{Replay, run_of}
 
 -- ---- the lines
 
@@ -78,11 +76,3 @@ account r = record {
   forged = option_map forgery (first_forged r.schedule (run_of r));
   collision_free = is_none (first_collision real (hashed r.schedule (run_of r)));
 }
-
--- ---- what has a line
-
--- the session that is left is declared, and an act gives values to variables that one of the graphs has
-abbrev pub CanBeNamed : Schedule → Step → Type 0
-CanBeNamed s (ActStep who n label values) = (g : Graph) × Contains s.graphs g × AllByRecursion (λ x. x < length g.variables) (keys_of values)
-CanBeNamed s (AbandonStep who n) = n < length s.sessions
-CanBeNamed s other = ⊤

@@ -14,7 +14,7 @@ use Rattle.sg_craft.specs.Means.{CanBeMade}
 use Rattle.sg_report.specs.declared.outcome.Outcome.TheVariants.{Crafted}
 use Rattle.sg_world.specs.StepResults.{IsResultAt}
 use Rattle.sg_world.specs.RecordModel.{StepResult}
-use Rattle.sg_world.specs.Setting.{Setting}
+use Rattle.sg_setting.specs.Setting.{Setting}
 
 -- the craft's session is declared, the graph of its cast is there, and its frame can be made
 pub record CanBeCrafted (d : Setting) (x : Craft) : Type 0 where

@@ -3,7 +3,7 @@ use Rattle.std.specs.Prelude.{◌≡◌, ℕ, ◌<◌, length, Some, true, false
 use Rattle.sg_model.specs.Limits.{most_record_before}
 use Rattle.sg_protocol.specs.Schedule.{Step, who_of}
 use Rattle.sg_protocol.specs.Steps.{is_taken}
-use Rattle.sg_world.specs.Replay.{Replay, size_of, up_to}
+use Rattle.sg_setting.specs.Replay.{Replay, size_of, up_to}
 use Rattle.sg_world.specs.declared.fault.StepFault.{StepFault}
 use Rattle.sg_world.specs.declared.fault.StepFault.TheVariants.{NotHonest, RecordFull, OutOfMemory}
 

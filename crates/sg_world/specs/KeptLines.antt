@@ -1,17 +1,18 @@
 -- What the lines and the names of a report are made of, by what is kept.
-use Rattle.std.specs.Prelude.{◌≡◌, ◌⊎◌, ℕ, List, filter_map, Option, None, Some, option_map, slice_get}
+use Rattle.std.specs.Prelude.{◌≡◌, ℕ, List, filter_map, Option, None, Some, option_map, slice_get}
 use Rattle.sg_protocol.specs.Calls.{sid_of}
 use Rattle.sg_protocol.specs.Schedule.{NamedSession, Step, AbandonStep, who_of}
 use Rattle.sg_protocol.specs.Texts.{real, session_id}
 use Rattle.sg_text.specs.Sessions.{KnownSessions}
 use Rattle.sg_protocol.specs.Graph.{Graph}
+use Rattle.sg_report.specs.Lines.{graph_or_none, reported_text}
 use Rattle.sg_report.specs.Outcome.{graph_in, outcome_of}
 use Rattle.sg_report.specs.Report.{StepLine}
 use Rattle.sg_report.specs.declared.outcome.Outcome.{Outcome}
-use Rattle.sg_report.specs.Reported.{CanBeReported, event_reported, session_reported}
+use Rattle.sg_report.specs.Reported.{event_reported, session_reported}
 use Rattle.sg_world.specs.Account.{declared_in, graph_reported}
 use Rattle.sg_world.specs.RecordModel.{TakenStep}
-use Rattle.sg_world.specs.Setting.{Setting}
+use Rattle.sg_setting.specs.Setting.{Setting}
 
 -- the sid of the event that came of a step, if one did
 abbrev pub sid_kept : TakenStep → Option (List ℕ)
@@ -35,11 +36,8 @@ line_kept d e = record {
   reported = outcome_of e.outcome;
 }
 
--- the line can be written
-abbrev pub CanBeWritten : Setting → TakenStep → Type 0
-CanBeWritten d e = CanBeReported (line_kept d e).graph (line_kept d e).reported
-
--- the same outcome by the graph by which its line names its numbers, or none if that is its own, or if no graph has the variable
+-- the same outcome by the graph by which its line names its numbers, or none if its own says the same
 abbrev pub IsRenamed : List Graph → Outcome → Option Outcome → Type 0
-IsRenamed graphs o None = (graph_reported graphs (graph_in o) (outcome_of o) ≡ graph_in o) ⊎ (graph_reported graphs (graph_in o) (outcome_of o) ≡ None)
+IsRenamed graphs o None =
+    (session : List ℕ) → reported_text session (graph_or_none (graph_in o)) (outcome_of o) ≡ reported_text session (graph_or_none (graph_reported graphs (graph_in o) (outcome_of o))) (outcome_of o)
 IsRenamed graphs o (Some other) = (outcome_of other ≡ outcome_of o) × (graph_in other ≡ graph_reported graphs (graph_in o) (outcome_of o))

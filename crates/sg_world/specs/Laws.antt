@@ -22,7 +22,7 @@ use Rattle.sg_protocol.specs.Verdict.{receipt}
 use Rattle.sg_protocol.specs.World.{Answered, Logged, past_of}
 use Rattle.sg_report.specs.Report.{premises_hold}
 use Rattle.sg_world.specs.Account.{account}
-use Rattle.sg_world.specs.Replay.{Replay, run_of, stepped, up_to, with_taken}
+use Rattle.sg_setting.specs.Replay.{Replay, run_of, stepped, up_to, with_taken}
 use Rattle.sg_world.specs.Walked.{PremisesHold}
 
 -- ---- every replay

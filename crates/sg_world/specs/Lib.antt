@@ -1,16 +1,12 @@
-pub mod Replay
-pub mod Pairs
 pub mod Entries
 pub mod Faults
 pub mod Representation
 pub mod RecordModel
 pub mod StepResults
-pub mod Setting
 pub mod Crafts
 pub mod Recording
 pub mod Indices
 pub mod Holds
-pub mod SettingHeld
 pub mod Model
 pub mod Invariant
 pub mod Account

@@ -1,5 +1,5 @@
 -- How a replay is kept.
-use Rattle.sg_world.specs.Replay.{Replay}
+use Rattle.sg_setting.specs.Replay.{Replay}
 use Rattle.sg_world.specs.Holds.{schedule_of}
 use Rattle.sg_world.specs.declared.world.World.TheInside.{Inside}
 

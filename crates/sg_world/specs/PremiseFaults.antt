@@ -4,7 +4,7 @@ use Rattle.sg_protocol.specs.Broken.{first_forged, first_collision}
 use Rattle.sg_protocol.specs.Notes.{Note}
 use Rattle.sg_protocol.specs.Premises.{Unforged, CollisionFree, hashed}
 use Rattle.sg_protocol.specs.Texts.{real}
-use Rattle.sg_world.specs.Replay.{Replay, run_of}
+use Rattle.sg_setting.specs.Replay.{Replay, run_of}
 use Rattle.sg_world.specs.declared.premises.ForgedFault.{ForgedFault}
 use Rattle.sg_world.specs.declared.premises.ForgedFault.TheVariants as forged
 use Rattle.sg_world.specs.declared.premises.CollisionFault.{CollisionFault}

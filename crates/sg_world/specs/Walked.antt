@@ -17,7 +17,7 @@ use Rattle.sg_report.specs.Report.{known_sessions, name_in}
 use Rattle.sg_walk.specs.Model.{steps_of}
 use Rattle.sg_walk.specs.declared.stored.StoredWalk.{StoredWalk}
 use Rattle.sg_world.specs.Account.{account, graph_of, honest_in}
-use Rattle.sg_world.specs.Replay.{Replay, run_of}
+use Rattle.sg_setting.specs.Replay.{Replay, run_of}
 use Rattle.sg_world.specs.declared.session_walk.WalkFault.{WalkFault}
 use Rattle.sg_world.specs.declared.session_walk.WalkFault.TheVariants.{NoSuchSession, PremiseBroken, OutOfMemory}
 

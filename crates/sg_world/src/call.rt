@@ -18,13 +18,13 @@ ghost use Rattle.sg_world.specs.StepResults.{IsResult, IsResultOfCall, IsResultO
 ghost use Rattle.sg_world.specs.RecordModel.{no_frame};
 
 use crate::record::StepResult;
-use crate::setting::Setting;
 use sg_base::{Label, OutOfMemory, Seq, Sid, Value, Var, facts_of_bytes};
 use sg_craft::{confounder, first_bytes, flipped, frame_at};
 use sg_crypt::Cast;
 use sg_node::Node;
 use sg_report::Outcome;
 use sg_sched::{Change, Step, What};
+use sg_setting::Setting;
 use std::alloc::Global;
 
 /// Makes the call of a step of this number at the principal's node, and writes what comes of it over `step_result`. If memory runs out, the node is as
@@ -88,7 +88,8 @@ fn start<'p>(
     step_result: &mut StepResult<'p>,
 ) -> Result<(), OutOfMemory>
     requires blank { step_result.old ≡ no_frame }
-    ensures is_result { (number : ℕ) (past : Past) → RepresentsPast node.old past → OnOk result (IsResultOfCall number node.old node.new past (Start cast) step_result.new) }
+    ensures is_result { (number : ℕ) (past : Past) → RepresentsPast node.old past
+        → OnOk result (IsResultOfCall number node.old node.new past (Start cast) step_result.new) }
     ensures back { OnErr result (node.new ≡ node.old) }
 {
     facts_of_cast(&cast);
@@ -198,7 +199,8 @@ fn deliver<'p>(
     step_result: &mut StepResult<'p>,
 ) -> Result<(), OutOfMemory>
     requires blank { step_result.old ≡ no_frame }
-    ensures is_result { (number : ℕ) (past : Past) → RepresentsPast node.old past → OnOk result (IsResultOfCall number node.old node.new past (Deliver bytes.now) step_result.new) }
+    ensures is_result { (number : ℕ) (past : Past) → RepresentsPast node.old past
+        → OnOk result (IsResultOfCall number node.old node.new past (Deliver bytes.now) step_result.new) }
     ensures back { OnErr result (node.new ≡ node.old) }
 {
     facts_of_bytes(bytes);

@@ -8,11 +8,11 @@ ghost use Rattle.sg_world.specs.RecordModel.{no_frame};
 
 use crate::call::next_frame;
 use crate::record::StepResult;
-use crate::setting::Setting;
 use sg_base::{OutOfMemory, Seq};
 use sg_craft::{Means, make_frame};
 use sg_report::Outcome;
 use sg_sched::{Craft, Step};
+use sg_setting::Setting;
 use std::alloc::Global;
 
 /// Makes the frame of a step that is a craft, and writes over `step_result` that it did.

@@ -5,8 +5,7 @@
 //! the run of this schedule is the core's. So every law of runs speaks of a world as it stands, and a step is one equation: the schedule
 //! has it as its last.
 //!
-//! `Setting` is the programs and equal copies of what is declared, with what is made of it once: the identifiers of the sessions, the texts
-//! under the digests of the graphs, and the keys by their pairs. The nodes stand in the order of the honest principals, each with a keyring
+//! What is declared is kept as a `Setting` (`sg_setting`). The nodes stand in the order of the honest principals, each with a keyring
 //! of the pairs that it is one of, and the one whose step it is is one look-up away. `Record` has each step with the outcome, in which the
 //! graph stands beside the numbers that it names, and the honest roles of the session that it started or joined, what was noted of tags and
 //! hashes at each, and each frame once, found by its number. `specs/Holds.antt` says what holds of these parts between steps: each node
@@ -20,8 +19,6 @@
 //! `specs/StepResults.antt` says of a call and `specs/Crafts.antt` of a craft; `proofs/Next.antt` and `proofs/Crafting.antt` have all that holds
 //! with one more step, `proofs/Begins.antt` that of no step; `proofs/EntryGraphs.antt`, that what steps learnt stays as it is.
 //!
-//! A graph is found by its digest among the programs, by the program of its first role: the graphs of a schedule have two roles or more.
-//!
 //! `unforged` and `collision_free` try the two assumptions on what was noted, and report the first break. `report` goes over the record once
 //! for what sessions are called, once for the lines, and once for each assumption; if both hold it goes through the sessions in one pass
 //! more, and writes the walk of each as soon as it is made. `walk_of` gives the walk of one session. What a report says by the run
@@ -30,21 +27,17 @@
 #![tactic(auto)]
 
 mod call;
-mod copies;
 mod craft;
 mod fault;
 pub mod laws;
 mod lines;
 mod names;
 mod nodes;
-mod pairs;
 mod premises;
 mod record;
 mod report;
 mod session_walk;
-mod setting;
 mod take;
-mod texts;
 mod walks;
 mod world;
 

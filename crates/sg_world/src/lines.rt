@@ -1,21 +1,21 @@
 //! The lines of the steps of a replay.
-ghost use Rattle.std.specs.Prelude.{◌≡◌, ◌<◌, ◌^◌, ◌++◌, [], All, OnOk, find, length, map, nat_lt, unwrap_or};
+ghost use Rattle.std.specs.Prelude.{◌≡◌, ◌<◌, ◌^◌, ◌++◌, [], OnOk, find, length, map, nat_lt, unwrap_or};
 ghost use Rattle.std.specs.Option.{option_copied, option_map_or};
 ghost use Rattle.sg_text.specs.Sessions.{KnownSessions, naming};
 ghost use Rattle.sg_report.specs.Outcome.{outcome_of};
 ghost use Rattle.sg_report.specs.Report.{line, lines_from, name_in};
 ghost use Rattle.sg_report.specs.Reported.{session_reported};
 ghost use Rattle.sg_sched.specs.Format.StepsHeld.{step_of};
-ghost use Rattle.sg_world.specs.KeptLines.{CanBeWritten, IsRenamed, left_by, line_kept};
+ghost use Rattle.sg_world.specs.KeptLines.{IsRenamed, left_by, line_kept};
 
 use crate::record::TakenStep;
-use crate::setting::Setting;
 use crate::take::who;
 use sg_base::{ByteOut, Name, OutOfMemory, Sid, Var};
 use sg_graph::Graph;
-use sg_node::ActRefusal;
+use sg_receipt::ActRefusal;
 use sg_report::{Outcome, put_line, sid_reported};
 use sg_sched::Step;
+use sg_setting::Setting;
 use sg_text::SessionNames;
 
 /// Writes a line for each step that was taken, the first of number 1.
@@ -25,8 +25,7 @@ pub(crate) fn put_lines<'p>(
     setting: &Setting<'p>,
     entries: &[TakenStep<'p>],
 ) -> Result<(), OutOfMemory>
-    requires few { length entries.now < 2 ^ 32 }
-    requires reported { All (CanBeWritten setting.now) entries.now }
+    requires { length entries.now < 2 ^ 32 }
     ensures { (m : KnownSessions) → names.now ≡ naming 120 m → OnOk result (out.new ≡ out.old ++ lines_from m 1 (map (line_kept setting.now) entries.now)) }
 {
     let mut number: u32 = 0;
@@ -45,7 +44,6 @@ fn put_entry<'p>(
     number: u32,
     entry: &TakenStep<'p>,
 ) -> Result<(), OutOfMemory>
-    requires { CanBeWritten setting.now entry.now }
     ensures { (m : KnownSessions) → names.now ≡ naming 120 m → OnOk result (out.new ≡ out.old ++ line m number (line_kept setting.now entry.now)) }
 {
     let caller = who(&entry.step);

@@ -3,14 +3,13 @@ ghost use Rattle.std.specs.Prelude.{◌≡◌, ◌++◌, [], filter_map, map, If
 ghost use Rattle.std.specs.Option.{option_to_list};
 ghost use Rattle.sg_text.specs.Sessions.{KnownSessions, naming};
 ghost use Rattle.sg_protocol.specs.Texts.{real, session_id};
-ghost use Rattle.sg_world.specs.Account.{declared_in};
 ghost use Rattle.sg_world.specs.KeptLines.{known_in, sid_kept};
 
 use crate::record::TakenStep;
-use crate::setting::Setting;
 use sg_base::{OutOfMemory, Sid};
 use sg_report::sid_reported;
 use sg_sched::NamedSession;
+use sg_setting::Setting;
 use sg_text::SessionNames;
 use std::alloc::Global;
 
@@ -51,7 +50,8 @@ fn meet_all<'p>(
     names: &mut SessionNames,
     entries: &[TakenStep<'p>],
 ) -> Result<(), OutOfMemory>
-    ensures { (m : KnownSessions) → names.old ≡ naming 120 m → OnOk result (names.new ≡ naming 120 (record m { events = m.events ++ filter_map sid_kept entries.now })) }
+    ensures { (m : KnownSessions) → names.old ≡ naming 120 m
+        → OnOk result (names.new ≡ naming 120 (record m { events = m.events ++ filter_map sid_kept entries.now })) }
 {
     for entry in entries {
         meet(alloc, names, entry)?;
@@ -65,7 +65,8 @@ fn meet<'p>(
     names: &mut SessionNames,
     entry: &TakenStep<'p>,
 ) -> Result<(), OutOfMemory>
-    ensures { (m : KnownSessions) → names.old ≡ naming 120 m → OnOk result (names.new ≡ naming 120 (record m { events = m.events ++ option_to_list (sid_kept entry.now) })) }
+    ensures { (m : KnownSessions) → names.old ≡ naming 120 m
+        → OnOk result (names.new ≡ naming 120 (record m { events = m.events ++ option_to_list (sid_kept entry.now) })) }
 {
     match sid_reported(&entry.outcome) {
         Some(sid) => names.meet(alloc, sid),

@@ -3,20 +3,19 @@ ghost use Rattle.std.specs.Prelude.{◌≡◌, ◌<◌, ◌^◌, ◌+◌, ◌++�
 ghost use Rattle.sg_model.specs.Lists.{all_differ, has_text};
 ghost use Rattle.sg_protocol.specs.NodeStates.{NodeState, new_state};
 ghost use Rattle.sg_protocol.specs.World.{keyring_of};
-ghost use Rattle.sg_world.specs.Pairs.{ArePairs};
+ghost use Rattle.sg_setting.specs.Pairs.{ArePairs};
 ghost use Rattle.sg_sched.specs.Format.StepsHeld.{step_of};
 ghost use Rattle.sg_world.specs.StepResults.{IsResultAt, IsNamed};
 ghost use Rattle.sg_world.specs.RecordModel.{no_frame};
 
 use crate::call::call;
-use crate::pairs::keyring;
 use crate::record::StepResult;
-use crate::setting::Setting;
 use indexmap::IndexMap;
 use sg_base::{Name, OutOfMemory, Seq};
 use sg_node::Node;
 use sg_program::Programs;
 use sg_sched::{PairKey, Step};
+use sg_setting::{Setting, keyring};
 use std::alloc::Global;
 
 /// A node for each of these principals, in order, with the keys of its pairs.
@@ -32,22 +31,25 @@ pub(crate) fn nodes_of<'p>(
 {
     let mut nodes = IndexMap::new(alloc);
     for me in honest {
-        let ring = keyring(alloc, *me, keys)?;
-        let node = Node::new(alloc, ring, programs)?;
-        put_last(&mut nodes, *me, node)?;
+        add_node(alloc, &mut nodes, *me, programs, keys)?;
     }
     Ok(nodes)
 }
 
-// Puts a principal that has no node after the others.
-fn put_last<'p>(
+// Puts a node of a principal that has none, with the keys of its pairs, after the others.
+fn add_node<'p>(
+    alloc: Global,
     nodes: &mut IndexMap<Name, Node<'p>>,
     me: Name,
-    node: Node<'p>,
+    programs: &'p Programs,
+    keys: &[PairKey],
 ) -> Result<(), OutOfMemory>
-    requires { has_text me (map (λ n. n.0) nodes.old.entries) ≡ false }
-    ensures { OnOk result (nodes.new.entries ≡ nodes.old.entries ++ (me, node.entry) ∷ []) }
+    requires pairs { ArePairs keys.now }
+    requires absent { has_text me (map (λ n. n.0) nodes.old.entries) ≡ false }
+    ensures { OnOk result (nodes.new.entries ≡ nodes.old.entries ++ (me, new_state (keyring_of keys.now me) programs.entry.now []) ∷ []) }
 {
+    let ring = keyring(alloc, me, keys)?;
+    let node = Node::new(alloc, ring, programs)?;
     nodes.insert(me, node)?;
     Ok(())
 }
@@ -77,7 +79,8 @@ pub(crate) fn call_at<'p>(
     requires named { IsNamed (length setting.now.sessions) (step_of step.now) }
     requires few { length recorded.now + 1 < 2 ^ 32 }
     requires blank { step_result.old ≡ no_frame }
-    ensures is_result { OnOk result (IsResultAt setting.now.sessions recorded.now number (step_of step.now) index nodes.old.entries nodes.new.entries step_result.new) }
+    ensures is_result { OnOk result (IsResultAt setting.now.sessions recorded.now number
+        (step_of step.now) index nodes.old.entries nodes.new.entries step_result.new) }
     ensures back { OnErr result (nodes.new.entries ≡ nodes.old.entries) }
 {
     call(

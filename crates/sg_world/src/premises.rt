@@ -5,7 +5,7 @@ ghost use Rattle.sg_protocol.specs.Broken.{first_forged, first_collision};
 ghost use Rattle.sg_protocol.specs.Premises.{hashed, Unforged, CollisionFree};
 ghost use Rattle.sg_protocol.specs.Texts.{real};
 ghost use Rattle.sg_world.specs.PremiseFaults.{IsCollisionAs, IsCollisionFault, IsForgedAs, IsForgedFault};
-ghost use Rattle.sg_world.specs.Replay.{run_of};
+ghost use Rattle.sg_setting.specs.Replay.{run_of};
 
 use crate::World;
 use crate::nodes::index_of;

@@ -112,9 +112,9 @@ impl<'p> Record<'p> {
         ensures room { IfOk result (λ r. steps ≤ r.room) }
     {
         Ok(Record {
-            entries: Vec::with_capacity(alloc, steps)?,
-            notes: Vec::with_capacity(alloc, steps)?,
             frames: Vec::with_capacity(alloc, steps)?,
+            notes: Vec::with_capacity(alloc, steps)?,
+            entries: Vec::with_capacity(alloc, steps)?,
             size,
         })
     }
@@ -224,7 +224,7 @@ fn put_entry<'p>(entries: &mut Vec<TakenStep<'p>>, entry: TakenStep<'p>)
     requires { vec_len entries.old < vec_capacity entries.old }
     ensures { entries.new.items ≡ entries.old.items ++ entry.entry ∷ [] }
 {
-    let _ = entries.push(entry);
+    drop(entries.push(entry));
 }
 
 // The bytes that a step adds.

@@ -1,5 +1,5 @@
 //! The report of a replay.
-ghost use Rattle.std.specs.Prelude.{◌≡◌, ◌≤◌, ◌++◌, All, IfOk, IfSome, OnErr, OnOk, filter_map, flat_map, length, slice_get, take};
+ghost use Rattle.std.specs.Prelude.{◌≡◌, ◌≤◌, ◌++◌, IfOk, OnErr, OnOk, filter_map, flat_map, length, slice_get, take};
 ghost use Rattle.std.specs.Option.{option_map, option_to_list};
 ghost use Rattle.sg_model.specs.Limits.{most_steps};
 ghost use Rattle.sg_text.specs.Sessions.{KnownSessions, all_sids, naming};
@@ -7,7 +7,7 @@ ghost use Rattle.sg_text.specs.Walks.{HasSteps, walk_line};
 ghost use Rattle.sg_model.specs.Lists.{is_in};
 ghost use Rattle.sg_report.specs.Model.{forgery_of};
 ghost use Rattle.sg_report.specs.Report.{IsReport, lines_from, known_sessions, premise_lines, premises_hold};
-ghost use Rattle.sg_world.specs.Account.{CanBeNamed, account, forgery};
+ghost use Rattle.sg_world.specs.Account.{account, forgery};
 ghost use Rattle.sg_world.specs.Walked.{CanWalkAll, PremisesHold, WalksAreWritten, path_at, path_line, steps_of_trace};
 
 use crate::World;
@@ -21,9 +21,8 @@ use std::alloc::Global;
 
 impl<'p> World<'p> {
     /// The report of the steps that were taken so far: a line for each, whether the assumptions hold, and if they do the walk of each
-    /// session with an event, the declared sessions first. Each step that was taken has to name what is declared.
+    /// session with an event, the declared sessions first.
     pub fn report(&self) -> Result<Vec<u8>, OutOfMemory>
-        requires { All (CanBeNamed self.now.schedule) self.now.schedule.steps }
         ensures { IfOk result (λ text. IsReport (account self.now) text.items) }
     {
         let entries = self.history.entries();
@@ -36,7 +35,8 @@ impl<'p> World<'p> {
 
     // Writes what stands after the lines: whether the assumptions hold, and the walks if they do.
     fn put_rest(&self, out: &mut ByteOut, names: &SessionNames) -> Result<(), OutOfMemory>
-        ensures { names.now ≡ naming 120 (known_sessions (account self.now)) → out.old ≡ lines_from (known_sessions (account self.now)) 1 (account self.now).lines → OnOk result (IsReport (account self.now) out.new) }
+        ensures { names.now ≡ naming 120 (known_sessions (account self.now))
+            → out.old ≡ lines_from (known_sessions (account self.now)) 1 (account self.now).lines → OnOk result (IsReport (account self.now) out.new) }
     {
         if self.put_premises(out)? {
             self.put_walks(out, names)
@@ -99,7 +99,8 @@ fn put_walks<'r>(
     traces: &Traces<'r>,
 ) -> Result<(), OutOfMemory>
     requires { CanWalkAll traces.now }
-    ensures { (m : KnownSessions) → names.now ≡ naming 120 m → OnOk result (out.new ≡ out.old ++ flat_map (path_line m) (filter_map (path_at traces.now) (all_sids m))) }
+    ensures { (m : KnownSessions) → names.now ≡ naming 120 m
+        → OnOk result (out.new ≡ out.old ++ flat_map (path_line m) (filter_map (path_at traces.now) (all_sids m))) }
 {
     for index in 0..names.len() {
         put_walk_at(alloc, out, names, traces, index)?;
@@ -116,7 +117,8 @@ fn put_walk_at<'r>(
     index: usize,
 ) -> Result<(), OutOfMemory>
     requires { CanWalkAll traces.now }
-    ensures { (m : KnownSessions) → names.now ≡ naming 120 m → OnOk result (out.new ≡ out.old ++ flat_map (path_line m) (filter_map (path_at traces.now) (option_to_list (slice_get (all_sids m) index)))) }
+    ensures { (m : KnownSessions) → names.now ≡ naming 120 m
+        → OnOk result (out.new ≡ out.old ++ flat_map (path_line m) (filter_map (path_at traces.now) (option_to_list (slice_get (all_sids m) index)))) }
 {
     match names.at(index) {
         Some((sid, name)) => put_walk_of(alloc, out, traces, &sid, &name),
@@ -133,7 +135,8 @@ fn put_walk_of<'r>(
     name: &Name,
 ) -> Result<(), OutOfMemory>
     requires { CanWalkAll traces.now }
-    ensures { OnOk result (out.new ≡ out.old ++ flat_map (λ p. walk_line name.now p.graph (λ role. is_in role p.honest) p.steps) (option_to_list (path_at traces.now sid.now))) }
+    ensures { OnOk result (out.new ≡ out.old ++ flat_map (λ p. walk_line name.now p.graph (λ role. is_in role p.honest) p.steps)
+        (option_to_list (path_at traces.now sid.now))) }
 {
     match traces.get(sid) {
         Some(trace) => put_trace(alloc, out, trace, name),

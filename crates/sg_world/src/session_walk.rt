@@ -8,7 +8,7 @@ ghost use Rattle.sg_protocol.specs.Walk.{OnePath};
 ghost use Rattle.sg_walk.specs.Model.{steps_of};
 ghost use Rattle.sg_world.specs.Account.{graph_of, honest_in};
 ghost use Rattle.sg_world.specs.KeptLines.{sid_kept};
-ghost use Rattle.sg_world.specs.Replay.{run_of};
+ghost use Rattle.sg_setting.specs.Replay.{run_of};
 ghost use Rattle.sg_world.specs.Walked.{IsWalkFault, PremisesHold, WalksAreMade, sid_and_steps, sid_and_walk};
 
 use crate::World;
@@ -107,7 +107,8 @@ impl<'p> World<'p> {
     fn walk_explaining(&self, sid: &Sid) -> Result<StoredWalk, OutOfMemory>
         requires unbroken { PremisesHold self.now }
         requires event { events_of sid.now (run_of self.now).log ≢ [] }
-        ensures { IfOk result (λ walk. OnePath (graph_of self.now sid.now) (honest_in self.now sid.now) (events_of sid.now (run_of self.now).log) (steps_of walk)) }
+        ensures { IfOk result (λ walk. OnePath (graph_of self.now sid.now) (honest_in self.now sid.now) (events_of sid.now (run_of self.now).log)
+            (steps_of walk)) }
     {
         let traces = self.traces()?;
         match traces.walk(self.alloc, sid)? {
@@ -135,7 +136,8 @@ fn add_walk<'r>(
     traces: &Traces<'r>,
     index: usize,
 ) -> Result<(), OutOfMemory>
-    ensures { OnOk result (map sid_and_steps walks.new.items ≡ map sid_and_steps walks.old.items ++ map sid_and_walk (option_to_list (slice_get traces.now index))) }
+    ensures { OnOk result (map sid_and_steps walks.new.items
+        ≡ map sid_and_steps walks.old.items ++ map sid_and_walk (option_to_list (slice_get traces.now index))) }
 {
     match traces.at(index) {
         Some(entry) => {

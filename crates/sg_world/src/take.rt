@@ -12,17 +12,16 @@ ghost use Rattle.sg_sched.specs.Steps.{CanBeTaken};
 ghost use Rattle.sg_world.specs.Indices.{IsFaultOf, IsIndexOf, names_of};
 
 use crate::StepFault;
-use crate::copies::copy_step;
 use crate::craft::craft;
 use crate::nodes::{call_at, index_of};
 use crate::premises::Principals;
 use crate::record::{Record, StepResult};
-use crate::setting::Setting;
 use indexmap::IndexMap;
 use sg_base::{Name, OutOfMemory, RoleSet, Seq};
 use sg_certify::honest_roles;
 use sg_node::Node;
 use sg_sched::Step;
+use sg_setting::{Setting, copy_step};
 use std::alloc::Global;
 
 // The most bytes that the record may hold as a step begins.
@@ -79,11 +78,11 @@ pub(crate) fn take_step<'p>(
         ≡ with_step (schedule_of setting.now nodes.old.entries history.old.done) (step_of step.now)) }
     ensures back { OnErr result ((nodes.new.entries ≡ nodes.old.entries) × (history.new.done ≡ history.old.done)) }
 {
-    let kept = copy_step(alloc, step)?;
     history.make_room()?;
     let number = history.count() as u32 + 1;
+    let kept = copy_step(alloc, step)?;
     let mut step_result = StepResult::no_frame(alloc);
-    perform(
+    match perform(
         alloc,
         setting,
         nodes,
@@ -92,10 +91,18 @@ pub(crate) fn take_step<'p>(
         number,
         step,
         &mut step_result,
-    )?;
-    let honest = honest_in(setting, nodes, step, &step_result);
-    history.put(kept, honest, step_result);
-    Ok(())
+    ) {
+        Ok(()) => {
+            let honest = honest_in(setting, nodes, step, &step_result);
+            history.put(kept, honest, step_result);
+            Ok(())
+        }
+        Err(fault) => {
+            drop(kept);
+            drop(step_result);
+            Err(fault)
+        }
+    }
 }
 
 // The honest roles of the cast of the session that a step starts, or that its frame joined. It takes no memory.
@@ -134,7 +141,8 @@ fn perform<'p>(
     requires can { IsCraftable setting.now (step_of step.now) }
     requires few { length recorded.now + 1 < 2 ^ 32 }
     requires blank { step_result.old ≡ no_frame }
-    ensures is_result { OnOk result (IsResultAtIndex setting.now recorded.now number (step_of step.now) index nodes.old.entries nodes.new.entries step_result.new) }
+    ensures is_result { OnOk result (IsResultAtIndex setting.now recorded.now number
+        (step_of step.now) index nodes.old.entries nodes.new.entries step_result.new) }
     ensures back { OnErr result (nodes.new.entries ≡ nodes.old.entries) }
 {
     match index {

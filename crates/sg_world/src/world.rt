@@ -1,7 +1,11 @@
 //! A replay.
-ghost use Rattle.std.specs.Prelude.{◌≡◌, ◌<◌, ◌≤◌, All, length, map, slice_get, Some, IfOk, IfErr, IfSome, OnOk, OnErr, option_map};
+ghost use Rattle.std.specs.Prelude.{◌≡◌, ◌<◌, ◌≤◌, [], true, All, length, map, slice_get, Some, IfOk, IfErr, IfSome, OnOk, OnErr, option_map};
 ghost use Rattle.sg_model.specs.Last.{last};
 ghost use Rattle.sg_model.specs.Limits.{most_record_bytes, most_steps};
+ghost use Rattle.sg_model.specs.Lists.{all_differ};
+ghost use Rattle.sg_protocol.specs.NodeStates.{new_state};
+ghost use Rattle.sg_protocol.specs.World.{keyring_of};
+ghost use Rattle.sg_setting.specs.Pairs.{ArePairs};
 ghost use Rattle.sg_protocol.specs.IsSchedule.{AreCompiled, IsSchedule};
 ghost use Rattle.sg_protocol.specs.Texts.{real};
 ghost use Rattle.sg_sched.specs.Format.StepsHeld.{step_of};
@@ -11,12 +15,11 @@ ghost use Rattle.sg_world.specs.Faults.{IsStepFault, IsAdmitted};
 ghost use Rattle.sg_world.specs.FrameNumbers.{HasNumberUpTo};
 ghost use Rattle.sg_world.specs.Laws.{HasPrograms, RunLaws};
 ghost use Rattle.sg_sched.specs.Steps.{CanBeTaken};
-ghost use Rattle.sg_world.specs.Replay.{without_steps, with_taken, run_of, size_of, stepped};
+ghost use Rattle.sg_setting.specs.Replay.{without_steps, with_taken, run_of, size_of, stepped};
 
 use crate::StepFault;
 use crate::nodes::nodes_of;
 use crate::record::Record;
-use crate::setting::Setting;
 use crate::take::{admit, take_step};
 use indexmap::IndexMap;
 use sg_base::{Name, OutOfMemory};
@@ -25,6 +28,7 @@ use sg_node::Node;
 use sg_program::Programs;
 use sg_report::Outcome;
 use sg_sched::{Schedule, Step};
+use sg_setting::Setting;
 use std::alloc::Global;
 use std::marker::Model;
 
@@ -39,7 +43,7 @@ pub struct World<'p> {
 }
 
 impl<'p> Model for World<'p> {
-    ghost use Rattle.sg_world.specs.Replay.{Replay};
+    ghost use Rattle.sg_setting.specs.Replay.{Replay};
 
     ghost Value = { Replay };
 
@@ -65,20 +69,19 @@ impl<'p> World<'p> {
         ensures { IfOk result (λ w. w ≡ record { programs = programs.entry.now; schedule = without_steps schedule.now }) }
     {
         let setting = Setting::new(alloc, programs, schedule)?;
-        let nodes = nodes_of(
-            alloc,
-            programs,
-            schedule.keys.as_slice(),
-            schedule.honest.as_slice(),
-        )?;
         let size = setting.size();
-        let history = Record::new(alloc, schedule.steps.len(), size)?;
-        Ok(World {
-            alloc,
-            setting,
-            nodes,
-            history,
-        })
+        match nodes_and_record(alloc, programs, schedule, size) {
+            Ok((nodes, history)) => Ok(World {
+                alloc,
+                setting,
+                nodes,
+                history,
+            }),
+            Err(fault) => {
+                drop(setting);
+                Err(fault)
+            }
+        }
     }
 
     /// The number of steps that were taken. It takes no memory.
@@ -146,5 +149,32 @@ impl<'p> World<'p> {
             return Err(StepFault::OutOfMemory);
         };
         Ok(())
+    }
+}
+
+// The nodes of the honest principals, and the record of no step, of this size.
+fn nodes_and_record<'p>(
+    alloc: Global,
+    programs: &'p Programs,
+    schedule: &Schedule,
+    size: u128,
+) -> Result<(IndexMap<Name, Node<'p>>, Record<'p>), OutOfMemory>
+    requires pairs { ArePairs schedule.now.keys }
+    requires different { all_differ schedule.now.honest ≡ true }
+    ensures nodes { IfOk result (λ p. p.0.entries ≡ map (λ me. (me, new_state (keyring_of schedule.now.keys me) programs.entry.now [])) schedule.now.honest) }
+    ensures blank { IfOk result (λ p. p.1.done ≡ record { entries = []; notes = []; frames = []; size = size }) }
+{
+    let nodes = nodes_of(
+        alloc,
+        programs,
+        schedule.keys.as_slice(),
+        schedule.honest.as_slice(),
+    )?;
+    match Record::new(alloc, schedule.steps.len(), size) {
+        Ok(history) => Ok((nodes, history)),
+        Err(fault) => {
+            drop(nodes);
+            Err(fault)
+        }
     }
 }

@@ -1,7 +1,7 @@
 use Rattle.std.proofs.Common.{length, ap, ◌∙◌, arith, List, ℕ}
 use Rattle.sg_model.specs.Lists.{has_text}
-use Rattle.sg_drive.specs.Setup.{player, players}
-use Rattle.sg_drive.proofs.Players.{player_there}
+use Rattle.sg_sessions.specs.Setup.{player, players}
+use Rattle.sg_sessions.proofs.Players.{player_there}
 use Rattle.sg_drive.proofs.play.player_at.Goals as goal
 
 pub returns-clause-honest : goal.returns-clause-honest

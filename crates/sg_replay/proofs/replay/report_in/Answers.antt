@@ -5,9 +5,9 @@ use Rattle.sg_protocol.specs.Schedule.{Schedule}
 use Rattle.sg_protocol.specs.Steps.{is_taken}
 use Rattle.sg_sched.specs.Format.StepsHeld.{step_of}
 use Rattle.sg_sched.specs.Steps.{CanBeTaken}
-use Rattle.sg_world.specs.Replay.{Replay, with_taken}
+use Rattle.sg_setting.specs.Replay.{Replay, with_taken}
 use Rattle.sg_ending.specs.Model.{ending_held}
-use Rattle.sg_replay.proofs.Replaying.{named, none_more, reports, stops}
+use Rattle.sg_replay.proofs.Replaying.{none_more, reports, stops}
 use Rattle.sg_replay.proofs.Steps.{all_taken, begins, can_be_taken, honest, more, room, whole}
 use Rattle.sg_replay.proofs.replay.report_in.Goals as goal
 
@@ -50,12 +50,6 @@ steps-preserved c =
       i.1,
       none_more c.args.world.now.programs c.args.schedule.now c.steps.step-index c.steps.world i.0 i.2 c.in_ok-take.ensures.room,
     )
-
-pub report-requires : goal.report-requires
-report-requires c =
-    let i = c.steps.invariant in
-    let all = all_taken c.args.schedule.now c.as_slice-step-items.result.now c.steps.step-index i.1 c.steps-test.false in
-    named c.args.world.now.programs c.args.schedule.now c.steps.world (i.0 ∙ whole c.args.world.now.programs c.args.schedule.now c.steps.step-index all) c.requires.can
 
 pub returns-in-Ok-clause-reports : goal.returns-in-Ok-clause-reports
 returns-in-Ok-clause-reports c =

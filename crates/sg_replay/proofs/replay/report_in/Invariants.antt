@@ -1,6 +1,6 @@
 use Rattle.std.proofs.Common.{◌≡◌, map}
 use Rattle.sg_sched.specs.Format.StepsHeld.{step_of}
-use Rattle.sg_world.specs.Replay.{up_to}
+use Rattle.sg_setting.specs.Replay.{up_to}
 use Rattle.sg_replay.specs.Replayed.{replay_of}
 use Rattle.sg_replay.proofs.Replaying.{NoneFull}
 use Rattle.sg_replay.proofs.replay.report_in.Given as goal

@@ -1,4 +1,4 @@
-use Rattle.std.proofs.Common.{◌≡◌, ◌∙◌, ◌++◌, List, None, Some, subst, sym}
+use Rattle.std.proofs.Common.{◌≡◌, ◌∙◌, ◌++◌, List, None, Some, subst}
 use Rattle.std.specs.Prelude.{OnOk}
 use Rattle.sg_protocol.specs.Graph.{Graph}
 use Rattle.sg_report.specs.Lines.{graph_or_none, line_text}
@@ -6,9 +6,9 @@ use Rattle.sg_report.specs.Outcome.{graph_in}
 use Rattle.sg_report.specs.Report.{line}
 use Rattle.sg_report.specs.Reported.{Reported}
 use Rattle.sg_sched.specs.Format.StepsHeld.{step_of}
-use Rattle.sg_world.specs.KeptLines.{CanBeWritten, IsRenamed, line_kept}
+use Rattle.sg_world.specs.KeptLines.{IsRenamed, line_kept}
 use Rattle.sg_world.specs.RecordModel.{TakenStep}
-use Rattle.sg_world.proofs.WrittenLines.{entry_written, other_text, own_text}
+use Rattle.sg_world.proofs.WrittenLines.{entry_written, other_text}
 use Rattle.sg_world.proofs.lines.put_entry.Goals as goal
 
 -- renamed: the other outcome has the text of the line
@@ -25,8 +25,7 @@ returns-in-Some c = λ m e.
 pub returns-in-None : goal.returns-in-None
 returns-in-None c = λ m e.
     let kept : TakenStep = record { step = step_of c.entry.inside.step; outcome = c.entry.inside.outcome; honest = c.entry.inside.honest } in
-    let can = subst (CanBeWritten c.args.setting.now) (sym c.entry.view_is) c.requires in
     let is = subst (λ (gs : List Graph). IsRenamed gs c.entry.inside.outcome None) c.graphs.ensures c.in-None.ensures in
     subst (λ (t : TakenStep). OnOk c.put_line-in-None.result (c.put_line-in-None.new.out ≡ c.args.out.now ++ line m c.args.number (line_kept c.args.setting.now t))) c.entry.view_is
     (entry_written c.put_line-in-None.result m c.args.setting.now c.args.number kept c.who-caller.result c.session_for-sid.result c.bytes_of-in-None.result.now c.bytes_of-in-None-2.result.now (graph_in c.entry.inside.outcome) c.args.out.now c.put_line-in-None.new.out
-    c.who-caller.ensures c.bytes_of-in-None.ensures c.session_for-sid.ensures (c.bytes_of-in-None-2.ensures ∙ c.name_in-session.ensures m e) (own_text c.args.setting.now.graphs c.entry.inside.outcome is can) c.put_line-in-None.ensures.ok)
+    c.who-caller.ensures c.bytes_of-in-None.ensures c.session_for-sid.ensures (c.bytes_of-in-None-2.ensures ∙ c.name_in-session.ensures m e) is c.put_line-in-None.ensures.ok)

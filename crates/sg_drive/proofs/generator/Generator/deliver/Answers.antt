@@ -10,7 +10,7 @@ use Rattle.sg_drive.specs.Generated.{deliver, player_at}
 use Rattle.sg_drive.specs.Going.{Pending, taking}
 use Rattle.sg_drive.specs.Machine.{Machine}
 use Rattle.sg_drive.specs.declared.fault.GenerateFault.{GenerateFault}
-use Rattle.sg_drive.specs.Setup.{player}
+use Rattle.sg_sessions.specs.Setup.{player}
 use Rattle.sg_drive.proofs.generator.Generator.deliver.Goals as goal
 
 pub take-requires-clause-honest : goal.take-requires-clause-honest

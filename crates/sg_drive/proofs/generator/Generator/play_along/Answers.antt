@@ -15,7 +15,7 @@ take-requires-clause-step c =
     let here = c.requires.there.0 in
     record {
       declared = is_there c.draw_values.new.self c.self.inside c.self.view_is c.self.invariant c.args.session (omega (arith, same, here));
-      range = subst (λ (z : Map Held). AllByRecursion (λ (w : ℕ × Value). (w.0 < 256) × IsValue w.1) (values_of z)) c.as_slice.ensures c.facts_of_values.ensures;
+      range = subst (λ (z : Map Held). AllByRecursion (λ (w : ℕ × Value). (w.0 < 256) × IsValue w.1) (values_of z)) c.as_slice.ensures c.facts_of_each.ensures;
     }
 
 pub take-requires-clause-honest : goal.take-requires-clause-honest

@@ -1,6 +1,6 @@
 use Rattle.std.proofs.Common.{◌≡◌, length, take, ap, ◌∙◌, arith}
 use Rattle.sg_report.specs.Reported.{reported_log}
-use Rattle.sg_world.specs.Replay.{run_of}
+use Rattle.sg_setting.specs.Replay.{run_of}
 use Rattle.sg_drive.proofs.Counting.{all_taken, can_rise, counted_more, length_taken}
 use Rattle.sg_drive.specs.Summary.{counts}
 use Rattle.sg_drive.proofs.tally.Tally.of.Goals as goal

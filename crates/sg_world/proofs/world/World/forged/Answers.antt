@@ -6,7 +6,7 @@ use Rattle.sg_protocol.specs.Run.{run}
 use Rattle.sg_protocol.specs.Schedule.{Step}
 use Rattle.sg_protocol.specs.Texts.{real}
 use Rattle.sg_world.specs.Holds.{schedule_of}
-use Rattle.sg_world.specs.Replay.{Replay, run_of}
+use Rattle.sg_setting.specs.Replay.{Replay, run_of}
 use Rattle.sg_world.proofs.Pasts.{names}
 use Rattle.sg_world.proofs.PremiseLaws.{as_many, forged_below, is_record, none_forged, steps_few}
 use Rattle.sg_world.proofs.world.World.forged.Goals as goal

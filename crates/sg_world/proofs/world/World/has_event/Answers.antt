@@ -5,7 +5,7 @@ use Rattle.sg_protocol.specs.Run.{run, events_of, events_of_outcome}
 use Rattle.sg_protocol.specs.Texts.{real}
 use Rattle.sg_world.specs.Holds.{schedule_of}
 use Rattle.sg_world.specs.KeptLines.{sid_kept}
-use Rattle.sg_world.specs.Replay.{Replay, run_of}
+use Rattle.sg_setting.specs.Replay.{Replay, run_of}
 use Rattle.sg_world.proofs.KeptLines.{events_alike}
 use Rattle.sg_world.proofs.ReportText.{event_there}
 use Rattle.sg_world.proofs.world.World.has_event.Goals as goal

@@ -1,6 +1,6 @@
 use Rattle.std.proofs.Common.{take}
 use Rattle.sg_certify.specs.Runs.{AreTraces}
-use Rattle.sg_world.specs.Replay.{run_of}
+use Rattle.sg_setting.specs.Replay.{run_of}
 use Rattle.sg_world.proofs.world.World.traces.Given as goal
 
 -- the traces are those of the steps so far

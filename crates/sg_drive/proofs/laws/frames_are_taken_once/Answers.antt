@@ -1,7 +1,0 @@
-use Rattle.sg_protocol.proofs.RealHash.{real_hash}
-use Rattle.sg_protocol.specs.Texts.{real}
-use Rattle.sg_drive.proofs.Spent.{frames_are_taken_once}
-use Rattle.sg_drive.proofs.laws.frames_are_taken_once.Goals as goal
-
-pub returns : goal.returns
-returns c = frames_are_taken_once real real_hash

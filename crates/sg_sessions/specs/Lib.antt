@@ -1,0 +1,4 @@
+pub mod Setup
+pub mod Draws
+pub mod Spent
+pub mod Own

@@ -1,0 +1,2 @@
+mod FreshPeers
+mod Graphs

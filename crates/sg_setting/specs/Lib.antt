@@ -1,0 +1,4 @@
+pub mod Replay
+pub mod Pairs
+pub mod Setting
+pub mod SettingHeld

@@ -1,6 +1,0 @@
-use Rattle.std.proofs.Common.{◌≡◌, take}
-use Rattle.sg_world.proofs.copies.copy_graphs.Given as goal
-
--- the copies so far
-abbrev pub invariant-loop-graph : goal.invariant-loop-graph
-invariant-loop-graph l = l.copies ≡ take l.graph-index l.graphs

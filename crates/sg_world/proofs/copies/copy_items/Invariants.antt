@@ -1,6 +1,0 @@
-use Rattle.std.proofs.Common.{◌≡◌, take}
-use Rattle.sg_world.proofs.copies.copy_items.Given as goal
-
--- the copies so far
-abbrev pub invariant-loop-item : goal.invariant-loop-item
-invariant-loop-item l = l.copies ≡ take l.item-index l.items

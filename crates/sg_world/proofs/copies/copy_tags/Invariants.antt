@@ -1,6 +1,0 @@
-use Rattle.std.proofs.Common.{◌≡◌, take}
-use Rattle.sg_world.proofs.copies.copy_tags.Given as goal
-
--- the copies so far
-abbrev pub invariant-loop-tag : goal.invariant-loop-tag
-invariant-loop-tag l = l.copies ≡ take l.tag-index l.tags
