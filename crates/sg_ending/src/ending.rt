@@ -17,7 +17,7 @@ use std::alloc::Global;
 use std::fmt;
 
 /// What is wrong with a line of a schedule or of logs.
-#[derive(Debug, Clone, Copy)]
+#[derive(Clone, Copy)]
 pub enum Wrong {
     /// It is of no form, or stands where its form may not.
     Form,
@@ -46,7 +46,7 @@ impl fmt::Display for Wrong {
 }
 
 /// Why a program isn't taken.
-#[derive(Debug, Clone, Copy)]
+#[derive(Clone, Copy)]
 pub enum BadProgram {
     /// Its text is malformed at this offset.
     Malformed { at: u32 },
@@ -71,7 +71,7 @@ impl fmt::Display for BadProgram {
 }
 
 /// How the program ends.
-#[derive(Debug, Drop)]
+#[derive(Drop)]
 pub enum Ending<'w> {
     /// The output is written whole.
     Written,
@@ -170,9 +170,8 @@ impl<'w> Ending<'w> {
     {
         match self {
             Ending::Written | Ending::ClaimFails | Ending::WriteFailed => Ok(()),
-            Ending::NoCommand => writeln!(
-                out,
-                "usage: sessiongraph check|compile|run|replay|drive|ledger|keep|stream|audit|compose|claims|serve"
+            Ending::NoCommand => out.bytes(
+                b"usage: sessiongraph check|compile|run|replay|drive|ledger|keep|stream|audit|compose|claims|serve\n",
             ),
             Ending::NoGraph { fault } => writeln!(out, "graph refused: {fault}"),
             Ending::NoExpansion { fault } => writeln!(out, "graph refused: {fault}"),
@@ -187,14 +186,14 @@ impl<'w> Ending<'w> {
             Ending::ProgramRefused { number, cause } => {
                 writeln!(out, "input refused: program {number} {cause}")
             }
-            Ending::NoLedger => writeln!(out, "input refused: ledger not made"),
+            Ending::NoLedger => out.bytes(b"input refused: ledger not made\n"),
             Ending::BadSlot { slot } => writeln!(out, "input refused: ledger slot {slot}"),
-            Ending::LedgerNotEmpty => writeln!(out, "input refused: ledger not empty"),
+            Ending::LedgerNotEmpty => out.bytes(b"input refused: ledger not empty\n"),
             Ending::FileFailed { file } => put_about(out, b"file failed: ", file),
-            Ending::LinkFailed => writeln!(out, "link failed"),
-            Ending::InputFailed => writeln!(out, "input failed"),
-            Ending::DiskFailed => writeln!(out, "disk failed"),
-            Ending::NoMemory => writeln!(out, "out of memory"),
+            Ending::LinkFailed => out.bytes(b"link failed\n"),
+            Ending::InputFailed => out.bytes(b"input failed\n"),
+            Ending::DiskFailed => out.bytes(b"disk failed\n"),
+            Ending::NoMemory => out.bytes(b"out of memory\n"),
             Ending::NoSuchFile { file } => put_about(out, b"no such file: ", file),
             Ending::TooLarge { what } => put_about(out, b"too large: ", what),
         }

@@ -1,10 +1,12 @@
 //! The commands on one file: each reads it whole, and is what is done with its bytes.
-ghost use Rattle.std.specs.Prelude.{◌≡◌, ◌≤◌, length};
+ghost use Rattle.std.specs.Prelude.{◌≡◌, ◌≤◌, IfNone, IfSome, length};
+ghost use Rattle.sg_args.specs.Model.{command_held};
 ghost use Rattle.sg_ending.specs.Files.{OnFile};
 ghost use Rattle.sg_ending.specs.Model.{ending_held};
 ghost use Rattle.sg_principal.specs.Outside.{output_of};
-ghost use Rattle.sg_top.specs.File.{CanBeDone, done, most_of};
+ghost use Rattle.sg_top.specs.File.{CanBeDone, IsAboutMore, asking, done, most_of};
 
+use sg_args::Command;
 use sg_base::{Files, Sink};
 use sg_design::check::check;
 use sg_design::compile::compile;
@@ -33,6 +35,27 @@ pub enum Task<'w> {
     Compose,
     /// Claims of the graph are suggested.
     Suggest,
+}
+
+/// What a command on one file does with its bytes, and this file; or `None` if the command is about more.
+pub fn task_of<'w>(command: Command<'w>) -> Option<(Task<'w>, &'w str)>
+    ensures one { IfSome result (λ t. command_held command.entry ≡ asking t.0 t.1.now) }
+    ensures more { IfNone result (IsAboutMore (command_held command.entry)) }
+{
+    match command {
+        Command::Check { file } => Some((Task::Check, file)),
+        Command::Compile { file, role } => Some((Task::Compile { role }, file)),
+        Command::Replay { file } => Some((Task::Replay, file)),
+        Command::Drive {
+            seed,
+            sessions,
+            file,
+        } => Some((Task::Drive { seed, sessions }, file)),
+        Command::Audit { file } => Some((Task::Audit, file)),
+        Command::Compose { file } => Some((Task::Compose, file)),
+        Command::Suggest { file } => Some((Task::Suggest, file)),
+        _ => None,
+    }
 }
 
 /// Reads a file whole and does this with its bytes, or says how the program ends without them.

@@ -1,7 +1,8 @@
 //! The program without the real objects: what each command does, with which status it ends, and what it says of it.
 //!
 //! `top` takes the arguments of a command line, and the outside as objects: files, standard output, standard error, a link, random bytes, a disk,
-//! a link over connections, another one over connections that are kept, and standard input. With those of the system it is `sessiongraph` (`sg_cli`); with objects in memory another crate can call it.
+//! a link over connections, another one over connections that are kept, and standard input. With those of the system it is `sessiongraph` (`sg_cli`);
+//! with objects in memory another crate can call it.
 //!
 //! - The arguments are read first. Arguments that are in no command end with the usage line, and nothing else is touched.
 //! - The commands stand in crates beside each other: those on a graph in `sg_design`, those on runs of all principals in `sg_replay`, and those of

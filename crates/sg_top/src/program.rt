@@ -7,7 +7,7 @@ ghost use Rattle.sg_principal.specs.Outside.{IsKept, files_of, link_of, output_o
 ghost use Rattle.sg_top.specs.Outside.{objects_at_call, objects_at_return, outside_of, reported, reports_of, stream_of};
 ghost use Rattle.sg_top.specs.Top.{Ends, HasPlayed, Works, unplayed, untouched_by};
 
-use crate::file::{Task, on_file};
+use crate::file::{on_file, task_of};
 use crate::objects::Objects;
 use sg_args::{Command, CommandLine, Parsed};
 use sg_base::{Files, Fresh, Link, Sink};
@@ -140,25 +140,17 @@ fn work<'w, F: Files, O: Sink, L: TimedLink, R: Fresh, D: Disk, S: Link, P: Time
         port,
         input,
     } = objects;
+    let Some(command) = command else {
+        return Ending::NoCommand;
+    };
     // Each arm returns, and is proved by itself.
     match command {
-        None => return Ending::NoCommand,
-        Some(Command::Check { file }) => return on_file(alloc, Task::Check, file, files, out),
-        Some(Command::Compile { file, role }) => return on_file(
-            alloc,
-            Task::Compile { role },
-            file,
-            files,
-            out,
-        ),
-        Some(
-            Command::Run {
-                keys,
-                script,
-                deliveries,
-                programs,
-            },
-        ) => {
+        Command::Run {
+            keys,
+            script,
+            deliveries,
+            programs,
+        } => {
             let named = RunFiles {
                 keys,
                 programs,
@@ -166,40 +158,12 @@ fn work<'w, F: Files, O: Sink, L: TimedLink, R: Fresh, D: Disk, S: Link, P: Time
             };
             return run(alloc, named, deliveries, files, Stage { out, link, fresh });
         }
-        Some(Command::Replay { file }) => return on_file(alloc, Task::Replay, file, files, out),
-        Some(
-            Command::Drive {
-                seed,
-                sessions,
-                file,
-            },
-        ) => return on_file(alloc, Task::Drive { seed, sessions }, file, files, out),
-        Some(Command::Ledger { file }) => return ledger(alloc, file, out, disk),
-        Some(
-            Command::Keep {
-                file,
-                keys,
-                script,
-                deliveries,
-                programs,
-            },
-        ) => {
-            let named = RunFiles {
-                keys,
-                programs,
-                script,
-            };
-            let stage = Stage { out, link, fresh };
-            return keep(alloc, file, named, deliveries, files, stage, disk);
-        }
-        Some(
-            Command::Stream {
-                keys,
-                script,
-                deliveries,
-                programs,
-            },
-        ) => {
+        Command::Stream {
+            keys,
+            script,
+            deliveries,
+            programs,
+        } => {
             let named = RunFiles {
                 keys,
                 programs,
@@ -212,50 +176,51 @@ fn work<'w, F: Files, O: Sink, L: TimedLink, R: Fresh, D: Disk, S: Link, P: Time
             };
             return run(alloc, named, deliveries, files, stage);
         }
-        Some(Command::Audit { file }) => return on_file(alloc, Task::Audit, file, files, out),
-        Some(Command::Compose { file }) => return on_file(alloc, Task::Compose, file, files, out),
-        Some(Command::Suggest { file }) => return on_file(alloc, Task::Suggest, file, files, out),
-        Some(
-            Command::Claims {
-                graph,
-                claims: file,
-            },
-        ) => return claims(alloc, graph, file, files, out),
-        Some(
-            Command::Serve {
-                over_tcp: false,
-                ledger,
+        Command::Keep {
+            file,
+            keys,
+            script,
+            deliveries,
+            programs,
+        } => {
+            let named = RunFiles {
                 keys,
                 programs,
-            },
-        ) => {
-            let named = NamedFiles {
-                keys,
-                programs,
-                ledger,
+                script,
             };
             let stage = Stage { out, link, fresh };
-            return serve(alloc, named, files, stage, input, disk);
+            return keep(alloc, file, named, deliveries, files, stage, disk);
         }
-        Some(
-            Command::Serve {
-                over_tcp: true,
-                ledger,
-                keys,
-                programs,
-            },
-        ) => {
+        Command::Serve {
+            over_tcp,
+            ledger,
+            keys,
+            programs,
+        } => {
             let named = NamedFiles {
                 keys,
                 programs,
                 ledger,
             };
-            let stage = Stage {
-                out,
-                link: port,
-                fresh,
-            };
-            return serve(alloc, named, files, stage, input, disk);
+            if over_tcp {
+                let stage = Stage {
+                    out,
+                    link: port,
+                    fresh,
+                };
+                return serve(alloc, named, files, stage, input, disk);
+            }
+            return serve(alloc, named, files, Stage { out, link, fresh }, input, disk);
         }
+        Command::Ledger { file } => return ledger(alloc, file, out, disk),
+        Command::Claims {
+            graph,
+            claims: file,
+        } => return claims(alloc, graph, file, files, out),
+        _ => match task_of(command) {
+            Some((task, file)) => return on_file(alloc, task, file, files, out),
+            // Each command that is about more than one file has an arm above.
+            None => return Ending::NoCommand,
+        },
     }
 }

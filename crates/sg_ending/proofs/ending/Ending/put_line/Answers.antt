@@ -15,14 +15,5 @@ returns-in-ScriptRefused-clause-value c = rw c.in-ScriptRefused.is c.writeln-in-
 pub returns-in-ProgramRefused-clause-value : goal.returns-in-ProgramRefused-clause-value
 returns-in-ProgramRefused-clause-value c = rw (c.in-ProgramRefused.is, append_assoc (codes "input refused: program " ++ decimal c.in-ProgramRefused.number) (32 ∷ program_text c.in-ProgramRefused.cause) (10 ∷ [])) c.writeln-in-ProgramRefused.ensures.ok
 
-pub returns-in-NoLedger-clause-value : goal.returns-in-NoLedger-clause-value
-returns-in-NoLedger-clause-value c = rw c.in-NoLedger.is c.writeln-in-NoLedger.ensures.ok
-
 pub returns-in-BadSlot-clause-value : goal.returns-in-BadSlot-clause-value
 returns-in-BadSlot-clause-value c = rw c.in-BadSlot.is c.writeln-in-BadSlot.ensures.ok
-
-pub returns-in-LedgerNotEmpty-clause-value : goal.returns-in-LedgerNotEmpty-clause-value
-returns-in-LedgerNotEmpty-clause-value c = rw c.in-LedgerNotEmpty.is c.writeln-in-LedgerNotEmpty.ensures.ok
-
-pub returns-in-LinkFailed-clause-value : goal.returns-in-LinkFailed-clause-value
-returns-in-LinkFailed-clause-value c = rw c.in-LinkFailed.is c.writeln-in-LinkFailed.ensures.ok
