@@ -8,7 +8,7 @@
 #     bench/node-floods.sh [DELIVERIES]
 set -eu
 source "$(dirname "${BASH_SOURCE[0]}")/common.sh"
-program one_node sg_base sg_crypt sg_keys sg_node sg_program
+program one_node sg_base sg_crypt sg_keys sg_node sg_program sg_receipt
 cat >"$bench/src/main.rt" <<'RATTLE'
 //! Gives a node the same bytes again and again, each of which it must refuse alike.
 #![tactic(auto)]
@@ -16,8 +16,9 @@ cat >"$bench/src/main.rt" <<'RATTLE'
 use sg_base::{Name, Sid, read_number};
 use sg_crypt::{Cast, Notes, session_id};
 use sg_keys::Keyring;
-use sg_node::{Node, Refusal};
+use sg_node::Node;
 use sg_program::{Program, Programs};
+use sg_receipt::Refusal;
 use std::{fs, io};
 
 // What is done before: how many sessions the node starts with a partner, with nonces from the first one on, and how many of these it abandons; and how

@@ -4,7 +4,7 @@
 # own, over this repository's crates. Needs python3; no part of the gate.
 set -eu
 source "$(dirname "${BASH_SOURCE[0]}")/common.sh"
-program listing sg_base sg_graph sg_model sg_protocol sg_vis
+program listing sg_base sg_graph sg_model sg_protocol sg_views sg_vis
 cat >"$bench/src/main.rt" <<'RATTLE'
 //! A chain of seven nodes, with so many edges from each to the next. The first three senders send again.
 #![tactic(auto)]
@@ -15,7 +15,7 @@ ghost use Rattle.sg_model.specs.Names.{reserved};
 
 use sg_base::{Name, NodeId, Role, VarSet};
 use sg_graph::Graph;
-use sg_vis::views;
+use sg_views::views;
 use std::alloc::Global;
 use std::io;
 
