@@ -6,6 +6,7 @@ pub mod SentLaws
 pub mod Answering
 pub mod Honest
 pub mod AssignmentLaws
+pub mod LastName
 pub mod Parts
 pub mod Ranges
 pub mod OneAnswer

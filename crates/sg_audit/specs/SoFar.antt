@@ -100,6 +100,10 @@ add_event d sent label time v = if not (is_open d) then Err Form else option_map
 abbrev pub is_unknown : StepContent → Bool
 is_unknown s = is_none s.label || not s.writes.known
 
+-- the walk of the last session
+abbrev pub with_walk : SoFar → List StoredStep → SoFar
+with_walk d w = record { names = d.names; count = d.count; done = d.done; name = d.name; logs = d.logs; roles = d.roles; role = d.role; events = d.events; walk = Some w }
+
 -- the walk of an open session in which a role has no log
 unfoldable pub add_walk : Graph → SoFar → List StepContent → Added
 add_walk g d ss =
@@ -107,7 +111,7 @@ add_walk g d ss =
     else if list_any (λ s. falls s.writes) ss then Err Form
     else if list_any is_unknown ss then Err Unknown
     else if list_any (λ s. not (rise s.writes)) ss then Err Twice
-    else Ok (record { names = d.names; count = d.count; done = d.done; name = d.name; logs = d.logs; roles = d.roles; role = d.role; events = d.events; walk = Some (map stored_step ss) })
+    else Ok (with_walk d (map stored_step ss))
 
 -- ---- lines
 

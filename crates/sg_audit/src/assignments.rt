@@ -7,6 +7,7 @@ ghost use Rattle.sg_audit.specs.LineContents.{numbered, both_assigned};
 ghost use Rattle.sg_audit.specs.Reading.{assigned, all_assigned, shown_or_hidden};
 ghost use Rattle.sg_audit.specs.TakingLines.{assigned_values, assigned_writes};
 
+use crate::lines::is_word;
 use sg_base::{Label, Name, OutOfMemory, Role, Seq, Value, Var};
 use sg_graph::Graph;
 use sg_sched::{Words, read_value, split_at};
@@ -122,7 +123,7 @@ pub(crate) fn put_write(
 fn read_write(alloc: Global, word: &[u8]) -> Result<Option<Option<Value>>, OutOfMemory>
     ensures { IfOk result (λ o. option_map (option_map value_of) o ≡ shown_or_hidden word.now) }
 {
-    if word == b"?".as_slice() {
+    if is_word(word, b"?") {
         return Ok(Some(None));
     }
     match read_value(alloc, word)? {

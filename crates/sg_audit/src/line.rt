@@ -1,11 +1,12 @@
 //! What a line says, from its words.
-ghost use Rattle.std.specs.Prelude.{◌≡◌, option_map, true, false, IfOk, IfSome};
+ghost use Rattle.std.specs.Prelude.{◌≡◌, option_map, true, false, Some, IfOk, IfSome};
 ghost use Rattle.sg_base.specs.Words.{name};
 ghost use Rattle.sg_audit.specs.Reading.{event_form, form, log_form, session_form, time, walk_form};
 ghost use Rattle.sg_audit.specs.TakingLines.{Fits, statement};
-ghost use Rattle.sg_sched.specs.Format.Reading.{word};
+ghost use Rattle.sg_sched.specs.Format.Reading.{after, ended, word};
 
 use crate::assignments::{Assignments, label_named, read_values, role_named};
+use crate::lines::is_word;
 use crate::step::{LogStep, read_steps};
 use sg_base::{Label, Name, OutOfMemory, Role, Seq, Time, Value, read_number};
 use sg_graph::Graph;
@@ -39,15 +40,15 @@ pub(crate) fn read_line(
     let Some(first) = words.next() else {
         return Ok(None);
     };
-    if first == b"session".as_slice() {
+    if is_word(first, b"session") {
         Ok(session(words))
-    } else if first == b"log".as_slice() {
+    } else if is_word(first, b"log") {
         Ok(log(graph, words))
-    } else if first == b"sent".as_slice() {
+    } else if is_word(first, b"sent") {
         event(alloc, graph, true, words)
-    } else if first == b"received".as_slice() {
+    } else if is_word(first, b"received") {
         event(alloc, graph, false, words)
-    } else if first == b"walk".as_slice() {
+    } else if is_word(first, b"walk") {
         walk(alloc, graph, words)
     } else {
         Ok(None)
@@ -55,29 +56,34 @@ pub(crate) fn read_line(
 }
 
 // `NAME` of a session.
-#[tactic(auto, unfolding(crate::specs::Reading::session_form, sg_base::specs::Words::name, sg_sched::specs::Format::Reading::word))]
 fn session(words: &mut Words<'_>) -> Option<LogLine>
     ensures statement { option_map statement result ≡ session_form words.old }
     ensures fits { IfSome result Fits }
 {
-    let name = Name::new(words.next()?)?;
-    if !words.is_empty() {
-        return None;
+    match last_name(words) {
+        Some(name) => Some(LogLine::Session(name)),
+        None => None,
     }
-    Some(LogLine::Session(name))
 }
 
 // `ROLE` of a log.
-#[tactic(auto, unfolding(crate::specs::Reading::log_form, sg_base::specs::Words::name, sg_sched::specs::Format::Reading::word))]
 fn log(graph: &Graph, words: &mut Words<'_>) -> Option<LogLine>
     ensures statement { option_map statement result ≡ log_form graph.now words.old }
     ensures fits { IfSome result Fits }
 {
-    let name = Name::new(words.next()?)?;
-    if !words.is_empty() {
-        return None;
+    match last_name(words) {
+        Some(name) => Some(LogLine::Log(role_named(graph, &name))),
+        None => None,
     }
-    Some(LogLine::Log(role_named(graph, &name)))
+}
+
+// A name, with which the line ends.
+#[tactic(auto, unfolding(sg_base::specs::Words::name, sg_sched::specs::Format::Reading::word))]
+fn last_name(words: &mut Words<'_>) -> Option<Name>
+    ensures { result ≡ after (word name) (λ n. ended (Some n)) words.old }
+{
+    let name = Name::new(words.next()?)?;
+    if words.is_empty() { Some(name) } else { None }
 }
 
 // `LABEL TIME VAR=VALUE ..` of an event.

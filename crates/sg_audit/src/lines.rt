@@ -1,5 +1,5 @@
 //! The lines of a text with their numbers.
-ghost use Rattle.std.specs.Prelude.{◌≡◌, ◌<◌, ◌+◌, ◌^◌, ◌∷◌, [], length, MatchOption};
+ghost use Rattle.std.specs.Prelude.{◌≡◌, ◌<◌, ◌+◌, ◌^◌, ◌∷◌, [], bytes_eq, length, MatchOption};
 ghost use Rattle.sg_sched.specs.Format.Spells.{closes};
 ghost use Rattle.sg_sched.specs.Text.{lines, words};
 ghost use Rattle.sg_audit.specs.Read.{opens};
@@ -79,12 +79,19 @@ pub(crate) fn opens(line: &[u8]) -> bool
     let Some(second) = words.next() else {
         return false;
     };
-    first == b"graph".as_slice() && second == b"{".as_slice() && words.is_empty()
+    is_word(first, b"graph") && is_word(second, b"{") && words.is_empty()
 }
 
 /// Whether the line is `}` alone.
 pub(crate) fn closes(line: &[u8]) -> bool
     ensures { result ≡ closes line.now }
 {
-    line_content(line) == b"}".as_slice()
+    is_word(line_content(line), b"}")
+}
+
+/// Whether the word is this one.
+pub(crate) fn is_word(word: &[u8], text: &[u8]) -> bool
+    ensures { result ≡ bytes_eq word.now text.now }
+{
+    word == text
 }

@@ -44,7 +44,6 @@ pub fn read_logs(alloc: Global, bytes: &[u8]) -> Result<Logs, LogFault>
 }
 
 // The logs, or the first wrong line, as lines are read one by one.
-#[tactic(auto, using(crate::proofs::BlockText::same_block), unfolding(crate::specs::Read::read))]
 fn read_text(alloc: Global, bytes: &[u8]) -> Result<Logs, LogFault>
     requires { length bytes.now + 1 < 2 ^ 32 }
     ensures exact { MatchResult result (λ l. read bytes.now ≡ Ok (logs_held l)) (Refuses (read bytes.now)) }
@@ -127,17 +126,6 @@ fn read_sessions(
     ensures fit { IfOk result (All (λ s. AreLogs graph.now (logs_of s) (reported_of s))) }
 {
     let _count = graph.roles();
-    take_sessions(alloc, graph, lines)
-}
-
-// Takes all lines that are left, as sessions.
-fn take_sessions(
-    alloc: Global,
-    graph: &Graph,
-    lines: &mut Lines<'_>,
-) -> Result<Seq<SessionLog>, LogFault>
-    ensures { MatchResult result (λ s. read_sessions graph.now (lines.old.number + 1) nothing lines.old.lines ≡ Ok (record { graph = graph.now; sessions = map session_of s })) (Refuses (read_sessions graph.now (lines.old.number + 1) nothing lines.old.lines)) }
-{
     let mut reader = LogsReader::new(alloc);
     let sessions = sessions_of(alloc, graph, &mut reader, lines);
     drop(reader);

@@ -1,9 +1,10 @@
 //! What the lines so far have said, and how one more line is taken.
-ghost use Rattle.std.specs.Prelude.{◌≡◌, ◌<◌, ◌&&◌, [], None, map, option_map, is_some, is_none, OnOk, IfOk, IfSome};
+ghost use Rattle.std.specs.Prelude.{◌≡◌, ◌<◌, ◌&&◌, ℕ, Bool, [], None, Ok, Err, map, option_map, is_some, is_none, OnOk, IfOk, IfSome, MatchOption, MatchResult};
 ghost use Rattle.std.specs.List.{list_all};
-ghost use Rattle.sg_audit.specs.SoFar.{nothing, all_logs, all_sessions, all_have_logs, is_whole, is_open, add, add_session, add_log, add_event, add_walk};
+ghost use Rattle.sg_audit.specs.SoFar.{nothing, all_logs, all_sessions, all_have_logs, is_whole, is_open, add, add_session, add_log, add_event, add_walk, with_event, with_walk};
 ghost use Rattle.sg_audit.specs.Sessions.{event, stored_step};
 ghost use Rattle.sg_audit.specs.TakingLines.{Fits, Takes, statement, session_of, assigned_values, step_in_line};
+ghost use Rattle.sg_model.specs.Limits.{most_events};
 ghost use Rattle.sg_model.specs.Lists.{is_in, below};
 ghost use Rattle.sg_walk.specs.Model.{event_of, step_of, steps_of};
 
@@ -185,7 +186,6 @@ impl LogsReader {
         Ok(())
     }
 
-    #[tactic(auto, unfolding(crate::specs::SoFar::add_event))]
     fn add_event(
         &mut self,
         sent: bool,
@@ -195,55 +195,95 @@ impl LogsReader {
     ) -> Result<(), Stop>
         ensures { Takes (add_event self.old sent label time (assigned_values values)) self.new result }
     {
+        let (role, label) = match self.place_of_event(label, &values) {
+            Ok(place) => place,
+            Err(mistake) => return Err(Stop::Wrong(mistake)),
+        };
+        match self.push_event(event(sent, role, label, time, values)) {
+            Ok(()) => Ok(()),
+            Err(_) => Err(Stop::OutOfMemory),
+        }
+    }
+
+    // The role and the label of an event that may be added, or what is wrong with it.
+    #[tactic(auto, unfolding(crate::specs::SoFar::add_event))]
+    fn place_of_event(
+        &self,
+        label: Option<Label>,
+        values: &Assignments<Value>,
+    ) -> Result<(Role, Label), Mistake>
+        ensures place { (sent : Bool) (time : ℕ) → MatchResult result
+            (λ p. add_event self.now sent label time (assigned_values values.now) ≡ Ok (with_event self.now (event sent p.0 p.1 time (assigned_values values.now).pairs)))
+            (λ e. add_event self.now sent label time (assigned_values values.now) ≡ Err e) }
+        ensures few { IfOk result (λ _. self.now.count < most_events) }
+    {
         if !self.is_open() {
-            return Err(Stop::Wrong(Mistake::Form));
+            return Err(Mistake::Form);
         }
         let Some(role) = self.role else {
-            return Err(Stop::Wrong(Mistake::Form));
+            return Err(Mistake::Form);
         };
-        if values_fall(&values) {
-            return Err(Stop::Wrong(Mistake::Form));
+        if values_fall(values) {
+            return Err(Mistake::Form);
         }
         if self.count >= MOST_EVENTS {
-            return Err(Stop::Wrong(Mistake::TooManyEvents));
+            return Err(Mistake::TooManyEvents);
         }
         let Some(label) = label else {
-            return Err(Stop::Wrong(Mistake::Unknown));
+            return Err(Mistake::Unknown);
         };
         if !values.known {
-            return Err(Stop::Wrong(Mistake::Unknown));
+            return Err(Mistake::Unknown);
         }
-        if !values_rise(&values) {
-            return Err(Stop::Wrong(Mistake::Twice));
+        if !values_rise(values) {
+            return Err(Mistake::Twice);
         }
-        if let Err(_) = self.events.push(event(sent, role, label, time, values)) {
-            return Err(Stop::OutOfMemory);
-        }
+        Ok((role, label))
+    }
+
+    // Puts an event after those of the last log.
+    fn push_event(&mut self, event: Event) -> Result<(), OutOfMemory>
+        requires { self.old.count < most_events }
+        ensures { OnOk result (self.new ≡ with_event self.old (event_of event)) }
+    {
+        self.events.push(event)?;
         self.count += 1;
         Ok(())
     }
 
-    #[tactic(auto, unfolding(crate::specs::SoFar::add_walk))]
     fn add_walk(&mut self, graph: &Graph, steps: Seq<LogStep>) -> Result<(), Stop>
         ensures { Takes (add_walk graph.now self.old (map step_in_line steps)) self.new result }
     {
-        if !self.is_open() || self.all_have_logs(graph) {
-            return Err(Stop::Wrong(Mistake::Form));
-        }
-        if some_fall(steps.as_slice()) {
-            return Err(Stop::Wrong(Mistake::Form));
-        }
-        if some_unknown(steps.as_slice()) {
-            return Err(Stop::Wrong(Mistake::Unknown));
-        }
-        if some_not_rise(steps.as_slice()) {
-            return Err(Stop::Wrong(Mistake::Twice));
+        if let Some(mistake) = self.mistake_in_walk(graph, steps.as_slice()) {
+            return Err(Stop::Wrong(mistake));
         }
         match stored_walk(self.alloc, steps) {
             Ok(walk) => self.walk = Some(walk),
             Err(_) => return Err(Stop::OutOfMemory),
         }
         Ok(())
+    }
+
+    // What is wrong with a walk, if it may not be added.
+    #[tactic(auto, unfolding(crate::specs::SoFar::add_walk))]
+    fn mistake_in_walk(&self, graph: &Graph, steps: &[LogStep]) -> Option<Mistake>
+        ensures { MatchOption result
+            (add_walk graph.now self.now (map step_in_line steps.now) ≡ Ok (with_walk self.now (map stored_step (map step_in_line steps.now))))
+            (λ e. add_walk graph.now self.now (map step_in_line steps.now) ≡ Err e) }
+    {
+        if !self.is_open() || self.all_have_logs(graph) {
+            return Some(Mistake::Form);
+        }
+        if some_fall(steps) {
+            return Some(Mistake::Form);
+        }
+        if some_unknown(steps) {
+            return Some(Mistake::Unknown);
+        }
+        if some_not_rise(steps) {
+            return Some(Mistake::Twice);
+        }
+        None
     }
 
     /// The sessions, which are taken out.
