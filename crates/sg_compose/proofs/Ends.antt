@@ -6,7 +6,7 @@ use Rattle.std.proofs.lemmas.Bool.Decides.{nat_tests}
 use Rattle.std.proofs.lemmas.List.{get_or-map}
 use Rattle.sg_base.proofs.SetLaws.{is_in-filter}
 use Rattle.sg_model.specs.Lists.{below, range_from, is_in}
-use Rattle.sg_model.specs.Shape.{Shape, source, target}
+use Rattle.sg_model.specs.Shape.{source, target}
 use Rattle.sg_model.specs.Shape as Shapes
 use Rattle.sg_protocol.specs.Graph.{Graph, Edge, shape}
 use Rattle.sg_graph.specs.Parts.{edge_at}

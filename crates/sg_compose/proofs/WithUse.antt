@@ -5,7 +5,7 @@ use Rattle.std.proofs.lemmas.Bool.{or_parts}
 use Rattle.std.proofs.lemmas.Bool.Decides.{nat_tests}
 use Rattle.std.proofs.lemmas.List.{map-append}
 use Rattle.std.proofs.lemmas.List.Elements.{All-append, All-map}
-use Rattle.sg_compose.specs.Expansion.{clashes, end_of, expanded, has_long, inner_name, inside, is_inside, is_long, new_edge, new_edges, new_node, new_nodes, new_variable, new_variables, player, players, replaced, shifted, too_large, with_use}
+use Rattle.sg_compose.specs.Expansion.{clashes, end_of, has_long, inner_name, inside, is_inside, is_long, new_edge, new_edges, new_node, new_nodes, new_variable, new_variables, player, players, replaced, shifted, too_large, with_use}
 use Rattle.sg_compose.proofs.Ends.{ends-at}
 use Rattle.sg_compose.proofs.Joining.{node-count, edge-count, replaced-below}
 use Rattle.sg_compose.proofs.Renaming.{set_of-numbers, set_of-some}

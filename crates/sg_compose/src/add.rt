@@ -1,10 +1,10 @@
 //! What a use adds to a graph.
-ghost use Rattle.std.specs.Prelude.{◌≡◌, ◌≢◌, ℕ, ◌+◌, ◌<◌, ◌≤◌, ◌++◌, false, filter, length, map, not, ◌==◌, ◌&&◌, OnOk, IfErr};
+ghost use Rattle.std.specs.Prelude.{◌≡◌, ◌≢◌, ℕ, ◌+◌, ◌<◌, ◌≤◌, ◌++◌, false, length, map, OnOk, IfErr};
 ghost use Rattle.sg_model.specs.Lists.{has_text};
 ghost use Rattle.sg_protocol.specs.Graph.{AreNames, IsGraph, node_name};
 ghost use Rattle.sg_graph.specs.Adding.{with_variable, with_node, with_edge};
 ghost use Rattle.sg_graph.specs.Parts.{edge_at, edge_names, node_names, variable_at, variable_names};
-ghost use Rattle.sg_compose.specs.Expansion.{inner_name, inside, is_long, new_edge, new_edges, new_node, new_nodes, new_variable, new_variables, player, with_use};
+ghost use Rattle.sg_compose.specs.Expansion.{inner_name, inside, is_long, new_edge, new_node, new_nodes, new_variable, new_variables, player, with_use};
 
 use crate::fault::ComposeFault;
 use crate::rename::{inner_name, is_inside, player, players, replaced, shifted};

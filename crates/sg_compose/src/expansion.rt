@@ -1,7 +1,6 @@
 //! Parts expanded, one after the other.
 ghost use Rattle.std.specs.Prelude.{◌≡◌, ◌≢◌, ◌<◌, ◌≤◌, ℕ, [], length, true, false, Some, slice_get, IfErr, IfOk, MatchResult, Ok, Err, IsFalse};
-ghost use Rattle.sg_protocol.specs.Graph.{IsGraph};
-ghost use Rattle.sg_parse.specs.Parts.{AreParts, IsPart, IsUse};
+ghost use Rattle.sg_parse.specs.Parts.{AreParts, IsPart};
 ghost use Rattle.sg_compose.specs.Early.{first_use_suits};
 ghost use Rattle.sg_compose.specs.Expansion.{end_of, expanded, expansion, extended, has_long, player, roles_fit};
 ghost use Rattle.sg_compose.specs.Laws.{IsComposed};
@@ -85,10 +84,27 @@ fn expand_part(alloc: Global, graphs: &[Graph], part: &Part) -> Result<Graph, Co
     let Ok(mut graph) = part.graph.copy(alloc) else {
         return Err(ComposeFault::OutOfMemory);
     };
-    for used in part.uses.as_slice() {
-        expand_use(alloc, part, &mut graph, &graphs[used.part], used)?;
+    match add_uses(alloc, graphs, part, &mut graph) {
+        Ok(()) => Ok(graph),
+        Err(fault) => Err(fault),
     }
-    Ok(graph)
+}
+
+// Adds the uses of a part to its graph.
+fn add_uses(
+    alloc: Global,
+    graphs: &[Graph],
+    part: &Part,
+    graph: &mut Graph,
+) -> Result<(), ComposeFault>
+    requires part { IsPart (length graphs.now) part.now }
+    requires graph { graph.old ≡ part.now.graph }
+    ensures { MatchResult result (λ _. expanded graphs.now part.now ≡ Ok graph.new) (Refuses (expanded graphs.now part.now)) }
+{
+    for used in part.uses.as_slice() {
+        expand_use(alloc, part, graph, &graphs[used.part], used)?;
+    }
+    Ok(())
 }
 
 // Adds a use of a part, or gives the cause for which it can't be added.

@@ -1,5 +1,5 @@
 //! The names, roles, variables and nodes that a use gives to those of the graph that it uses.
-ghost use Rattle.std.specs.Prelude.{◌≡◌, ℕ, ◌+◌, ◌-◌, ◌<◌, ◌≤◌, false, length, IfErr, IfOk, IsTrue};
+ghost use Rattle.std.specs.Prelude.{◌≡◌, ℕ, ◌+◌, ◌-◌, ◌<◌, ◌≤◌, false, IfErr, IfOk, IsTrue};
 ghost use Rattle.sg_model.specs.Lists.{has_text};
 ghost use Rattle.sg_model.specs.Names.{is_name, reserved};
 ghost use Rattle.sg_protocol.specs.Graph.{AreNumbers};

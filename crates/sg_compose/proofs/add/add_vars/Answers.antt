@@ -1,4 +1,4 @@
-use Rattle.std.proofs.Common.{◌≡◌, ◌<◌, false, [], length, get_or, sym, subst, arith}
+use Rattle.std.proofs.Common.{◌≡◌, ◌<◌, false, [], length, sym, subst, arith}
 use Rattle.sg_model.specs.Lists.{has_text}
 use Rattle.sg_protocol.specs.Graph.{Graph, Int, Variable}
 use Rattle.sg_graph.specs.Parts.{variable_at, variable_names}

@@ -1,6 +1,6 @@
 use Rattle.std.proofs.Common.{◌≡◌, ◌≤◌, length, drop}
 use Rattle.sg_compose.specs.Expansion.{all_used, expanded}
-use Rattle.sg_compose.proofs.expansion.expand_part.Given as goal
+use Rattle.sg_compose.proofs.expansion.add_uses.Given as goal
 
 abbrev pub invariant-loop-used : goal.invariant-loop-used
 invariant-loop-used l = record {
