@@ -22,8 +22,8 @@
 //! `unforged` and `collision_free` try the two assumptions on what was noted, and report the first break. `report` goes over the record once
 //! for what sessions are called, once for the lines, and once for each assumption; if both hold it goes through the sessions in one pass
 //! more, and writes the walk of each as soon as it is made. `walk_of` gives the walk of one session. What a report says by the run
-//! stands in `specs/Account.antt`, and that it says so in `proofs/Tellable.antt` (each line has its names), `proofs/KeptLines.antt` (the
-//! lines and the names), `proofs/WalkLaws.antt` (the walks) and `proofs/ReportText.antt` (the text).
+//! stands in `specs/Account.antt`, and that it says so in `proofs/KeptLines.antt` (the lines and the names), `proofs/WalkLaws.antt`
+//! (the walks) and `proofs/ReportText.antt` (the text).
 #![tactic(auto)]
 
 mod call;

@@ -1,21 +1,16 @@
 //! The nodes of the honest principals.
-ghost use Rattle.std.specs.Prelude.{◌≡◌, ◌<◌, ◌^◌, ◌+◌, ◌++◌, ◌∷◌, [], false, true, length, map, slice_get, Some, IfOk, MatchOption, OnErr, OnOk};
+ghost use Rattle.std.specs.Prelude.{◌≡◌, ◌++◌, ◌∷◌, [], false, true, map, slice_get, Some, IfOk, MatchOption, OnOk};
 ghost use Rattle.sg_model.specs.Lists.{all_differ, has_text};
 ghost use Rattle.sg_protocol.specs.NodeStates.{NodeState, new_state};
 ghost use Rattle.sg_protocol.specs.World.{keyring_of};
 ghost use Rattle.sg_setting.specs.Pairs.{ArePairs};
-ghost use Rattle.sg_sched.specs.Format.StepsHeld.{step_of};
-ghost use Rattle.sg_world.specs.StepResults.{IsResultAt, IsNamed};
-ghost use Rattle.sg_world.specs.RecordModel.{no_frame};
 
-use crate::call::call;
-use crate::record::StepResult;
 use indexmap::IndexMap;
-use sg_base::{Name, OutOfMemory, Seq};
+use sg_base::{Name, OutOfMemory};
 use sg_node::Node;
 use sg_program::Programs;
-use sg_sched::{PairKey, Step};
-use sg_setting::{Setting, keyring};
+use sg_sched::PairKey;
+use sg_setting::keyring;
 use std::alloc::Global;
 
 /// A node for each of these principals, in order, with the keys of its pairs.
@@ -61,35 +56,4 @@ pub(crate) fn index_of<'p>(nodes: &IndexMap<Name, Node<'p>>, who: &Name) -> Opti
         (λ i. (state : NodeState) × (slice_get nodes.now.entries i ≡ Some (who.now, state))) }
 {
     nodes.get_index_of(who)
-}
-
-/// Makes the call of a step of this number at the node at an index, and writes what comes of it over `step_result`. If memory runs out, the nodes are as
-/// before.
-pub(crate) fn call_at<'p>(
-    alloc: Global,
-    nodes: &mut IndexMap<Name, Node<'p>>,
-    index: usize,
-    setting: &Setting<'_>,
-    recorded: &[Seq<u8>],
-    number: u32,
-    step: &Step,
-    step_result: &mut StepResult<'p>,
-) -> Result<(), OutOfMemory>
-    requires within { index < length nodes.old.entries }
-    requires named { IsNamed (length setting.now.sessions) (step_of step.now) }
-    requires few { length recorded.now + 1 < 2 ^ 32 }
-    requires blank { step_result.old ≡ no_frame }
-    ensures is_result { OnOk result (IsResultAt setting.now.sessions recorded.now number
-        (step_of step.now) index nodes.old.entries nodes.new.entries step_result.new) }
-    ensures back { OnErr result (nodes.new.entries ≡ nodes.old.entries) }
-{
-    call(
-        alloc,
-        &mut nodes[index],
-        setting,
-        recorded,
-        number,
-        step,
-        step_result,
-    )
 }

@@ -12,12 +12,13 @@ ghost use Rattle.sg_sched.specs.Steps.{CanBeTaken};
 ghost use Rattle.sg_world.specs.Indices.{IsFaultOf, IsIndexOf, names_of};
 
 use crate::StepFault;
+use crate::call::call;
 use crate::craft::craft;
-use crate::nodes::{call_at, index_of};
+use crate::nodes::index_of;
 use crate::premises::Principals;
 use crate::record::{Record, StepResult};
 use indexmap::IndexMap;
-use sg_base::{Name, OutOfMemory, RoleSet, Seq};
+use sg_base::{Name, OutOfMemory, RoleSet};
 use sg_certify::honest_roles;
 use sg_node::Node;
 use sg_sched::Step;
@@ -79,7 +80,6 @@ pub(crate) fn take_step<'p>(
     ensures back { OnErr result ((nodes.new.entries ≡ nodes.old.entries) × (history.new.done ≡ history.old.done)) }
 {
     history.make_room()?;
-    let number = history.count() as u32 + 1;
     let kept = copy_step(alloc, step)?;
     let mut step_result = StepResult::no_frame(alloc);
     match perform(
@@ -87,8 +87,7 @@ pub(crate) fn take_step<'p>(
         setting,
         nodes,
         index,
-        history.frames(),
-        number,
+        history,
         step,
         &mut step_result,
     ) {
@@ -125,38 +124,37 @@ fn honest_in<'p>(
     }
 }
 
-// Writes the outcome of a step of this number over `step_result`: at the node at its index, or of the craft.
+// Writes the outcome of the next step over `step_result`: at the node at its index, or of the craft.
 fn perform<'p>(
     alloc: Global,
     setting: &Setting<'p>,
     nodes: &mut IndexMap<Name, Node<'p>>,
     index: Option<usize>,
-    recorded: &[Seq<u8>],
-    number: u32,
+    history: &Record<'p>,
     step: &Step,
     step_result: &mut StepResult<'p>,
 ) -> Result<(), OutOfMemory>
     requires index { IsIndexOf nodes.old.entries (step_of step.now) index }
     requires named { IsNamed (length setting.now.sessions) (step_of step.now) }
     requires can { IsCraftable setting.now (step_of step.now) }
-    requires few { length recorded.now + 1 < 2 ^ 32 }
+    requires room { length history.now.done.entries < most_steps }
+    requires few { length history.now.done.frames + 1 < 2 ^ 32 }
     requires blank { step_result.old ≡ no_frame }
-    ensures is_result { OnOk result (IsResultAtIndex setting.now recorded.now number
+    ensures is_result { OnOk result (IsResultAtIndex setting.now history.now.done.frames (length history.now.done.entries + 1)
         (step_of step.now) index nodes.old.entries nodes.new.entries step_result.new) }
     ensures back { OnErr result (nodes.new.entries ≡ nodes.old.entries) }
 {
     match index {
-        Some(index) => call_at(
+        Some(index) => call(
             alloc,
-            nodes,
-            index,
+            &mut nodes[index],
             setting,
-            recorded,
-            number,
+            history.frames(),
+            history.count() as u32 + 1,
             step,
             step_result,
         ),
-        None => craft(alloc, setting, recorded, step, step_result),
+        None => craft(alloc, setting, history.frames(), step, step_result),
     }
 }
 
