@@ -23,6 +23,7 @@ use std::alloc::Global;
 /// One principal who plays a script, and the ledger of its joins.
 #[derive(Drop)]
 pub(crate) struct Keeper<'p> {
+    pub(crate) alloc: Global,
     pub(crate) player: Player<'p>,
     pub(crate) ledger: Ledger,
 }
@@ -48,7 +49,11 @@ impl<'p> Keeper<'p> {
     {
         match Node::with_joins(alloc, keys_of_node, programs, ledger.joins()) {
             Ok(node) => match Player::new(alloc, node, keys, programs, choices) {
-                Ok(player) => Ok(Keeper { player, ledger }),
+                Ok(player) => Ok(Keeper {
+                    alloc,
+                    player,
+                    ledger,
+                }),
                 Err(fault) => {
                     drop(ledger);
                     Err(fault)

@@ -25,7 +25,6 @@ impl<'p> Keeper<'p> {
     /// Makes each start of a script in order, and then takes at most `most` deliveries, up to the link's end. It plays the turn that each gives.
     fn play<L: Link, R: Fresh, O: Sink, D: Disk>(
         &mut self,
-        alloc: Global,
         starts: &[ScriptStart],
         most: u32,
         link: &mut L,
@@ -50,7 +49,7 @@ impl<'p> Keeper<'p> {
         ensures at_most { (deliveries : List (List ℕ)) → L.deliveries link.old ≡ Some deliveries → (n : ℕ) × (n ≤ most) × (L.deliveries link.new ≡ Some (drop n deliveries)) }
     {
         match self.start_all(starts, link, fresh, out, disk) {
-            Ok(()) => self.take_all(alloc, most, link, fresh, out, disk),
+            Ok(()) => self.take_all(most, link, fresh, out, disk),
             Err(fault) => Err(fault),
         }
     }
@@ -122,7 +121,6 @@ impl<'p> Keeper<'p> {
     // Takes at most `most` deliveries, up to the link's end, and plays the turn that each gives.
     fn take_all<L: Link, R: Fresh, O: Sink, D: Disk>(
         &mut self,
-        alloc: Global,
         most: u32,
         link: &mut L,
         fresh: &mut R,
@@ -147,7 +145,7 @@ impl<'p> Keeper<'p> {
             → KeptFrom D.moment D.left_since disk.old disk.new start.written (O.written out.new) p (all_deliveries p (take most deliveries)) }
     {
         for _taken in 0..most {
-            match link.recv(alloc) {
+            match link.recv(self.alloc) {
                 Ok(Some(bytes)) => match self.deliver(bytes.as_slice(), link, fresh, out, disk) {
                     Ok(()) => {}
                     Err(fault) => return Err(fault),
@@ -241,7 +239,7 @@ pub fn keep<'p, L: Link, R: Fresh, O: Sink, D: Disk>(
     let Script { starts, choices } = script;
     match Keeper::new(alloc, keys_of_node, keys, programs, choices, ledger) {
         Ok(mut keeper) => {
-            let came = keeper.play(alloc, starts.as_slice(), most, link, fresh, out, disk);
+            let came = keeper.play(starts.as_slice(), most, link, fresh, out, disk);
             drop(keeper);
             drop(starts);
             came
