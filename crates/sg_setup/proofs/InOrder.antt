@@ -1,8 +1,8 @@
 -- What files hold that are read one after another.
 use Rattle.std.proofs.Common.{◌≡◌, ℕ, ◌+◌, ◌<◌, ◌≤◌, List, [], ◌∷◌, ◌++◌, Some, Result, Bor, map, take, drop, length, get_or, sym, ap, subst, ◌∙◌}
-use Rattle.std.specs.Prelude.{OnOk}
+use Rattle.std.specs.Prelude.{IfErr, IfOk, OnOk}
 use Rattle.std.proofs.lemmas.List.{drop_more, map_more, map-append, take-append-drop, take_all}
-use Rattle.std.proofs.lemmas.Result.{on_ok_weaker}
+use Rattle.std.proofs.lemmas.Result.{IfErr-weaker, IfOk-weaker, on_ok_weaker}
 use Rattle.sg_base.specs.Outside.{FileFaults}
 use Rattle.sg_model.specs.Limits.{most_program_file, most_script_file}
 use Rattle.sg_keys.specs.KeyFile.{SpellsKeys}
@@ -12,7 +12,21 @@ use Rattle.sg_script.specs.Script.{Script}
 use Rattle.sg_ending.specs.Ending.{Ending}
 use Rattle.sg_ending.specs.Files.{KnownFiles, Has, EndsAt, Holds}
 use Rattle.sg_setup.specs.Setup.{RunFiles, Principal, Adds, HasPrincipal, HasSetup, HoldPrograms, OneMore, IsTextOf, LacksPrincipal, AtProgram, LacksSetup, AtScript, RefusesProgram, RefusesScript, StopsAtProgram}
-use Rattle.sg_ending.proofs.Files.{ends_later, holds}
+use Rattle.sg_ending.proofs.Files.{ends_later, holds, refuses}
+
+-- what is done with the bytes of a file that was read
+module _ {A E : Type 0} (r : Result A E) (known : KnownFiles) (most : ℕ) (file bytes read : List ℕ)
+    (same : read ≡ bytes) (has : Has known file (Some bytes)) (few : length bytes ≤ most) where
+  -- the file holds what its bytes are
+  pub found : (Such : A → List ℕ → Type 0) → IfOk r (λ a. Such a read) → IfOk r (λ a. Holds known most file (Such a))
+  found Such h = IfOk-weaker r (λ a. Such a read) (λ a. Holds known most file (Such a)) (λ a s. holds known most file bytes read (Such a) same has few s) h
+
+  -- if they are refused, it ends at the file
+  pub refused : (ending : E → Ending) (Refuses : List ℕ → Ending → Type 0) (f0 f1 : FileFaults) → f1 ≡ f0
+      → IfErr r (λ e. Refuses read (ending e)) → IfErr r (λ e. EndsAt known f0 f1 most file Refuses (ending e))
+  refused ending Refuses f0 f1 none h =
+      IfErr-weaker r (λ e. Refuses read (ending e)) (λ e. EndsAt known f0 f1 most file Refuses (ending e))
+      (λ e s. refuses known f0 f1 most file bytes read Refuses (ending e) same has few none s) h
 
 -- the names of files
 abbrev pub names : Bor (List (Bor (List ℕ))) → List (List ℕ)

@@ -1,10 +1,8 @@
 use Rattle.std.proofs.Common.{inl}
-use Rattle.std.proofs.lemmas.Result.{IfErr-weaker}
 use Rattle.sg_model.specs.Limits.{most_program_file}
 use Rattle.sg_ending.specs.Model.{ending_held}
 use Rattle.sg_setup.specs.Setup.{RefusesProgram}
-use Rattle.sg_ending.proofs.Files.{refuses}
-use Rattle.sg_setup.proofs.InOrder.{adds_held}
+use Rattle.sg_setup.proofs.InOrder.{adds_held, refused}
 use Rattle.sg_setup.proofs.setup.add_program.Goals as goal
 
 pub returns-in-Err-clause-ends : goal.returns-in-Err-clause-ends
@@ -17,7 +15,7 @@ returns-in-Ok-clause-added g c =
 
 pub returns-in-Ok-clause-ends : goal.returns-in-Ok-clause-ends
 returns-in-Ok-clause-ends g c =
-    IfErr-weaker c.put_program.result _ _
-    (λ e h. refuses (g.F.Files.held c.args.files.now) (g.F.Files.faults c.args.files.now) (g.F.Files.faults c.read_file.new.files) most_program_file c.args.file.now c.in-Ok.bytes.items c.as_slice.result.now
-    (RefusesProgram c.args.programs.now) (ending_held e) c.as_slice.ensures.value c.in-Ok.ensures.found c.in-Ok.ensures.few c.in-Ok.ensures.no_fault h)
-    c.put_program.ensures.refused
+    refused c.put_program.result (g.F.Files.held c.args.files.now) most_program_file c.args.file.now
+    c.in-Ok.bytes.items c.as_slice.result.now c.as_slice.ensures.value c.in-Ok.ensures.found c.in-Ok.ensures.few
+    ending_held (RefusesProgram c.args.programs.now) (g.F.Files.faults c.args.files.now) (g.F.Files.faults c.read_file.new.files)
+    c.in-Ok.ensures.no_fault c.put_program.ensures.refused

@@ -1,10 +1,9 @@
 use Rattle.std.proofs.Common.{inl}
-use Rattle.std.proofs.lemmas.Result.{IfErr-weaker, IfOk-weaker}
 use Rattle.sg_model.specs.Limits.{most_script_file}
 use Rattle.sg_keys.specs.KeyFile.{SpellsKeys}
 use Rattle.sg_ending.specs.Model.{ending_held}
 use Rattle.sg_setup.specs.Setup.{RefusesKeys}
-use Rattle.sg_ending.proofs.Files.{holds, refuses}
+use Rattle.sg_setup.proofs.InOrder.{found, refused}
 use Rattle.sg_setup.proofs.setup.read_keys.Goals as goal
 
 pub returns-in-Err-clause-ends : goal.returns-in-Err-clause-ends
@@ -12,14 +11,13 @@ returns-in-Err-clause-ends g c = inl c.in-Err.ensures.unread
 
 pub returns-in-Ok-clause-holds : goal.returns-in-Ok-clause-holds
 returns-in-Ok-clause-holds g c =
-    IfOk-weaker c.both_of.result _ _
-    (λ k h. holds (g.F.Files.held c.args.files.now) most_script_file c.args.file.now c.in-Ok.bytes.items c.as_slice.result.now (λ b. SpellsKeys b k.0)
-    c.as_slice.ensures.value c.in-Ok.ensures.found c.in-Ok.ensures.few h)
-    c.both_of.ensures.spelled
+    found c.both_of.result (g.F.Files.held c.args.files.now) most_script_file c.args.file.now
+    c.in-Ok.bytes.items c.as_slice.result.now c.as_slice.ensures.value c.in-Ok.ensures.found c.in-Ok.ensures.few
+    (λ k b. SpellsKeys b k.0) c.both_of.ensures.spelled
 
 pub returns-in-Ok-clause-ends : goal.returns-in-Ok-clause-ends
 returns-in-Ok-clause-ends g c =
-    IfErr-weaker c.both_of.result _ _
-    (λ e h. refuses (g.F.Files.held c.args.files.now) (g.F.Files.faults c.args.files.now) (g.F.Files.faults c.read_file.new.files) most_script_file c.args.file.now c.in-Ok.bytes.items c.as_slice.result.now
-    RefusesKeys (ending_held e) c.as_slice.ensures.value c.in-Ok.ensures.found c.in-Ok.ensures.few c.in-Ok.ensures.no_fault h)
-    c.both_of.ensures.refused
+    refused c.both_of.result (g.F.Files.held c.args.files.now) most_script_file c.args.file.now
+    c.in-Ok.bytes.items c.as_slice.result.now c.as_slice.ensures.value c.in-Ok.ensures.found c.in-Ok.ensures.few
+    ending_held RefusesKeys (g.F.Files.faults c.args.files.now) (g.F.Files.faults c.read_file.new.files)
+    c.in-Ok.ensures.no_fault c.both_of.ensures.refused

@@ -1,10 +1,9 @@
 use Rattle.std.proofs.Common.{inl}
-use Rattle.std.proofs.lemmas.Result.{IfErr-weaker, IfOk-weaker}
 use Rattle.sg_model.specs.Limits.{most_script_file}
 use Rattle.sg_script.specs.Format.{SpellsScript}
 use Rattle.sg_ending.specs.Model.{ending_held}
 use Rattle.sg_setup.specs.Setup.{RefusesScript}
-use Rattle.sg_ending.proofs.Files.{holds, refuses}
+use Rattle.sg_setup.proofs.InOrder.{found, refused}
 use Rattle.sg_setup.proofs.setup.script_of.Goals as goal
 
 pub returns-in-Err-clause-ends : goal.returns-in-Err-clause-ends
@@ -12,14 +11,13 @@ returns-in-Err-clause-ends g c = inl c.in-Err.ensures.unread
 
 pub returns-in-Ok-clause-holds : goal.returns-in-Ok-clause-holds
 returns-in-Ok-clause-holds g c =
-    IfOk-weaker c.script_in.result _ _
-    (λ s h. holds (g.F.Files.held c.args.files.now) most_script_file c.args.file.now c.in-Ok.bytes.items c.as_slice.result.now (λ b. SpellsScript c.args.programs.now b s)
-    c.as_slice.ensures.value c.in-Ok.ensures.found c.in-Ok.ensures.few h)
-    c.script_in.ensures.spelled
+    found c.script_in.result (g.F.Files.held c.args.files.now) most_script_file c.args.file.now
+    c.in-Ok.bytes.items c.as_slice.result.now c.as_slice.ensures.value c.in-Ok.ensures.found c.in-Ok.ensures.few
+    (λ s b. SpellsScript c.args.programs.now b s) c.script_in.ensures.spelled
 
 pub returns-in-Ok-clause-ends : goal.returns-in-Ok-clause-ends
 returns-in-Ok-clause-ends g c =
-    IfErr-weaker c.script_in.result _ _
-    (λ e h. refuses (g.F.Files.held c.args.files.now) (g.F.Files.faults c.args.files.now) (g.F.Files.faults c.read_file.new.files) most_script_file c.args.file.now c.in-Ok.bytes.items c.as_slice.result.now
-    (RefusesScript c.args.programs.now) (ending_held e) c.as_slice.ensures.value c.in-Ok.ensures.found c.in-Ok.ensures.few c.in-Ok.ensures.no_fault h)
-    c.script_in.ensures.refused
+    refused c.script_in.result (g.F.Files.held c.args.files.now) most_script_file c.args.file.now
+    c.in-Ok.bytes.items c.as_slice.result.now c.as_slice.ensures.value c.in-Ok.ensures.found c.in-Ok.ensures.few
+    ending_held (RefusesScript c.args.programs.now) (g.F.Files.faults c.args.files.now) (g.F.Files.faults c.read_file.new.files)
+    c.in-Ok.ensures.no_fault c.script_in.ensures.refused
