@@ -1,6 +1,7 @@
 -- What a keeper holds before a call, once its node was asked, once the join is kept, and once the turn was played.
-use Rattle.std.proofs.Common.{◌≡◌, ◌⊎◌, inl, inr, ⊎_elim, ℕ, List, [], ◌++◌, false, length, Option, None, IfSome, Result, Ok, Err, OnOk, refl, sym, ap, ◌∙◌, subst}
+use Rattle.std.proofs.Common.{◌≡◌, ◌≤◌, ◌⊎◌, inl, inr, ⊎_elim, ℕ, List, [], ◌++◌, false, length, take, Option, None, IfSome, Result, Ok, Err, OnOk, refl, sym, ap, ◌∙◌, subst}
 use Rattle.std.proofs.lemmas.List.{append-nil}
+use Rattle.sg_base.specs.declared.address.Addr.{Addr}
 use Rattle.sg_report.specs.Outcome.{outcome_of}
 use Rattle.sg_report.specs.declared.outcome.Outcome.{Outcome}
 use Rattle.sg_ledger.specs.Format.{Join, OpenLedger, Represents}
@@ -20,6 +21,7 @@ use Rattle.sg_play.specs.Representation.{HasAsked, KeepsJoins, RepresentsPlay}
 use Rattle.sg_play.specs.Steps.{Step, frames_of}
 use Rattle.sg_play.proofs.Endings.{whole_none}
 use Rattle.sg_play.proofs.Reporting.{asked_by}
+use Rattle.sg_play.proofs.Running.{nothing_sent}
 use Rattle.sg_keep.specs.declared.fault.KeepFault.{KeepFault}
 use Rattle.sg_keep.specs.declared.fault.KeepFault.TheVariants.{Played, DiskFailed}
 use Rattle.sg_keep.specs.declared.keeper.Keeper.{Keeper}
@@ -31,7 +33,7 @@ use Rattle.sg_joins.proofs.NewJoins.{joins_of_node}
 use Rattle.sg_keep.specs.KeptRuns.{AreOfJoins, HasKept}
 use Rattle.sg_keep.specs.Representation.{Progressed, HasAskedNode, HoldsJoins, IsAsked, RepresentsKept}
 use Rattle.sg_keep.proofs.Ending.{IsBetween, end_on, not_kept, played_end, stopped}
-use Rattle.sg_keep.proofs.Going.{Goes, after_call, by_call, by_deliveries, by_starts, in_step_on, joined, quiet_joins, with_call}
+use Rattle.sg_keep.proofs.Going.{Goes, after_call, by_call, by_deliveries, by_starts, deliveries_on, in_step_on, joined, quiet_joins, with_call}
 use Rattle.sg_keep.proofs.Owning.{OwnsAll, none_sent, owned_past, sent_more}
 
 -- ---- the node was asked
@@ -166,6 +168,24 @@ module _ (start now : Outside) (may_leave : List ℕ → Type 0) (k : Keeper) (p
   -- the link gave no delivery
   pub link_end : HasKept start now may_leave q (Err (Played LinkFailed))
   link_end = end_on start now may_leave p q (Played LinkFailed) g (stopped start now may_leave p s.in_step s.sent (holds_all k may_leave p h s) w)
+
+-- no delivery came after the first n: a link sends nothing in a call that gives none
+module _ (start : Outside) (written : Option (List ℕ)) (old new : Option (List (Addr × List ℕ))) (same : new ≡ old) (may_leave : List ℕ → Type 0) (k : Keeper)
+    (p : Play) (ds : List (List ℕ)) (n m : ℕ) (within : n ≤ m) (h : HoldsJoins k may_leave) (s : RepresentsKept k (all_deliveries p (take n ds)))
+    (w : Whole start (record { written = written; sent = old }) (all_deliveries p (take n ds)).steps) where
+  -- the link failed
+  pub link_failed : HasKept start (record { written = written; sent = new }) may_leave (all_deliveries p (take m ds)) (Err (Played LinkFailed))
+  link_failed =
+      let so_far : Play = all_deliveries p (take n ds) in
+      link_end start (record { written = written; sent = new }) may_leave k so_far (all_deliveries p (take m ds)) h s (deliveries_on p n m ds within)
+      (nothing_sent start so_far written old new same w)
+
+  -- memory ran out for it
+  pub link_full : HasKept start (record { written = written; sent = new }) may_leave (all_deliveries p (take m ds)) (Err (Played OutOfMemory))
+  link_full =
+      let so_far : Play = all_deliveries p (take n ds) in
+      memory_end start (record { written = written; sent = new }) may_leave k so_far (all_deliveries p (take m ds)) h s (deliveries_on p n m ds within)
+      (nothing_sent start so_far written old new same w) OutOfMemory refl
 
 -- ---- a play begins
 

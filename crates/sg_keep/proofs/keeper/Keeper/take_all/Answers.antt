@@ -7,7 +7,7 @@ use Rattle.sg_play.proofs.Running.{nothing_sent}
 use Rattle.sg_keep.specs.Faults.{Counts}
 use Rattle.sg_keep.specs.KeptRuns.{HasKept}
 use Rattle.sg_keep.specs.Representation.{Progressed}
-use Rattle.sg_keep.proofs.Asking.{holds_all, link_end, memory_end}
+use Rattle.sg_keep.proofs.Asking.{holds_all, link_failed, link_full}
 use Rattle.sg_keep.proofs.AtMost.{kept_early, kept_taking, leaves_next, not_asked_at_most}
 use Rattle.sg_keep.proofs.Counting.{asked_then, counted_then, link_counted, memory_counted, none_counted}
 use Rattle.sg_keep.proofs.Ending.{end_on, to_same}
@@ -121,12 +121,9 @@ returns-in-Err-Failed-clause-faults g c = counted_then c.loop-taken.invariant.fa
 
 pub returns-in-Err-Failed-clause-progress : goal.returns-in-Err-Failed-clause-progress
 returns-in-Err-Failed-clause-progress g c = let within : c.loop-taken._taken ≤ c.args.most = omega arith in λ p start deliveries reported s w h.
-    let k = c.loop-taken._taken in
-    let now : Outside = record { written = g.O.Sink.written c.loop-taken.out; sent = g.L.Link.sent c.recv.new.self } in
-    let so_far : Play = all_deliveries p (take k deliveries) in
     let before = c.loop-taken.invariant.progress p start deliveries reported s w h in
-    link_end start now (g.D.Disk.may_leave c.loop-taken.disk) c.loop-taken.self so_far (all_deliveries p (take c.args.most deliveries)) c.loop-taken.invariant.holds before.0 (deliveries_on p k c.args.most deliveries within)
-    (nothing_sent start so_far (g.O.Sink.written c.loop-taken.out) (g.L.Link.sent c.loop-taken.link) (g.L.Link.sent c.recv.new.self) c.recv.ensures.kept_sent before.1)
+    link_failed start (g.O.Sink.written c.loop-taken.out) (g.L.Link.sent c.loop-taken.link) (g.L.Link.sent c.recv.new.self) c.recv.ensures.kept_sent
+    (g.D.Disk.may_leave c.loop-taken.disk) c.loop-taken.self p deliveries c.loop-taken._taken c.args.most within c.loop-taken.invariant.holds before.0 before.1
 
 pub returns-in-Err-Failed-clause-at_most : goal.returns-in-Err-Failed-clause-at_most
 returns-in-Err-Failed-clause-at_most g c = let within : c.loop-taken._taken ≤ c.args.most = omega arith in λ deliveries reported. (c.loop-taken._taken, within, c.in-Err-Failed.ensures.kept ∙ c.loop-taken.invariant.left deliveries reported)
@@ -136,12 +133,9 @@ returns-in-Err-OutOfMemory-clause-faults g c = counted_then c.loop-taken.invaria
 
 pub returns-in-Err-OutOfMemory-clause-progress : goal.returns-in-Err-OutOfMemory-clause-progress
 returns-in-Err-OutOfMemory-clause-progress g c = let within : c.loop-taken._taken ≤ c.args.most = omega arith in λ p start deliveries reported s w h.
-    let k = c.loop-taken._taken in
-    let now : Outside = record { written = g.O.Sink.written c.loop-taken.out; sent = g.L.Link.sent c.recv.new.self } in
-    let so_far : Play = all_deliveries p (take k deliveries) in
     let before = c.loop-taken.invariant.progress p start deliveries reported s w h in
-    memory_end start now (g.D.Disk.may_leave c.loop-taken.disk) c.loop-taken.self so_far (all_deliveries p (take c.args.most deliveries)) c.loop-taken.invariant.holds before.0 (deliveries_on p k c.args.most deliveries within)
-    (nothing_sent start so_far (g.O.Sink.written c.loop-taken.out) (g.L.Link.sent c.loop-taken.link) (g.L.Link.sent c.recv.new.self) c.recv.ensures.kept_sent before.1) _ refl
+    link_full start (g.O.Sink.written c.loop-taken.out) (g.L.Link.sent c.loop-taken.link) (g.L.Link.sent c.recv.new.self) c.recv.ensures.kept_sent
+    (g.D.Disk.may_leave c.loop-taken.disk) c.loop-taken.self p deliveries c.loop-taken._taken c.args.most within c.loop-taken.invariant.holds before.0 before.1
 
 pub returns-in-Err-OutOfMemory-clause-at_most : goal.returns-in-Err-OutOfMemory-clause-at_most
 returns-in-Err-OutOfMemory-clause-at_most g c = let within : c.loop-taken._taken ≤ c.args.most = omega arith in λ deliveries reported. (c.loop-taken._taken, within, c.in-Err-OutOfMemory.ensures.kept ∙ c.loop-taken.invariant.left deliveries reported)
