@@ -15,16 +15,16 @@ use Rattle.sg_setup.specs.Setup.{RunFiles, Principal, Adds, HasPrincipal, HasSet
 use Rattle.sg_ending.proofs.Files.{ends_later, holds, refuses}
 
 -- what is done with the bytes of a file that was read
-module _ {A E : Type 0} (r : Result A E) (known : KnownFiles) (most : ℕ) (file bytes read : List ℕ)
+module _ {A E : Type 0} (r : Result A E) (known : KnownFiles) (most : ℕ) (file : List ℕ) {bytes read : List ℕ}
     (same : read ≡ bytes) (has : Has known file (Some bytes)) (few : length bytes ≤ most) where
   -- the file holds what its bytes are
   pub found : (Such : A → List ℕ → Type 0) → IfOk r (λ a. Such a read) → IfOk r (λ a. Holds known most file (Such a))
   found Such h = IfOk-weaker r (λ a. Such a read) (λ a. Holds known most file (Such a)) (λ a s. holds known most file bytes read (Such a) same has few s) h
 
   -- if they are refused, it ends at the file
-  pub refused : (ending : E → Ending) (Refuses : List ℕ → Ending → Type 0) (f0 f1 : FileFaults) → f1 ≡ f0
+  pub refused : (ending : E → Ending) (Refuses : List ℕ → Ending → Type 0) → {f0 f1 : FileFaults} → f1 ≡ f0
       → IfErr r (λ e. Refuses read (ending e)) → IfErr r (λ e. EndsAt known f0 f1 most file Refuses (ending e))
-  refused ending Refuses f0 f1 none h =
+  refused ending Refuses {f0 = f0} {f1 = f1} none h =
       IfErr-weaker r (λ e. Refuses read (ending e)) (λ e. EndsAt known f0 f1 most file Refuses (ending e))
       (λ e s. refuses known f0 f1 most file bytes read Refuses (ending e) same has few none s) h
 

@@ -15,7 +15,5 @@ returns-in-Ok-clause-added g c =
 
 pub returns-in-Ok-clause-ends : goal.returns-in-Ok-clause-ends
 returns-in-Ok-clause-ends g c =
-    refused c.put_program.result (g.F.Files.held c.args.files.now) most_program_file c.args.file.now
-    c.in-Ok.bytes.items c.as_slice.result.now c.as_slice.ensures.value c.in-Ok.ensures.found c.in-Ok.ensures.few
-    ending_held (RefusesProgram c.args.programs.now) (g.F.Files.faults c.args.files.now) (g.F.Files.faults c.read_file.new.files)
-    c.in-Ok.ensures.no_fault c.put_program.ensures.refused
+    refused c.put_program.result (g.F.Files.held c.args.files.now) most_program_file c.args.file.now c.as_slice.ensures.value c.in-Ok.ensures.found
+    c.in-Ok.ensures.few ending_held (RefusesProgram c.args.programs.now) c.in-Ok.ensures.no_fault c.put_program.ensures.refused

@@ -11,13 +11,10 @@ returns-in-Err-clause-ends g c = inl c.in-Err.ensures.unread
 
 pub returns-in-Ok-clause-holds : goal.returns-in-Ok-clause-holds
 returns-in-Ok-clause-holds g c =
-    found c.both_of.result (g.F.Files.held c.args.files.now) most_script_file c.args.file.now
-    c.in-Ok.bytes.items c.as_slice.result.now c.as_slice.ensures.value c.in-Ok.ensures.found c.in-Ok.ensures.few
-    (λ k b. SpellsKeys b k.0) c.both_of.ensures.spelled
+    found c.both_of.result (g.F.Files.held c.args.files.now) most_script_file c.args.file.now c.as_slice.ensures.value c.in-Ok.ensures.found
+    c.in-Ok.ensures.few (λ k b. SpellsKeys b k.0) c.both_of.ensures.spelled
 
 pub returns-in-Ok-clause-ends : goal.returns-in-Ok-clause-ends
 returns-in-Ok-clause-ends g c =
-    refused c.both_of.result (g.F.Files.held c.args.files.now) most_script_file c.args.file.now
-    c.in-Ok.bytes.items c.as_slice.result.now c.as_slice.ensures.value c.in-Ok.ensures.found c.in-Ok.ensures.few
-    ending_held RefusesKeys (g.F.Files.faults c.args.files.now) (g.F.Files.faults c.read_file.new.files)
-    c.in-Ok.ensures.no_fault c.both_of.ensures.refused
+    refused c.both_of.result (g.F.Files.held c.args.files.now) most_script_file c.args.file.now c.as_slice.ensures.value c.in-Ok.ensures.found
+    c.in-Ok.ensures.few ending_held RefusesKeys c.in-Ok.ensures.no_fault c.both_of.ensures.refused

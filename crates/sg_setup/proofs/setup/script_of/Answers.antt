@@ -11,13 +11,10 @@ returns-in-Err-clause-ends g c = inl c.in-Err.ensures.unread
 
 pub returns-in-Ok-clause-holds : goal.returns-in-Ok-clause-holds
 returns-in-Ok-clause-holds g c =
-    found c.script_in.result (g.F.Files.held c.args.files.now) most_script_file c.args.file.now
-    c.in-Ok.bytes.items c.as_slice.result.now c.as_slice.ensures.value c.in-Ok.ensures.found c.in-Ok.ensures.few
-    (λ s b. SpellsScript c.args.programs.now b s) c.script_in.ensures.spelled
+    found c.script_in.result (g.F.Files.held c.args.files.now) most_script_file c.args.file.now c.as_slice.ensures.value c.in-Ok.ensures.found
+    c.in-Ok.ensures.few (λ s b. SpellsScript c.args.programs.now b s) c.script_in.ensures.spelled
 
 pub returns-in-Ok-clause-ends : goal.returns-in-Ok-clause-ends
 returns-in-Ok-clause-ends g c =
-    refused c.script_in.result (g.F.Files.held c.args.files.now) most_script_file c.args.file.now
-    c.in-Ok.bytes.items c.as_slice.result.now c.as_slice.ensures.value c.in-Ok.ensures.found c.in-Ok.ensures.few
-    ending_held (RefusesScript c.args.programs.now) (g.F.Files.faults c.args.files.now) (g.F.Files.faults c.read_file.new.files)
-    c.in-Ok.ensures.no_fault c.script_in.ensures.refused
+    refused c.script_in.result (g.F.Files.held c.args.files.now) most_script_file c.args.file.now c.as_slice.ensures.value c.in-Ok.ensures.found
+    c.in-Ok.ensures.few ending_held (RefusesScript c.args.programs.now) c.in-Ok.ensures.no_fault c.script_in.ensures.refused
