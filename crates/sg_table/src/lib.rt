@@ -8,15 +8,18 @@
 //! - `$` and a name that a line `let NAME WORD` above gave to bytes, the last of these if there are several.
 //!
 //! A crate of tests says by [`Calls`] what its library answers, and [`hold`] compares. If a line makes several calls on one value, each a word, then
-//! this value is a [`Target`], and [`answers`] has what it answers to all of them. So a new case is a new line, which costs no proof.
+//! this value is a [`Target`], and [`answers`] has what it answers to all of them. [`Args`] reads arguments. So a new case is a new line, which costs no
+//! proof.
 //!
 //! What a line means is shown by tests, some of them with lines that are wrong; the clauses here say what words are.
 #![tactic(auto)]
 
+mod args;
 mod calls;
 mod lines;
 mod words;
 
+pub use args::Args;
 pub use calls::{Calls, Target, answers};
 pub use lines::hold;
 pub use words::{byte, bytes, fixed, name, name_or_none, number, parts, text, yes};

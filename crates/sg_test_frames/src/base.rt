@@ -3,27 +3,33 @@ use sg_base::{
     ByteIn, ByteOut, Chars, CharsFault, Name, Opening, OutOfMemory, Role, RoleSet, Seq, Short,
     Value, Var, VarSet, read_hex, read_number,
 };
-use sg_table::{Calls, Target, answers, byte, bytes, fixed, hold, number, text, yes};
+use sg_table::{Args, Calls, Target, answers, bytes, hold, number, text, yes};
 use std::alloc::Global;
 
 struct Base;
 
 impl Calls for Base {
-    fn answer(&self, alloc: Global, call: &str, args: &[Vec<u8>]) -> Option<Vec<u8>> {
-        match args {
-            [word, fields @ ..] if call == "in" => {
-                let fields_of = ByteIn::new(word);
-                answers(alloc, &mut Fields { bytes: fields_of }, fields)
-            }
-            [a, b, c, d] => written(alloc, byte(a)?, fixed(b)?, fixed(c)?, d),
-            [one, other, count] => truncated(alloc, byte(one)?, byte(other)?, number(count)?),
-            [members, asked] if call == "roles" => has_role(alloc, members, byte(asked)?),
-            [members, asked] if call == "vars" => has_var(alloc, members, byte(asked)?),
-            [word, most] => read(alloc, word, u64::from_be_bytes(fixed(most)?)),
-            [word] => of_word(alloc, call, word),
-            _ => None,
+    fn answer(&self, alloc: Global, call: &str, words: &[Vec<u8>]) -> Option<Vec<u8>> {
+        if call == "in" {
+            return read_fields(alloc, words);
         }
+        let mut args = Args::new(words);
+        let answer = match call {
+            "out" => written(alloc, args.byte(), args.fixed(), args.fixed(), args.word()),
+            "list" => truncated(alloc, args.byte(), args.byte(), args.number()),
+            "roles" => has_role(alloc, args.word(), args.byte()),
+            "vars" => has_var(alloc, args.word(), args.byte()),
+            "number" => read(alloc, args.word(), u64::from_be_bytes(args.fixed())),
+            _ => of_word(alloc, call, args.word()),
+        };
+        args.gives(answer)
     }
+}
+
+fn read_fields(alloc: Global, words: &[Vec<u8>]) -> Option<Vec<u8>> {
+    let (word, fields) = words.split_first()?;
+    let bytes = ByteIn::new(word);
+    answers(alloc, &mut Fields { bytes }, fields)
 }
 
 fn of_word(alloc: Global, call: &str, word: &[u8]) -> Option<Vec<u8>> {

@@ -1,26 +1,27 @@
 //! Frames that are changed, and confounders.
 use sg_base::{Seq, Var};
 use sg_craft::{confounder, first_bytes, flipped, frame_at};
-use sg_table::{Calls, byte, bytes, fixed, hold, number};
+use sg_table::{Args, Calls, bytes, hold};
 use std::alloc::Global;
 
 struct Crafts;
 
 impl Calls for Crafts {
-    fn answer(&self, alloc: Global, call: &str, args: &[Vec<u8>]) -> Option<Vec<u8>> {
-        match args {
-            [frame, at] if call == "frame_at" => recorded(alloc, frame, number(at)?),
-            [text, at] if call == "flipped" => flipped(alloc, text, number(at)?).ok(),
-            [text, count] if call == "first_bytes" => {
-                bytes(alloc, first_bytes(text, number(count)?))
-            }
-            [step, var] => {
-                let step = u64::from_be_bytes(fixed(step)?);
-                bytes(alloc, &confounder(step, Var(byte(var)?)))
-            }
-            _ => None,
-        }
+    fn answer(&self, alloc: Global, call: &str, words: &[Vec<u8>]) -> Option<Vec<u8>> {
+        let mut args = Args::new(words);
+        let answer = match call {
+            "frame_at" => recorded(alloc, args.word(), args.number()),
+            "flipped" => flipped(alloc, args.word(), args.number()).ok(),
+            "first_bytes" => bytes(alloc, first_bytes(args.word(), args.number())),
+            _ => confounded(alloc, &mut args),
+        };
+        args.gives(answer)
     }
+}
+
+fn confounded(alloc: Global, args: &mut Args<'_>) -> Option<Vec<u8>> {
+    let step = u64::from_be_bytes(args.fixed());
+    bytes(alloc, &confounder(step, Var(args.byte())))
 }
 
 fn recorded(alloc: Global, frame: &[u8], at: u32) -> Option<Vec<u8>> {

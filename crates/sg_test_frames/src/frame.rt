@@ -1,24 +1,27 @@
 //! Bytes that are frames, and others.
 use sg_craft::{first_bytes, flipped};
 use sg_frame::{decode, encode};
-use sg_table::{Calls, hold, number, text};
+use sg_table::{Args, Calls, hold, text};
 use std::alloc::Global;
 
 struct Frames;
 
 impl Calls for Frames {
-    fn answer(&self, alloc: Global, call: &str, args: &[Vec<u8>]) -> Option<Vec<u8>> {
-        match args {
-            [whole] => spelled(alloc, whole),
-            [whole, count] if call == "cut" => spelled(alloc, first_bytes(whole, number(count)?)),
-            [whole, at] => spelled(alloc, &flipped(alloc, whole, number(at)?).ok()?),
-            [whole, first, end] => {
-                let count = frames_among(alloc, whole, number(first)?, number(end)?)?;
-                text(alloc, &count)
-            }
-            _ => None,
-        }
+    fn answer(&self, alloc: Global, call: &str, words: &[Vec<u8>]) -> Option<Vec<u8>> {
+        let mut args = Args::new(words);
+        let whole = args.word();
+        let answer = match call {
+            "frame" => spelled(alloc, whole),
+            "cut" => spelled(alloc, first_bytes(whole, args.number())),
+            "flipped" => spelled_flipped(alloc, whole, args.number()),
+            _ => frames_among(alloc, whole, args.number(), args.number()),
+        };
+        args.gives(answer)
     }
+}
+
+fn spelled_flipped(alloc: Global, whole: &[u8], at: u32) -> Option<Vec<u8>> {
+    spelled(alloc, &flipped(alloc, whole, at).ok()?)
 }
 
 // How many bytes spell the frame of these bytes, if they are the same ones; or why these are no frame.
@@ -36,14 +39,14 @@ fn spelled(alloc: Global, whole: &[u8]) -> Option<Vec<u8>> {
 }
 
 // At how many of these indices the bytes are a frame with the lowest bit changed of the byte there.
-fn frames_among(alloc: Global, whole: &[u8], first: u32, end: u32) -> Option<u32> {
+fn frames_among(alloc: Global, whole: &[u8], first: u32, end: u32) -> Option<Vec<u8>> {
     let mut count = 0u32;
     for index in first..end {
         if decode(alloc, &flipped(alloc, whole, index).ok()?).is_ok() {
             count = count.wrapping_add(1);
         }
     }
-    Some(count)
+    text(alloc, &count)
 }
 
 #[test]

@@ -1,8 +1,8 @@
 //! Key files, and keyrings.
-use sg_base::{Addr, ByteOut, OutOfMemory};
+use sg_base::{Addr, ByteOut, Name, OutOfMemory};
 use sg_crypt::Cast;
 use sg_keys::{KeyFault, Keyring};
-use sg_table::{Calls, Target, answers, bytes, hold, name, name_or_none, number, text};
+use sg_table::{Args, Calls, Target, answers, bytes, hold, name, name_or_none, text};
 use std::alloc::Global;
 
 const ADDR: Addr = Addr {
@@ -13,38 +13,43 @@ const ADDR: Addr = Addr {
 struct Keys;
 
 impl Calls for Keys {
-    fn answer(&self, alloc: Global, call: &str, args: &[Vec<u8>]) -> Option<Vec<u8>> {
-        match call {
-            "keys" => read(alloc, args),
-            "many" => many(alloc, args),
-            "added" => {
-                let (me, peers) = args.split_first()?;
-                let keys = Keyring::new(alloc, name(me)?, ADDR);
-                answers(alloc, &mut Peers { keys }, peers)
-            }
-            _ => {
-                let (text, asked) = args.split_first()?;
-                let keys = Keyring::from_toml(alloc, text).ok()?;
-                of_keyring(alloc, &keys, call, asked)
-            }
+    fn answer(&self, alloc: Global, call: &str, words: &[Vec<u8>]) -> Option<Vec<u8>> {
+        if call == "added" {
+            return added(alloc, words);
         }
+        let mut args = Args::new(words);
+        let answer = match call {
+            "keys" => is_read(alloc, Keyring::from_toml(alloc, args.word())),
+            "many" => many(alloc, &mut args),
+            _ => said(alloc, call, &mut args),
+        };
+        args.gives(answer)
     }
 }
 
-fn read(alloc: Global, args: &[Vec<u8>]) -> Option<Vec<u8>> {
-    let [text] = args else {
-        return None;
-    };
-    is_read(alloc, Keyring::from_toml(alloc, text))
+fn added(alloc: Global, words: &[Vec<u8>]) -> Option<Vec<u8>> {
+    let (me, peers) = words.split_first()?;
+    let keys = Keyring::new(alloc, name(me)?, ADDR);
+    answers(alloc, &mut Peers { keys }, peers)
 }
 
-fn many(alloc: Global, args: &[Vec<u8>]) -> Option<Vec<u8>> {
-    let [head, count, peer, last] = args else {
-        return None;
-    };
+fn many(alloc: Global, args: &mut Args<'_>) -> Option<Vec<u8>> {
     let mut text = ByteOut::new(alloc);
-    put_many(&mut text, head, number(count)?, peer, last).ok()?;
+    put_many(
+        &mut text,
+        args.word(),
+        args.number(),
+        args.word(),
+        args.word(),
+    )
+    .ok()?;
     is_read(alloc, Keyring::from_toml(alloc, &text.done()))
+}
+
+// What a key file says.
+fn said(alloc: Global, call: &str, args: &mut Args<'_>) -> Option<Vec<u8>> {
+    let keys = Keyring::from_toml(alloc, args.word()).ok()?;
+    of_keyring(alloc, &keys, call, args)
 }
 
 // `read`, or why the bytes are no key file.
@@ -71,22 +76,28 @@ fn put_many(
     out.bytes(last)
 }
 
-fn of_keyring(alloc: Global, keys: &Keyring, call: &str, asked: &[Vec<u8>]) -> Option<Vec<u8>> {
-    match asked {
-        [] if call == "me" => bytes(alloc, keys.me().as_bytes()),
-        [] => spelled(alloc, Some(keys.listen())),
-        [peer] if call == "addr" => spelled(alloc, keys.addr(&name(peer)?)),
-        [peer] => match keys.key(&name(peer)?) {
-            Some(key) => bytes(alloc, key),
-            None => bytes(alloc, b"none"),
-        },
-        [one, two, three] => {
-            let principals = [name(one)?, name(two)?, name(three)?];
-            let cast = Cast::new(1, [0; 32], [0; 16], &principals)?;
-            name_or_none(alloc, keys.covers(&cast))
-        }
-        _ => None,
+fn of_keyring(alloc: Global, keys: &Keyring, call: &str, args: &mut Args<'_>) -> Option<Vec<u8>> {
+    match call {
+        "me" => bytes(alloc, keys.me().as_bytes()),
+        "listen" => spelled(alloc, Some(keys.listen())),
+        "addr" => spelled(alloc, keys.addr(&name(args.word())?)),
+        "key" => key_or_none(alloc, keys, &name(args.word())?),
+        _ => covered(alloc, keys, args),
     }
+}
+
+fn key_or_none(alloc: Global, keys: &Keyring, peer: &Name) -> Option<Vec<u8>> {
+    match keys.key(peer) {
+        Some(key) => bytes(alloc, key),
+        None => bytes(alloc, b"none"),
+    }
+}
+
+// The first of three principals that has no key.
+fn covered(alloc: Global, keys: &Keyring, args: &mut Args<'_>) -> Option<Vec<u8>> {
+    let principals = [name(args.word())?, name(args.word())?, name(args.word())?];
+    let cast = Cast::new(1, [0; 32], [0; 16], &principals)?;
+    name_or_none(alloc, keys.covers(&cast))
 }
 
 fn spelled(alloc: Global, addr: Option<Addr>) -> Option<Vec<u8>> {

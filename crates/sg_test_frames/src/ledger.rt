@@ -1,7 +1,7 @@
 //! Ledgers: what a crash leaves, slots, and a file of the system.
 use sg_base::{ByteOut, Failed, OutOfMemory, Role, Sid};
 use sg_ledger::{AddJoinFault, Disk, FileDisk, Ledger, MemDisk, OpenFault};
-use sg_table::{Calls, Target, answers, fixed, hold, number, text};
+use sg_table::{Args, Calls, Target, answers, fixed, hold, number, text};
 use std::alloc::Global;
 use std::fs;
 use std::test::Fail;
@@ -11,19 +11,31 @@ const JOIN: (Sid, Role) = (Sid([7; 32]), Role(1));
 struct Ledgers;
 
 impl Calls for Ledgers {
-    fn answer(&self, alloc: Global, call: &str, args: &[Vec<u8>]) -> Option<Vec<u8>> {
-        match args {
-            [slots] => count_of(alloc, Ledger::open(alloc, &mut disk_with(alloc, slots)?)),
-            [calls, picks] if call == "crash" => crashed(alloc, number(calls)?, picks),
-            [count, joins @ ..] => {
-                let mut slots = ByteOut::new(alloc);
-                put_many(&mut slots, number(count)?).ok()?;
-                let disk = disk_with(alloc, &slots.done())?;
-                answers(alloc, &mut Joins { disk }, joins)
-            }
-            _ => None,
+    fn answer(&self, alloc: Global, call: &str, words: &[Vec<u8>]) -> Option<Vec<u8>> {
+        if call == "adds" {
+            return adds(alloc, words);
         }
+        let mut args = Args::new(words);
+        let answer = match call {
+            "crash" => crashed(alloc, args.number(), args.word()),
+            _ => opened(alloc, args.word()),
+        };
+        args.gives(answer)
     }
+}
+
+// Opens a ledger that has these slots.
+fn opened(alloc: Global, slots: &[u8]) -> Option<Vec<u8>> {
+    count_of(alloc, Ledger::open(alloc, &mut disk_with(alloc, slots)?))
+}
+
+// Adds joins to so many.
+fn adds(alloc: Global, words: &[Vec<u8>]) -> Option<Vec<u8>> {
+    let (count, joins) = words.split_first()?;
+    let mut slots = ByteOut::new(alloc);
+    put_many(&mut slots, number(count)?).ok()?;
+    let disk = disk_with(alloc, &slots.done())?;
+    answers(alloc, &mut Joins { disk }, joins)
 }
 
 // Opens a ledger and adds the join of a session.

@@ -47,9 +47,16 @@ impl Target for Noted {
 /// Takes a note: `made` or `found`, two principals and a text, or `hashed` and a text.
 pub fn take(alloc: Global, notes: &mut Notes, word: &[u8]) -> Option<()> {
     match parts(alloc, word)?.as_slice() {
-        ["made", one, two, text] => notes.note_made(note(alloc, one, two, text)?).ok(),
-        ["found", one, two, text] => notes.note_found(note(alloc, one, two, text)?).ok(),
+        [kind, one, two, text] => add(notes, kind, note(alloc, one, two, text)?),
         ["hashed", text] => notes.note_hashed(hashed(alloc, text.as_bytes())?).ok(),
+        _ => None,
+    }
+}
+
+fn add(notes: &mut Notes, kind: &str, note: Note) -> Option<()> {
+    match kind {
+        "made" => notes.note_made(note).ok(),
+        "found" => notes.note_found(note).ok(),
         _ => None,
     }
 }
